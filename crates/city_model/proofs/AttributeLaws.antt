@@ -2,7 +2,7 @@
 use Rattle.city_model.proofs.Prelude.{◌≡◌, ℕ, List, [], ◌∷◌, true, false, Option, None, Some, Ordering, Less}
 use Rattle.city_model.proofs.Prelude.{Equal, refl, sym, ap, subst, ◌∙◌, arith, slice_cmp}
 use Rattle.city_model.proofs.Prelude.{codes, no_members, member, same_id}
-use Rattle.city_model.proofs.Prelude.{members_integral, nat_list_cmp_total, exact_bytes, false≢true}
+use Rattle.city_model.proofs.Prelude.{members_integral, exact_bytes, false≢true}
 use Rattle.city_model.proofs.Prelude.{nat_cmp, if◌then◌else◌}
 use Rattle.std.proofs.Common.{Greater}
 use Rattle.serde_json.specs.Data.{Data, object, Members, put}
@@ -14,30 +14,19 @@ use Rattle.city_model.specs.Members.{without, without_each, AllAbove, AreOrdered
 use Rattle.city_model.specs.Attributes.{attributes, put_each, attributes_in, members_or_none, with_set}
 use Rattle.city_model.specs.Attributes.{with_attributes, with_unset, are_among}
 use Rattle.city_model.proofs.Ids.{same_id_of_equal}
+use Rattle.city_model.proofs.MemberLists.{above_below, put-above, without-above}
 use Rattle.city_model.proofs.MemberLaws.{members_integral-without, get_member-without}
 
 -- ---- a member put where another of its name was taken out
 
-above_below : (k l : List ℕ) (ms : Members) → slice_cmp nat_cmp k l ≡ Less → AllAbove l ms → AllAbove k ms
-above_below k l no_members h all = tt
-above_below k l (member i e ms) h all = (nat_list_cmp_total.trans k l i h all.0, above_below k l ms h all.1)
-
-without_below : (k : List ℕ) (ms : Members) → AllAbove k ms → without k ms ≡ ms
-without_below k no_members h = refl
-without_below k (member l e ms) h = rw (h.0, without_below k ms h.1)
-
-put_below : (k : List ℕ) (d : Data) (ms : Members) → AllAbove k ms → put k d ms ≡ member k d ms
-put_below k d no_members h = refl
-put_below k d (member l e ms) h = rw h.0
-
 put_without_at : (o : Ordering) (k l : List ℕ) (d e : Data) (ms : Members) → slice_cmp nat_cmp k l ≡ o
     → AreOrdered (member l e ms) → put k d (without k ms) ≡ put k d ms
     → put k d (without k (member l e ms)) ≡ put k d (member l e ms)
-put_without_at Less k l d e ms is h later = rw (is, without_below k ms (above_below k l ms is h.0), is)
+put_without_at Less k l d e ms is h later = rw (is, without-above k ms (above_below k l ms is h.0), is)
 put_without_at Equal k l d e ms is h later =
     let same : k ≡ l = exact_bytes k l is in
     let above : AllAbove k ms = subst (λ i. AllAbove i ms) (sym same) h.0 in
-    rw (is, without_below k ms above, put_below k d ms above, same)
+    rw (is, without-above k ms above, put-above k d ms above, same)
 put_without_at Greater k l d e ms is h later = rw (is, is, later)
 
 pub put-without : (k : List ℕ) (d : Data) (ms : Members) → AreOrdered ms → put k d (without k ms) ≡ put k d ms

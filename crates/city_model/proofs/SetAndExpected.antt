@@ -1,16 +1,17 @@
 -- Attributes that were set are met by an expect, and those that were taken out aren't.
 use Rattle.city_model.proofs.Prelude.{arith, ◌≡◌, ℕ, List, [], ◌∷◌, true, false, None, Some, refl, ap, ◌∙◌}
-use Rattle.city_model.proofs.Prelude.{Less, Equal, slice_cmp, nat_cmp, nat_list_cmp_total, has_id, same_id}
+use Rattle.city_model.proofs.Prelude.{nat_list_cmp_total, has_id, same_id}
 use Rattle.city_model.proofs.Prelude.{member, no_members, members_integral}
 use Rattle.serde_json.specs.Data.{Data, object, Members, put}
 use Rattle.serde_json.specs.Find.{get_member}
-use Rattle.std.proofs.Common.{◌&&◌, Ordering, Greater}
+use Rattle.std.proofs.Common.{◌&&◌}
 use Rattle.std.proofs.lemmas.Cmp.{tied_itself}
 use Rattle.city_model.specs.Attributes.{attributes, attributes_in, put_each, with_set, with_attributes, with_unset}
 use Rattle.city_model.specs.Attributes.{members_or_none, members_of, is_value, are_among, has_attributes}
 use Rattle.city_model.specs.Members.{without, without_each, AllAbove, AreOrdered}
 use Rattle.city_model.proofs.Ids.{same_id_true, same_id_back, below_is_apart}
 use Rattle.city_model.proofs.IdLists.{bool_cases}
+use Rattle.city_model.proofs.KeptIn.{put_there}
 use Rattle.city_model.proofs.MemberLaws.{get_member-without, get_member-without_same}
 use Rattle.city_model.proofs.SameValues.{value_same}
 
@@ -25,31 +26,10 @@ pub get_member-put : (k l : List ℕ) (d : Data) (ms : Members) → same_id k l 
 get_member-put k l d no_members apart = grind arith
 get_member-put k l d (member j e ms) apart = grind (arith, same_id_true l j, get_member-put k l d ms)
 
-below_absent : (k : List ℕ) (ms : Members) → AllAbove k ms → get_member k ms ≡ None
-below_absent k no_members h = refl
-below_absent k (member l d ms) h = grind (arith, below_absent k ms)
-
-below_all : (k l : List ℕ) (ms : Members) → slice_cmp nat_cmp k l ≡ Less → AllAbove l ms → AllAbove k ms
-below_all k l no_members less h = tt
-below_all k l (member j e ms) less h = (nat_list_cmp_total.trans k l j less h.0, below_all k l ms less h.1)
-
-by_order : {P : Type 0} (o : Ordering) → (o ≡ Less → P) → (o ≡ Equal → P) → (o ≡ Greater → P) → P
-by_order Less f g h = f refl
-by_order Equal f g h = g refl
-by_order Greater f g h = h refl
-
--- put where it is already, it changes nothing
-pub put-there : (k : List ℕ) (d : Data) (ms : Members) → AreOrdered ms → get_member k ms ≡ Some d → put k d ms ≡ ms
-put-there k d no_members o is = absurd (grind arith)
-put-there k d (member l e ms) o is = by_order (slice_cmp nat_cmp k l)
-    (λ less. absurd (grind (arith, less, below_absent k ms (below_all k l ms less o.0))))
-    (λ same. grind (arith, same))
-    (λ above. grind (arith, above, put-there k d ms o.1))
-
 -- a set of nothing changes no object that has attributes
 pub set_of_nothing : (extra found : Members) → AreOrdered extra → get_member attributes extra ≡ Some (object found)
     → with_set extra no_members found ≡ extra
-set_of_nothing extra found o is = put-there attributes (object found) extra o is
+set_of_nothing extra found o is = put_there attributes (object found) extra o is
 
 -- ---- members that are put one after another
 

@@ -1,7 +1,10 @@
 use Rattle.city_model.proofs.Prelude.{◌∙◌, ap, arith, drop, suc, take}
 use Rattle.city_model.specs.inside.MemberLists.{all_joined, joined}
-use Rattle.city_model.proofs.MemberLists.{inserted_before, inserted_behind, joined-assoc}
+use Rattle.city_model.proofs.ListPlaces.{inserted_before, inserted_behind}
+use Rattle.city_model.proofs.MemberLists.{joined-assoc}
 use Rattle.city_model.proofs.Prelude.{sym}
+use Rattle.std.proofs.Common.{add-one}
+use Rattle.std.specs.List.{insert}
 use Rattle.city_model.proofs.kept.shared_members.cut_long.Goals as goal
 
 pub returns : goal.returns
@@ -10,11 +13,12 @@ returns c =
     let at = c.args.at in
     let list = c.split_off.new.self in
     let others = c.in_ok-others-2.others in
+    let items = c.in_ok-insert.ensures.items ∙ ap (λ n. insert lists n others) (add-one at) in
     record {
       within = omega (arith, c.requires, c.in_ok-insert.ensures.len);
-      before = ap (take at) c.in_ok-insert.ensures.items ∙ inserted_before lists at others c.requires;
+      before = ap (take at) items ∙ inserted_before lists at others c.requires;
       behind =
-          ap (λ ls. joined list (all_joined (drop (suc at) ls))) c.in_ok-insert.ensures.items
+          ap (λ ls. joined list (all_joined (drop (suc at) ls))) items
           ∙ ap (λ ls. joined list (all_joined ls)) (inserted_behind lists at others c.requires)
           ∙ ap (λ ms. joined list (joined ms (all_joined (drop (suc at) lists)))) c.in_ok-others-2.ensures.ok
           ∙ sym (joined-assoc list c.in_ok-others.others (all_joined (drop (suc at) lists)))

@@ -1,5 +1,5 @@
 use Rattle.city_model.proofs.Prelude.{arith}
-use Rattle.city_model.proofs.MemberLists.{all_joined-set}
+use Rattle.city_model.proofs.ListPlaces.{all_joined-set}
 use Rattle.city_model.proofs.kept.shared_members.replaced.Goals as goal
 
 pub returns : goal.returns

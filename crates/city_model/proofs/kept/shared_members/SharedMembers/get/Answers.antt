@@ -1,7 +1,7 @@
 use Rattle.city_model.proofs.Prelude.{◌∙◌, ap, arc_value, subst}
 use Rattle.serde_json.specs.Find.{get_member}
 use Rattle.city_model.specs.inside.MemberLists.{IsPlace}
-use Rattle.city_model.proofs.MemberLists.{get_place}
+use Rattle.city_model.proofs.ListPlaces.{get_place}
 use Rattle.city_model.proofs.kept.shared_members.SharedMembers.get.Goals as goal
 
 pub returns-in-Some : goal.returns-in-Some

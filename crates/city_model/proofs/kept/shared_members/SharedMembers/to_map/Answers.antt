@@ -2,7 +2,8 @@ use Rattle.city_model.proofs.Prelude.{◌≡◌, ◌∙◌, ◌+◌, [], ap, ari
 use Rattle.std.proofs.lemmas.List.{drop_all}
 use Rattle.city_model.specs.Members.{AreOrdered}
 use Rattle.city_model.specs.inside.MemberLists.{all_joined, joined}
-use Rattle.city_model.proofs.MemberLists.{joined-none, next_list, ordered_left}
+use Rattle.city_model.proofs.ListPlaces.{next_list}
+use Rattle.city_model.proofs.MemberLists.{joined-none, ordered_left}
 use Rattle.city_model.proofs.kept.shared_members.SharedMembers.to_map.Goals as goal
 
 pub copy_into-requires : goal.copy_into-requires
