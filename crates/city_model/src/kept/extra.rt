@@ -2,6 +2,8 @@
 ghost use Rattle.std.specs.Prelude.{◌≡◌, true, false, IfOk, IfErr, IsTrue, is_ok};
 
 use crate::OutOfMemory;
+use crate::integral::have_integral;
+use crate::kept::room::Room;
 use crate::kept::site::Site;
 use crate::members::{copy_of, members_count};
 use serde_json::{Map, Value};
@@ -15,6 +17,8 @@ use std::marker::{Model, PhantomData};
 #[derive(Drop)]
 pub struct Extra<P: Site> {
     map: Map<String, Value>,
+    /// Whether copies are to share the members (`Room`).
+    is_large: bool,
     site: PhantomData<P>,
 }
 
@@ -50,9 +54,11 @@ impl<P: Site> Extra<P> {
     {
         // (called for its contract: the names ascend)
         let _count = members_count(&map);
-        if P::admits(&map) {
+        let mut room = Room::new();
+        if P::admits(&map, &mut room) {
             Ok(Extra {
                 map,
+                is_large: room.is_used_up(),
                 site: PhantomData,
             })
         } else {
@@ -67,8 +73,12 @@ impl<P: Site> Extra<P> {
     {
         // (called for its contract: the names ascend)
         let _count = members_count(&map);
+        // (called for the room that the members take)
+        let mut room = Room::new();
+        let _whole = have_integral(&map, &mut room);
         Extra {
             map,
+            is_large: room.is_used_up(),
             site: PhantomData,
         }
     }
@@ -80,6 +90,11 @@ impl<P: Site> Extra<P> {
         ensures ordered { AreOrdered self.now }
     {
         &self.map
+    }
+
+    /// Whether copies are to share the members. Doesn't allocate.
+    pub(crate) fn is_large(&self) -> bool {
+        self.is_large
     }
 
     /// A copy of the members as a map.
@@ -106,6 +121,7 @@ impl<P: Site> Extra<P> {
     {
         Ok(Extra {
             map: self.to_map()?,
+            is_large: self.is_large,
             site: PhantomData,
         })
     }

@@ -15,7 +15,6 @@ use crate::copied::Copied;
 use crate::kept::extra::Extra;
 use crate::kept::shared_members::SharedMembers;
 use crate::kept::site::AtObject;
-use crate::kept::size::room_after;
 use crate::members::{copy_of, member, put, take};
 use crate::same_value::same_value;
 use crate::text::Text;
@@ -23,9 +22,6 @@ use serde_json::{Map, Value};
 use std::alloc::Global;
 use std::marker::Model;
 use std::sync::Arc;
-
-/// Members that take so much room are shared (`room_after`): what is smaller is copied sooner.
-const LARGE: usize = 256;
 
 #[derive(Drop)]
 pub(crate) enum Storage {
@@ -97,7 +93,7 @@ impl SharedExtra {
     pub fn new(alloc: Global, extra: Extra<AtObject>) -> Result<Self, OutOfMemory>
         ensures { IfOk result (λ shared. shared ≡ extra) }
     {
-        if room_after(extra.map(), LARGE) != 0 {
+        if !extra.is_large() {
             return Ok(SharedExtra::unshared(extra));
         }
         let storage = many_of(alloc, extra.into_map())?;

@@ -7,6 +7,6 @@ abbrev pub invariant-are_integral-loop-item : goal.invariant-are_integral-loop-i
 invariant-are_integral-loop-item l =
     items_integral (items_view l.items.items) ≡ items_integral (items_view (drop l.item-index l.items.items))
 
-abbrev pub invariant-have_integral-loop-member : goal.invariant-have_integral-loop-member
-invariant-have_integral-loop-member l =
-    members_integral (members_view l.members.entries) ≡ members_integral (members_view l.member-iterator)
+abbrev pub invariant-have_integral-loop-name : goal.invariant-have_integral-loop-name
+invariant-have_integral-loop-name l =
+    members_integral (members_view l.members.entries) ≡ members_integral (members_view l.name-iterator)
