@@ -2,7 +2,7 @@
 
 pub mod extra;
 pub mod member_list;
-pub mod room;
 pub mod shared_extra;
 pub mod shared_members;
 pub mod site;
+pub mod size;

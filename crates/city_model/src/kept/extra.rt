@@ -3,8 +3,8 @@ ghost use Rattle.std.specs.Prelude.{◌≡◌, true, false, IfOk, IfErr, IsTrue,
 
 use crate::OutOfMemory;
 use crate::integral::have_integral;
-use crate::kept::room::Room;
 use crate::kept::site::Site;
+use crate::kept::size::Size;
 use crate::members::{copy_of, members_count};
 use serde_json::{Map, Value};
 use std::marker::{Model, PhantomData};
@@ -17,7 +17,7 @@ use std::marker::{Model, PhantomData};
 #[derive(Drop)]
 pub struct Extra<P: Site> {
     map: Map<String, Value>,
-    /// Whether copies are to share the members (`Room`).
+    /// Whether copies are to share the members (`Size`).
     is_large: bool,
     site: PhantomData<P>,
 }
@@ -54,11 +54,11 @@ impl<P: Site> Extra<P> {
     {
         // (called for its contract: the names ascend)
         let _count = members_count(&map);
-        let mut room = Room::new();
-        if P::admits(&map, &mut room) {
+        let mut size = Size::new();
+        if P::admits(&map, &mut size) {
             Ok(Extra {
                 map,
-                is_large: room.is_used_up(),
+                is_large: size.is_large(),
                 site: PhantomData,
             })
         } else {
@@ -73,12 +73,12 @@ impl<P: Site> Extra<P> {
     {
         // (called for its contract: the names ascend)
         let _count = members_count(&map);
-        // (called for the room that the members take)
-        let mut room = Room::new();
-        let _whole = have_integral(&map, &mut room);
+        // (called for the size)
+        let mut size = Size::new();
+        let _whole = have_integral(&map, &mut size);
         Extra {
             map,
-            is_large: room.is_used_up(),
+            is_large: size.is_large(),
             site: PhantomData,
         }
     }

@@ -5,7 +5,7 @@ ghost use Rattle.serde_json.specs.View.{view, members_view};
 ghost use Rattle.city_model.specs.Kept.{lacks, kept_at_top, kept_at_transform, kept_at_object, kept_at_geometry, kept_at_attributes, is_empty_object_or_absent, has_location, is_located, any_located, any_located_in, has_no_member};
 
 use crate::integral::have_integral;
-use crate::kept::room::Room;
+use crate::kept::size::Size;
 use crate::members::member;
 use serde_json::{Map, Value};
 
@@ -13,8 +13,8 @@ use serde_json::{Map, Value};
 pub trait Site {
     ghost keeps: { Members → Bool };
 
-    /// Whether these members may be kept at the site. If so, they take their room.
-    fn admits(members: &Map<String, Value>, room: &mut Room) -> bool
+    /// Whether these members may be kept at the site. If so, their size is counted.
+    fn admits(members: &Map<String, Value>, size: &mut Size) -> bool
         ensures { result ≡ keeps (members_view members.now.entries) };
 }
 
@@ -51,16 +51,16 @@ fn lacks(members: &Map<String, Value>, name: &str) -> bool
 impl Site for AtTransform {
     ghost keeps = { kept_at_transform };
 
-    fn admits(members: &Map<String, Value>, room: &mut Room) -> bool {
-        have_integral(members, room) && lacks(members, "scale") && lacks(members, "translate")
+    fn admits(members: &Map<String, Value>, size: &mut Size) -> bool {
+        have_integral(members, size) && lacks(members, "scale") && lacks(members, "translate")
     }
 }
 
 impl Site for AtGeometry {
     ghost keeps = { kept_at_geometry };
 
-    fn admits(members: &Map<String, Value>, room: &mut Room) -> bool {
-        have_integral(members, room)
+    fn admits(members: &Map<String, Value>, size: &mut Size) -> bool {
+        have_integral(members, size)
             && lacks(members, "type")
             && lacks(members, "lod")
             && lacks(members, "boundaries")
@@ -70,16 +70,16 @@ impl Site for AtGeometry {
 impl Site for AtAttributes {
     ghost keeps = { kept_at_attributes };
 
-    fn admits(members: &Map<String, Value>, room: &mut Room) -> bool {
-        have_integral(members, room)
+    fn admits(members: &Map<String, Value>, size: &mut Size) -> bool {
+        have_integral(members, size)
     }
 }
 
 impl Site for AtObject {
     ghost keeps = { kept_at_object };
 
-    fn admits(members: &Map<String, Value>, room: &mut Room) -> bool {
-        have_integral(members, room)
+    fn admits(members: &Map<String, Value>, size: &mut Size) -> bool {
+        have_integral(members, size)
             && lacks(members, "type")
             && lacks(members, "geometry")
             && lacks(members, "parents")
@@ -91,8 +91,8 @@ impl Site for AtObject {
 impl Site for AtTop {
     ghost keeps = { kept_at_top };
 
-    fn admits(members: &Map<String, Value>, room: &mut Room) -> bool {
-        have_integral(members, room)
+    fn admits(members: &Map<String, Value>, size: &mut Size) -> bool {
+        have_integral(members, size)
             && lacks(members, "CityObjects")
             && lacks(members, "transform")
             && lacks(members, "type")
