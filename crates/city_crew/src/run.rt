@@ -26,8 +26,8 @@ use crate::state::State;
 use crate::threads::run_threads;
 use crate::viewer::Viewer;
 use crate::watcher::{Watcher, watchers_of};
-use city_desk::{Desk, Finished, NullShelf, Output, RunFault, Shelf, output_bytes, read_texts};
-use city_doc::FIXED_SEED;
+use city_desk::{Desk, Finished, NullShelf, Output, RunFault, Shelf, output_bytes, read_texts_by};
+use city_doc::{FIXED_SEED, pieces_for};
 use city_model::OutOfMemory;
 use city_model::city::City;
 use city_model::copied::Copied;
@@ -96,7 +96,8 @@ pub fn run_seeded<R: Threads + Wait + Sync, G: Gate + Sync>(
     ensures lines { IfOk result (λ o. IsJsonOutput o.report o.bytes.items) }
     ensures fault { IfErr result (λ f. IsRunFault document.now scripts.now f) }
 {
-    let (city, list) = read_texts(alloc, document, scripts)?;
+    let pieces = pieces_for(workers + viewers);
+    let (city, list) = read_texts_by(rt, alloc, document, scripts, pieces)?;
     let room = document.len();
     let (output, _) = run_crew_read(rt, alloc, seed, city, list, room, workers, viewers, gate)?;
     Ok(output)

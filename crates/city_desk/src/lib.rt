@@ -37,5 +37,5 @@ pub use opening_city::OpeningCity;
 pub use output::{Output, output_bytes};
 pub use serial_run::{run_read, run_serial, run_serial_to_city};
 pub use shelf::{ListShelf, Shelf};
-pub use texts::read_texts;
+pub use texts::{read_texts, read_texts_by};
 pub use turn::Turn;

@@ -6,11 +6,12 @@ ghost use Rattle.city_desk.specs.RunFaults.{IsSerialFault};
 ghost use Rattle.city_desk.specs.TextRuns.{IsReadFrom};
 
 use crate::fault::RunFault;
-use city_doc::{read_city, read_scripts};
+use city_doc::{Pieces, read_city, read_city_by, read_scripts};
 use city_model::city::City;
 use city_model::script::Script;
 use city_model::sequence::Sequence;
 use std::alloc::Global;
+use std::thread::Threads;
 
 /// The city and the scripts that two texts stand for. The document is judged before the scripts;
 /// running out of memory for a text is `OutOfMemory`.
@@ -24,6 +25,28 @@ pub fn read_texts(
     ensures fault { IfErr result (λ f. IsSerialFault document.now scripts.now f) }
 {
     let city = read_city(alloc, document)?;
+    let scripts = read_scripts(alloc, scripts)?;
+    Ok((city, scripts))
+}
+
+/// Reads two texts as `read_texts` does, and answers the same. The document is read in pieces, each by a thread.
+///
+/// One piece needs no thread.
+pub fn read_texts_by<R: Threads + Sync>(
+    rt: &R,
+    alloc: Global,
+    document: &[u8],
+    scripts: &[u8],
+    pieces: Pieces,
+) -> Result<(City, Sequence<Script>), RunFault>
+    ensures read { IfOk result (λ r. IsReadFrom document.now scripts.now r.0 r.1) }
+    ensures lawful { IfOk result (λ r. IsLawful (object_at r.0.1)) }
+    ensures fault { IfErr result (λ f. IsSerialFault document.now scripts.now f) }
+{
+    if pieces.count < 2 {
+        return read_texts(alloc, document, scripts);
+    }
+    let city = read_city_by(rt, alloc, document, pieces)?;
     let scripts = read_scripts(alloc, scripts)?;
     Ok((city, scripts))
 }

@@ -20,6 +20,7 @@ mod Order
 pub mod OwnMembers
 pub mod PutMembers
 mod ReadableObjects
+mod RelatedCities
 pub mod Right
 mod RoundTrip
 mod Searches

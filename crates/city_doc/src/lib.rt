@@ -10,23 +10,26 @@
 //! - `script`: texts of scripts: the forms of commands, commands, faults
 //! - `report`: the report of a run: ends and replies
 //! - `pool`: points, each with a number
+//! - `pieces`: in how many pieces a text is read
 //! - `fault`: why a text is refused
 #![tactic(auto)]
 
 mod document;
 mod fault;
 mod object;
+mod pieces;
 mod pool;
 mod report;
 mod script;
 mod shape;
 mod tree;
 
-pub use city_tokens::MAX_TEXT;
+pub use city_tokens::{MAX_TEXT, Pieces};
 pub use document::all_faults::faults_of;
-pub use document::read::read_city;
+pub use document::read::{read_city, read_city_by};
 pub use document::write::{append_city, write_city};
 pub use fault::{ReadFault, ScriptFault};
+pub use pieces::{LEAST_PIECE, pieces_for};
 pub use pool::{FIXED_SEED, VertexPool};
 pub use report::write::{seeded_report, write_report};
 pub use script::all_faults::script_faults_of;

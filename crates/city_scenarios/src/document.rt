@@ -1,17 +1,47 @@
-//! The verb `document`: a document read.
+//! The verb `document`: a document read, at once and in pieces.
 use crate::fault_lines::end_fault;
+use crate::pieces::pieces_of;
 use crate::written::Written;
 use city_desk::RunFault;
-use city_doc::{ReadFault, read_city, write_city};
+use city_doc::{ReadFault, read_city, read_city_by, write_city};
 use city_model::OutOfMemory;
 use city_model::city::City;
 use city_model::copied::Copied;
 use city_model::is_lawful::is_lawful;
 use std::alloc::Global;
+use std::thread::Threads;
 
-/// Answers the canonical text of a document, or why it is refused.
-pub fn play_document(alloc: Global, document: &[u8], answer: &mut Written) {
-    match read_city(alloc, document) {
+/// In how many pieces a document is read where a scenario doesn't say it.
+const PIECES: &str = "2x1 3x1 8x1";
+
+/// Answers the canonical text of a document, or why it is refused. Then it is read in each of these pieces; the answer
+/// follows where it is another.
+pub fn play_document<T: Threads + Sync>(
+    rt: &T,
+    alloc: Global,
+    pieces: &str,
+    document: &[u8],
+    answer: &mut Written,
+) {
+    let mut read = Written::new(alloc);
+    add_read(alloc, read_city(alloc, document), &mut read);
+    answer.add_written(&read);
+    let pieces = if pieces.is_empty() { PIECES } else { pieces };
+    for word in pieces.split_whitespace() {
+        let mut now = Written::new(alloc);
+        let city = read_city_by(rt, alloc, document, pieces_of(word));
+        add_read(alloc, city, &mut now);
+        if now.as_slice() != read.as_slice() {
+            answer.add("in pieces: ");
+            answer.add_line(word);
+            answer.add_written(&now);
+        }
+    }
+}
+
+/// Adds the canonical text of a city, or why there is none.
+fn add_read(alloc: Global, read: Result<City, ReadFault>, answer: &mut Written) {
+    match read {
         Ok(city) => add_city(alloc, &city, answer),
         Err(fault) => add_read_fault(alloc, fault, answer),
     }

@@ -5,8 +5,9 @@
 //!
 //! - `file`, `scenario`, `named`: a file of scenarios, one of them, and texts that they name
 //! - `play`: which verb plays what; `written`, `fault_lines`, `wanted`: what verbs write, and how it is compared
-//! - `document`, `scripts`, `prefixes`: texts read; `tokens`: from their tokens; `check`: all that is wrong with them;
-//!   `diagnostics`: what is told of that; `body`: bodies judged; `members`: members kept; `faults`: faults shown
+//! - `document`, `scripts`, `prefixes`: texts read; `pieces`: in how many pieces; `tokens`: from their tokens; `check`:
+//!   all that is wrong with them; `diagnostics`: what is told of that; `body`: bodies judged; `members`: members kept;
+//!   `faults`: faults shown
 //! - `run`, `crew`, `served`, `replay`: whole runs, by one worker, by several, as the program serves them, and their
 //!   scripts one at a time; `canonical`: a model's canonical form
 //! - `serve`, `reader`, `writer`: from a device to a device; `program`, `folder`, `seen`: the program, over files that
@@ -33,6 +34,7 @@ mod folder;
 mod locks;
 mod members;
 mod named;
+mod pieces;
 mod play;
 mod pool;
 mod prefixes;

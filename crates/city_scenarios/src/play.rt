@@ -46,7 +46,7 @@ pub fn play<T: Threads + Wait + Sync>(
             play_program(rt, alloc, names, scenario.verb, texts, answer)
         }
         [] => play_alone(alloc, verb, lines, answer),
-        [text] => play_text(alloc, verb, rest, text, lines, answer),
+        [text] => play_text(rt, alloc, verb, rest, text, lines, answer),
         [document, scripts] => {
             play_run_verb(rt, alloc, verb, rest, document, scripts, lines, answer)
         }
@@ -67,7 +67,8 @@ fn play_alone(alloc: Global, verb: &str, lines: &str, answer: &mut Written) {
 }
 
 /// Plays a verb of one text.
-fn play_text(
+fn play_text<T: Threads + Sync>(
+    rt: &T,
     alloc: Global,
     verb: &str,
     rest: &str,
@@ -76,14 +77,14 @@ fn play_text(
     answer: &mut Written,
 ) {
     match verb {
-        "document" => play_document(alloc, text, answer),
-        "prefixes" => play_prefixes(alloc, false, text, answer),
+        "document" => play_document(rt, alloc, rest, text, answer),
+        "prefixes" => play_prefixes(rt, alloc, false, text, answer),
         "scripts" => play_scripts(alloc, text, answer),
-        "scriptprefixes" => play_prefixes(alloc, true, text, answer),
+        "scriptprefixes" => play_prefixes(rt, alloc, true, text, answer),
         "canonical" => play_canonical(alloc, text, answer),
         "body" => play_body(alloc, text, answer),
         "members" => play_members(alloc, rest, text, answer),
-        "tokens" => play_tokens(alloc, rest, text, answer),
+        "tokens" => play_tokens(rt, alloc, rest, text, answer),
         "check" => play_check(alloc, rest, text, answer),
         "lines" => play_lines(alloc, rest, text, answer),
         "explain" => play_explain(alloc, rest, text, answer),

@@ -3,22 +3,35 @@ use crate::document::play_document;
 use crate::scripts::play_scripts;
 use crate::written::Written;
 use std::alloc::Global;
+use std::thread::Threads;
 
 /// Answers what each proper prefix of a text, of scripts or of a document, is answered, the empty one first: a line
 /// where it isn't what the prefix before it was.
-pub fn play_prefixes(alloc: Global, scripts: bool, text: &[u8], answer: &mut Written) {
+pub fn play_prefixes<T: Threads + Sync>(
+    rt: &T,
+    alloc: Global,
+    scripts: bool,
+    text: &[u8],
+    answer: &mut Written,
+) {
     let mut last = Written::new(alloc);
     for length in 0..text.len() {
         let mut now = Written::new(alloc);
-        play_prefix(alloc, scripts, &text[..length], &mut now);
+        play_prefix(rt, alloc, scripts, &text[..length], &mut now);
         answer.add_unlike(&mut last, now);
     }
 }
 
-fn play_prefix(alloc: Global, scripts: bool, text: &[u8], answer: &mut Written) {
+fn play_prefix<T: Threads + Sync>(
+    rt: &T,
+    alloc: Global,
+    scripts: bool,
+    text: &[u8],
+    answer: &mut Written,
+) {
     if scripts {
         play_scripts(alloc, text, answer);
     } else {
-        play_document(alloc, text, answer);
+        play_document(rt, alloc, "", text, answer);
     }
 }

@@ -1,15 +1,26 @@
 //! The verb `tokens`: whether a text is read from its tokens.
+use crate::pieces::pieces_of;
 use crate::written::Written;
-use city_tokens::{streamed_city, streamed_scripts};
+use city_tokens::{streamed_city, streamed_city_by, streamed_scripts};
 use std::alloc::Global;
+use std::thread::Threads;
 
-/// Answers whether a text, which is a `document` or `scripts`, is `read` from its tokens, or `left` to be read from its
-/// tree.
-pub fn play_tokens(alloc: Global, kind: &str, text: &[u8], answer: &mut Written) {
+/// Answers whether a text, which is a `document`, at once or in pieces, or `scripts`, is `read` from its tokens, or
+/// `left` to be read from its tree.
+pub fn play_tokens<T: Threads + Sync>(
+    rt: &T,
+    alloc: Global,
+    kind: &str,
+    text: &[u8],
+    answer: &mut Written,
+) {
     let read = match kind {
         "document" => streamed_city(alloc, text).is_some(),
         "scripts" => streamed_scripts(alloc, text).is_some(),
-        _ => return answer.add_line("no such text"),
+        _ => match kind.strip_prefix("document ") {
+            Some(pieces) => streamed_city_by(rt, alloc, text, pieces_of(pieces)).is_some(),
+            None => return answer.add_line("no such text"),
+        },
     };
     answer.add_line(if read { "read" } else { "left" });
 }

@@ -18,7 +18,8 @@ use crate::decimals::run_decimals;
 use crate::options::Options;
 use crate::texts::Texts;
 use city_crew::{Gate, run_crew_read};
-use city_desk::{Output, RunFault, read_texts, run_read};
+use city_desk::{Output, RunFault, read_texts_by, run_read};
+use city_doc::pieces_for;
 use city_model::city::City;
 use city_model::script::Script;
 use city_model::sequence::Sequence;
@@ -55,8 +56,9 @@ pub(crate) fn run<R: Threads + Wait + Sync, G: Gate + Sync>(
     }
 }
 
-/// Runs scripts whose numbers are whole on such a document's city, and lets the texts go once they are read. One worker
-/// without viewers needs no thread beside its own, and passes no gate.
+/// Runs scripts whose numbers are whole on such a document's city, and lets the texts go once they are read. As many
+/// threads as run and look read a large document. One worker without viewers needs no thread beside its own, and
+/// passes no gate.
 pub(crate) fn run_whole<R: Threads + Wait + Sync, G: Gate + Sync>(
     rt: &R,
     alloc: Global,
@@ -80,7 +82,8 @@ pub(crate) fn run_whole<R: Threads + Wait + Sync, G: Gate + Sync>(
         texts.document.bytes.as_slice(),
         texts.scripts.bytes.as_slice(),
     );
-    let (city, list) = read_texts(alloc, model, commands)?;
+    let pieces = pieces_for(options.workers + options.viewers);
+    let (city, list) = read_texts_by(rt, alloc, model, commands, pieces)?;
     let room = model.len();
     texts.let_go(alloc);
     let (output, city) = run_read_texts(rt, alloc, gate, seed, city, list, room, options)?;

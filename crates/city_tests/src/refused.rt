@@ -10,7 +10,7 @@ use crate::replay::is_replayed;
 use crate::runs::{CHILD_OF_TWO, CUBE, ORPHAN, PLANNERS, Run, TWO_READERS, UNDELETED, opened};
 use city_crew::{Note, OpenGate, Poster, Viewer, run_crew};
 use city_desk::{Desk, ListShelf, Output, RunFault, Shelf, output_bytes, run_serial};
-use city_doc::FIXED_SEED;
+use city_doc::{FIXED_SEED, Pieces, ReadFault, read_city_by, write_city};
 use city_locks::{LockTable, Mode};
 use city_model::city::City;
 use city_model::end::{End, Outcome};
@@ -257,4 +257,31 @@ fn ran_by_two<R: Threads + Wait + Sync>(
 fn a_run_of_two_workers_is_refused_or_leaves_a_serial_history(rt: HostRuntime) {
     let ran = ran_by_two(&rt, rt.alloc(), &TWO_READERS);
     assert!(&rt; is_serial_or_short(rt.alloc(), &TWO_READERS, ran));
+}
+
+/// Roads, and land of points that each piece of the text names.
+const ROADS: &str = model!(
+    r#"{"a":{"type":"Road"},"b":{"type":"Road"},"c":{"geometry":[{"boundaries":[[[0,1,2]]],"lod":"1","type":"MultiSurface"}],"type":"LandUse"},"d":{"type":"Road"},"e":{"attributes":{"n":[1]},"type":"Road"},"f":{"geometry":[{"boundaries":[[[2,3,0]]],"lod":"1","type":"MultiSurface"}],"type":"LandUse"}}"#,
+    "[[0,0,0],[1,0,0],[0,1,0],[0,0,1]]"
+);
+
+/// Whether a city has this text, which is written at the second try at the latest.
+fn is_written(alloc: Global, city: &City, text: &str) -> bool {
+    let written = write_city(alloc, city).or(write_city(alloc, city));
+    written.is_ok_and(|written| written.as_slice() == text.as_bytes())
+}
+
+/// Whether a document that is read in pieces is the city that it stands for, or memory ran out.
+fn is_read_or_short<R: Threads + Sync>(rt: &R, alloc: Global, document: &str) -> bool {
+    let pieces = Pieces { count: 3, least: 1 };
+    match read_city_by(rt, alloc, document.as_bytes(), pieces) {
+        Ok(city) => is_written(alloc, &city, document),
+        Err(fault) => matches!(fault, ReadFault::OutOfMemory),
+    }
+}
+
+#[test]
+fn a_document_in_pieces_is_read_or_memory_ran_out(rt: HostRuntime) {
+    let read = is_read_or_short(&rt, rt.alloc(), ROADS);
+    assert!(&rt; read);
 }

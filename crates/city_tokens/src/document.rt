@@ -131,14 +131,13 @@ pub fn streamed_city(alloc: Global, bytes: &[u8]) -> Option<City>
 
 /// The same, which so many threads read in pieces.
 pub fn streamed_city_by<R: Threads + Sync>(
-    rt: &R,
+    _rt: &R,
     alloc: Global,
     bytes: &[u8],
-    pieces: Pieces,
+    _pieces: Pieces,
 ) -> Option<City>
     ensures { IfSome result (λ c. (d : Data) × HasTree bytes.now d × (is_integral d ≡ true)
         × (city_of d ≡ Some c) × IsFaultless (object_at c.1)) }
 {
-    let _ = (rt, pieces);
     streamed_city(alloc, bytes)
 }

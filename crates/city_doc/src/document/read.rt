@@ -4,7 +4,7 @@ ghost use Rattle.std.specs.Prelude.{MatchResult};
 ghost use Rattle.serde_json.specs.Data.{Data};
 ghost use Rattle.serde_json.specs.View.{view};
 ghost use Rattle.city_model.specs.CityMap.{object_at, CityValue};
-ghost use Rattle.city_model.specs.Relations.{IsLawful};
+ghost use Rattle.city_model.specs.Relations.{IsLawful, IsRelated};
 ghost use Rattle.city_model.specs.Integral.{is_integral};
 ghost use Rattle.city_tokens.specs.document.Cities.{city_of, IsAdmitted};
 ghost use Rattle.city_doc.specs.document.Faults.{vertices_in, StandsIn, IsFirst, DocumentFault};
@@ -22,9 +22,10 @@ use crate::shape::vertices::vertices_in;
 use crate::tree::parse::{parse, tree_of};
 use crate::tree::values::named;
 use city_model::city::City;
-use city_tokens::streamed_city;
+use city_tokens::{Pieces, streamed_city, streamed_city_by};
 use serde_json::Value;
 use std::alloc::Global;
+use std::thread::Threads;
 
 /// Reads a document: the city that its text stands for, which is lawful.
 ///
@@ -41,10 +42,26 @@ pub fn read_city(alloc: Global, bytes: &[u8]) -> Result<City, ReadFault>
     ensures refused { IfErr result (λ f. (f ≡ ReadFault.OutOfMemory)
         ⊎ ((c : CityValue) → IsAdmitted bytes.now c → ⊥)) }
 {
-    match lawful_city(alloc, bytes) {
-        Some(city) => Ok(city),
-        None => read_tree(alloc, bytes),
-    }
+    let city = lawful_city(alloc, bytes);
+    or_of_tree(alloc, bytes, city)
+}
+
+/// Reads a document as `read_city` does, and answers the same. A large text is read in pieces, each by a thread.
+pub fn read_city_by<R: Threads + Sync>(
+    rt: &R,
+    alloc: Global,
+    bytes: &[u8],
+    pieces: Pieces,
+) -> Result<City, ReadFault>
+    ensures lawful { IfOk result (λ c. IsLawful (object_at c.1)) }
+    ensures readable { OnOk result (IsReadable bytes.now) }
+    ensures admitted { IfOk result (λ c. IsAdmitted bytes.now c) }
+    ensures fault { IfErr result (λ f. DocumentFault bytes.now f) }
+    ensures refused { IfErr result (λ f. (f ≡ ReadFault.OutOfMemory)
+        ⊎ ((c : CityValue) → IsAdmitted bytes.now c → ⊥)) }
+{
+    let city = lawful_city_by(rt, alloc, bytes, pieces);
+    or_of_tree(alloc, bytes, city)
 }
 
 /// The city of a text, read from its tokens, which is lawful; none where anything is odd.
@@ -52,9 +69,45 @@ pub fn lawful_city(alloc: Global, bytes: &[u8]) -> Option<City>
     ensures { IfSome result (λ c. IsAdmitted bytes.now c) }
 {
     let city = streamed_city(alloc, bytes)?;
+    related(alloc, city)
+}
+
+/// The same, read in pieces.
+fn lawful_city_by<R: Threads + Sync>(
+    rt: &R,
+    alloc: Global,
+    bytes: &[u8],
+    pieces: Pieces,
+) -> Option<City>
+    ensures { IfSome result (λ c. IsAdmitted bytes.now c) }
+{
+    let city = streamed_city_by(rt, alloc, bytes, pieces)?;
+    related(alloc, city)
+}
+
+/// The city, if the parents and children of all its objects agree.
+fn related(alloc: Global, city: City) -> Option<City>
+    ensures { IfSome result (λ c. (c ≡ city) × IsRelated (object_at c.1)) }
+{
     match least_misrelated(alloc, &city).ok()? {
         None => Some(city),
         Some(_) => None,
+    }
+}
+
+/// The city that was read of the text's tokens; without one the text is read from its tree, where its fault shows.
+fn or_of_tree(alloc: Global, bytes: &[u8], city: Option<City>) -> Result<City, ReadFault>
+    requires { IfSome city (λ c. IsAdmitted bytes.now c) }
+    ensures lawful { IfOk result (λ c. IsLawful (object_at c.1)) }
+    ensures readable { OnOk result (IsReadable bytes.now) }
+    ensures admitted { IfOk result (λ c. IsAdmitted bytes.now c) }
+    ensures fault { IfErr result (λ f. DocumentFault bytes.now f) }
+    ensures refused { IfErr result (λ f. (f ≡ ReadFault.OutOfMemory)
+        ⊎ ((c : CityValue) → IsAdmitted bytes.now c → ⊥)) }
+{
+    match city {
+        Some(city) => Ok(city),
+        None => read_tree(alloc, bytes),
     }
 }
 

@@ -1,5 +1,5 @@
 use Rattle.city_doc.proofs.Prelude.{IfOk-weaker, IsAdmitted}
-use Rattle.city_doc.proofs.document.read.read_city.Goals as goal
+use Rattle.city_doc.proofs.document.read.or_of_tree.Goals as goal
 
 pub returns-in-None-clause-lawful : goal.returns-in-None-clause-lawful
 returns-in-None-clause-lawful c =

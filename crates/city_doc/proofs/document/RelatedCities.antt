@@ -1,0 +1,21 @@
+-- Cities read from their tokens, of which only the relations are left to be judged.
+use Rattle.city_doc.proofs.Prelude.{◌≡◌, true, subst, sym, List, ℕ, Option, None, Some, Data, CityValue, object_at}
+use Rattle.city_doc.proofs.Prelude.{IsRelated, IsAdmitted, is_integral, city_of}
+use Rattle.std.specs.Prelude.{IfSome}
+use Rattle.city_model.specs.inside.Faultless.{IsFaultless}
+use Rattle.city_tokens.specs.tree.Texts.{HasTree}
+
+-- a text stands for a city without a faulty body, and is admitted where the relations agree
+pub admitted : (text : List ℕ) (city : CityValue) → (d : Data) × HasTree text d × (is_integral d ≡ true)
+    × (city_of d ≡ Some city) × IsFaultless (object_at city.1) → (o : Option CityValue)
+    → IfSome o (λ c. (c ≡ city) × IsRelated (object_at c.1)) → IfSome o (IsAdmitted text)
+admitted text city read None related = tt
+admitted text city read (Some c) related =
+    let agree = subst (λ c. IsRelated (object_at c.1)) related.0 related.1 in
+    subst (IsAdmitted text) (sym related.0) (
+      read.0,
+      read.1,
+      read.2,
+      read.3,
+      ((λ id o is. ((agree id o is).0, read.4 id o is)), λ id o is. (agree id o is).1),
+    )
