@@ -2,7 +2,7 @@
 use Rattle.city_locks.proofs.Prelude.{◌≡◌, ◌≢◌, ℕ, ◌==◌, cond, true, false, List, [], ◌∷◌, ◌++◌, take, drop, None, Some}
 use Rattle.city_locks.proofs.Prelude.{refl, arith, ◌+◌, list_any, list_all, Mode, Granted, Holder, stronger}
 use Rattle.city_locks.proofs.Prelude.{in_conflict, gives_way, answer_among, mode_among, with_holder, without}
-use Rattle.std.proofs.Common.{◌⊎◌, inl}
+use Rattle.std.proofs.Common.{◌⊎◌, inl, is_some}
 use Rattle.city_model.specs.declared.mode.Mode.TheVariants.{Shared, Exclusive}
 
 -- ---- the modes after a holder was added, or taken out
@@ -19,6 +19,12 @@ mode_without (h ∷ hs) s t = grind (arith, mode_without hs s t)
 pub without_absent : (hs : List Holder) (s : ℕ) → mode_among hs s ≡ None → without hs s ≡ hs
 without_absent [] s h = refl
 without_absent (x ∷ xs) s h = grind (arith, without_absent xs s)
+
+-- where no other is among them, none is left
+pub without_others : (hs : List Holder) (s : ℕ) → ((t : ℕ) → is_some (mode_among hs t) ≡ true → t ≡ s) → without hs s ≡ []
+without_others [] s h = refl
+without_others (x ∷ xs) s h =
+    grind (arith, h x.stamp, without_others xs s (λ t k. let there = h t in grind arith))
 
 -- taken out twice, as once
 pub without_twice : (hs : List Holder) (s : ℕ) → without (without hs s) s ≡ without hs s

@@ -130,8 +130,22 @@ fn grant_first(
     Ok(())
 }
 
+/// Removes the stamp from the holders of all ids, given those that it holds, and whether no other stamp
+/// holds any: then no id is looked up.
+pub fn release_all(held: &mut BTreeMap<Id, Holders>, stamp: u64, ids: &[Id], alone: bool)
+    requires listed { (q : List ℕ) → is_some (mode_of held.old.entries stamp q) ≡ true → has_id ids.now q ≡ true }
+    requires alone { alone ≡ true → (t : ℕ) (q : List ℕ) → is_some (mode_of held.old.entries t q) ≡ true → t ≡ stamp }
+    ensures { (q : List ℕ) → holders_of held.new.entries q ≡ without (holders_of held.old.entries q) stamp }
+{
+    if alone {
+        held.clear();
+    } else {
+        release_each(held, stamp, ids);
+    }
+}
+
 /// Removes the stamp from the holders of each of the ids.
-pub fn release_each(held: &mut BTreeMap<Id, Holders>, stamp: u64, ids: &[Id])
+fn release_each(held: &mut BTreeMap<Id, Holders>, stamp: u64, ids: &[Id])
     ensures { (q : List ℕ) → holders_of held.new.entries q ≡ cond (has_id ids.now q) (without (holders_of held.old.entries q) stamp) (holders_of held.old.entries q) }
 {
     for id in ids {

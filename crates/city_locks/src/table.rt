@@ -192,6 +192,7 @@ fn give_back(
     ensures listed { IsListed holders.new.entries locked.new }
 {
     if let Some(ids) = locked.remove(&stamp) {
-        held::release_each(holders, stamp, ids.as_slice());
+        let alone = locked.is_empty();
+        held::release_all(holders, stamp, ids.as_slice(), alone);
     }
 }
