@@ -1,5 +1,5 @@
 //! Slots of the city: placeholders, and objects put back.
-ghost use Rattle.std.specs.Prelude.{◌≡◌, ℕ, List, None, Some, unwrap_or, OnOk, OnErr, is_some, true, if◌then◌else◌};
+ghost use Rattle.std.specs.Prelude.{◌≡◌, ℕ, List, None, Some, unwrap_or, OnOk, OnErr, is_none, is_some, true, if◌then◌else◌};
 ghost use Rattle.std.specs.Option.{option_or};
 ghost use Rattle.city_model.specs.CityMap.{object_at, changed};
 ghost use Rattle.city_txn.specs.inside.Ending.{left_at_end};
@@ -16,15 +16,17 @@ use city_model::object::Object;
 use city_model::text::Id;
 use std::alloc::Global;
 
-/// Gives the id a slot: a placeholder, if no object is there. If memory runs out, the city is unchanged.
+/// Gives the id a slot, given whether no object is there: then a placeholder. If memory runs out, the city is
+/// unchanged.
 #[tactic(auto, using(city_model::proofs::Ids::same_id_true, crate::proofs::StoreChanged::set_at))]
-pub fn make(city: &mut City, alloc: Global, id: &Id) -> Result<(), OutOfMemory>
+pub fn make(city: &mut City, alloc: Global, id: &Id, absent: bool) -> Result<(), OutOfMemory>
+    requires { absent ≡ is_none (object_at city.old.1 id.now) }
     ensures after { OnOk result ((q : List ℕ) → object_at city.new.1 q
         ≡ changed (object_at city.old.1) id.now (Some (unwrap_or (object_at city.old.1 id.now) placeholder)) q) }
     ensures frame { city.new.0 ≡ city.old.0 }
     ensures err { OnErr result (city.new ≡ city.old) }
 {
-    if city.get(id).is_none() {
+    if absent {
         city.set(id.copy(alloc)?, placeholder(alloc))?;
     }
     Ok(())

@@ -124,16 +124,17 @@ impl Undo {
         let Ok(key) = id.copy(self.alloc) else {
             return Err(OutOfMemory);
         };
+        let absent = city.get(id).is_none();
         let image = UndoImage {
             by: stamp,
             unwritten: true,
-            deleted: city.get(id).is_none(),
+            deleted: absent,
             before: None,
         };
         let Ok(_) = self.images.insert(key, image) else {
             return Err(OutOfMemory);
         };
-        let Ok(()) = slot::make(city, self.alloc, id) else {
+        let Ok(()) = slot::make(city, self.alloc, id, absent) else {
             let _ = self.images.remove(id);
             return Err(OutOfMemory);
         };
