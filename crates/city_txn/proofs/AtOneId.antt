@@ -3,7 +3,7 @@ use Rattle.city_txn.proofs.Prelude.{arith, ◌≡◌, ◌==◌, ℕ, List, [], �
 use Rattle.city_txn.proofs.Prelude.{◌∙◌, ◌||◌, keys_of, nat_cmp, slice_cmp, is_at, list_any, false≢true, eq-eqb, Object}
 use Rattle.city_txn.proofs.Prelude.{object_at, has_id, same_id, same_id_true, UndoImage, Inside, committed_at, write_at}
 use Rattle.city_txn.proofs.Prelude.{writer_of, write_of, is_by, own_or, State, store_committed, store_view, state_of}
-use Rattle.city_txn.proofs.Prelude.{is_writer, IsInPlace, image_at, reservations_of}
+use Rattle.city_txn.proofs.Prelude.{is_writer, IsInPlace, image_at, reservations_of, Bool, if◌then◌else◌}
 use Rattle.std.proofs.Common.{Less}
 use Rattle.std.specs.Map.{lookup}
 use Rattle.std.specs.Cmp.{unsigned_tied, eq_by_cmp_equiv}
@@ -16,7 +16,11 @@ use Rattle.std.proofs.lemmas.Map.{lookup-none}
 use Rattle.std.proofs.lemmas.Map.Keys.{IsDistinct-from_sorted, sorted_tail}
 use Rattle.std.proofs.lemmas.Map.Entries.{none_past_head}
 use Rattle.city_model.proofs.Objects.{at_entries, entries_ascend, at_sorted, same_objects}
+use Rattle.city_model.specs.CityMap.{CityValue}
 use Rattle.city_txn.specs.Writes.{made_by}
+use Rattle.city_txn.specs.inside.Images.{is_orphan_written}
+use Rattle.city_txn.specs.inside.InPlace.{IsPlain}
+use Rattle.city_txn.specs.inside.UndoState.{Images}
 
 -- the test of a map's keys is that of numbers
 pub tied : (s t : ℕ) → is_at (nat_cmp s) t ≡ (s == t)
@@ -92,19 +96,39 @@ module _ (a : Inside) (k : IsInPlace a) {v : State} (seen : state_of a ≡ v) (q
   pub view_seen : own_or s (write_at (here a q) o) (committed_at (here a q) o) ≡ store_view v s q
   view_seen = let was = view_is a k q s in grind arith
 
+-- ---- orphans that may have been written
+
+pub plain_at : {may : Bool} (city : CityValue) (images : Images) → IsPlain may city images → may ≡ false → (q : List ℕ)
+    → is_orphan_written (write_at (object_at city.1 q) (image_at images q)) ≡ false
+unfolding IsPlain
+plain_at city images p = p
+
+pub plain_by : {may : Bool} (city : CityValue) (images : Images) → (may ≡ false → (q : List ℕ)
+    → is_orphan_written (write_at (object_at city.1 q) (image_at images q)) ≡ false) → IsPlain may city images
+unfolding IsPlain
+plain_by city images p = p
+
+-- what stands at an id is one of two
+pub one_of_plain : (b : Bool) (x y : Option Object) {z : Option Object} (i j : Option UndoImage) {k : Option UndoImage} → z ≡ (if b then x else y)
+    → k ≡ (if b then i else j) → is_orphan_written (write_at x i) ≡ false → is_orphan_written (write_at y j) ≡ false
+    → is_orphan_written (write_at z k) ≡ false
+one_of_plain true x y i j e f g h = (λ n. is_orphan_written (write_at (e n) (f n))) ∙ g
+one_of_plain false x y i j e f g h = (λ n. is_orphan_written (write_at (e n) (f n))) ∙ h
+
 -- ---- a new store, and one at rest
 
 pub new_in_place : (a : Inside) → a.undo.images.entries ≡ [] → a.undo.reservations.entries ≡ [] → a.logs ≡ []
     → IsInPlace a
-unfolding IsStrictlySortedBy
+unfolding IsStrictlySortedBy IsPlain
 new_in_place a none shut unlogged = record {
   ordered = rw none tt;
   has_slot = λ id h. grind arith;
   listed = λ s id. grind arith;
   noted = λ s id h. grind arith;
+  plain = λ h id. grind arith;
 }
 
-unwritten : (i : Option UndoImage) → ((s : ℕ) → is_writer s (writer_of i) ≡ false) → i ≡ None
+pub unwritten : (i : Option UndoImage) → ((s : ℕ) → is_writer s (writer_of i) ≡ false) → i ≡ None
 unwritten None h = refl
 unwritten (Some i) h = absurd (false≢true (sym (h i.by) ∙ eq-eqb i.by i.by refl))
 

@@ -11,7 +11,7 @@ use Rattle.city_model.specs.Relations.{is_orphan, HasNoOrphan, IsLeastOrphan, Is
 use Rattle.city_model.proofs.ChangeLaws.{at_change, set_at}
 use Rattle.city_txn.specs.CoreState.{CoreState, committed, view}
 use Rattle.city_txn.specs.Changing.{change_in, IsChangeOf}
-use Rattle.city_txn.proofs.AtOneId.{at_made, sorted_made, here, image, by_seen}
+use Rattle.city_txn.proofs.AtOneId.{at_made, sorted_made, here, image, by_seen, writes_is, plain_at}
 
 -- ---- writes noted
 
@@ -61,6 +61,15 @@ module _ (a : Inside) (k : IsInPlace a) (v : State) (seen : state_of a ≡ v) (s
   none_orphaned h q o is =
       let none = unlisted q in let there = none_at (λ id. is_orphan_there (store_view v s id)) ids q h in
       grind arith
+
+-- where no orphan may have been written, no transaction wrote one
+pub none_written : (a : Inside) → IsInPlace a → (v : State) → state_of a ≡ v → (s : ℕ) → a.may_have_orphan ≡ false
+    → HasNoOrphan (λ q. unwrap_or (store_own v s q) None)
+none_written a k v seen s h q o is =
+    let plain = plain_at a.city a.undo.images k.plain h q in
+    let was : write_of v.writes q ≡ write_at (here a q) (image a q) =
+    ap (λ (u : State). write_of u.writes q) (sym seen) ∙ writes_is a k q in
+    grind arith
 
 -- ---- the writes of a transaction among all of them
 

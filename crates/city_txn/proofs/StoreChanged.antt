@@ -8,7 +8,7 @@ use Rattle.city_txn.proofs.Prelude.{MayReserve, Touches, store_written, image_at
 use Rattle.city_txn.proofs.Prelude.{committed_at, write_at, writer_of, has_id_more, State, store_committed, is_reserved}
 use Rattle.city_txn.proofs.Prelude.{OthersWritesStay, Logs, log_of, marked, state_of, is_writer, IsInPlace, Became}
 use Rattle.city_txn.proofs.Prelude.{Write, write_of, unless_by, own_write}
-use Rattle.std.proofs.Common.{is_none}
+use Rattle.std.proofs.Common.{is_none, ◌⊎◌, inl, inr}
 use Rattle.std.proofs.lemmas.Bool.{eqb-true}
 use Rattle.city_model.specs.CityMap.{CityMap, CityValue, Objects, changed}
 use Rattle.city_txn.specs.inside.Ending.{map_at_end}
@@ -16,9 +16,11 @@ use Rattle.city_txn.specs.inside.State.{Forgets, WritesOne, is_begun}
 use Rattle.city_txn.specs.inside.UndoState.{Images, listed_by}
 use Rattle.city_txn.specs.declared.ending.End.{End}
 use Rattle.city_txn.specs.declared.undo.Undo.{Undo}
-use Rattle.city_txn.specs.inside.Images.{unwritten_image}
+use Rattle.city_txn.specs.inside.Images.{unwritten_image, is_orphan_written}
 use Rattle.city_txn.specs.UndoLog.{OwnWrites}
-use Rattle.city_txn.proofs.AtOneId.{here, image, city_is, writes_is, view_is}
+use Rattle.city_txn.proofs.AtOneId.{here, image, city_is, writes_is, view_is, unwritten}
+use Rattle.city_txn.proofs.AtOneId.{plain_at, plain_by, one_of_plain}
+use Rattle.city_txn.specs.inside.InPlace.{IsPlain}
 use Rattle.city_txn.specs.Placeholder.{placeholder}
 use Rattle.city_txn.specs.declared.ending.End.TheVariants.{Commit, RollBack}
 
@@ -76,18 +78,22 @@ pub record OwnWritten (v : State) (b : Inside) (s : ℕ) (id : List ℕ) (w : Op
 pub own_written : (a : Inside) (k : IsInPlace a) {v : State} (seen : state_of a ≡ v) (s : ℕ) (id : List ℕ)
     (reserved : is_reserved v s id ≡ true) (city : CityValue) (undo : Undo) {x : Option Object} {i : Option UndoImage}
     → Became (same_id id) (λ q. x) (λ q. i) a.city city a.undo.images undo.images
-    → undo.reservations ≡ a.undo.reservations → (w : Option Write)
+    → undo.reservations ≡ a.undo.reservations → (w : Option Write) (may : Bool)
+    → (may ≡ false → (a.may_have_orphan ≡ false) × (is_orphan_written w ≡ false))
     → (is_writer s (writer_of (image a id)) ≡ true → is_some (here a id) ≡ true
     → Rewrites (here a id) (image a id) x i w)
-    → OwnWritten v (record a { city = city; undo = undo }) s id w
-own_written a k seen s id reserved city undo {x} {i} t reservations w rewrites =
-    let b : Inside = record a { city = city; undo = undo } in
+    → OwnWritten v (record a { city = city; undo = undo; may_have_orphan = may }) s id w
+own_written a k seen s id reserved city undo {x} {i} t reservations w may plain rewrites =
+    let b : Inside = record a { city = city; undo = undo; may_have_orphan = may } in
     let mine : is_writer s (writer_of (image a id)) ≡ true =
     sym (k.listed s id) ∙ ap (λ (u : State). is_reserved u s id) seen ∙ reserved in
     let r = rewrites mine (let slot = k.has_slot id in grind arith) in
     let opened = ap (λ u. u.entries) reservations in
     let same : (r : ℕ) (q : List ℕ) → is_reserved (state_of b) r q ≡ is_reserved (state_of a) r q =
     λ r q. ap (λ es. has_id (reservations_of es r) q) opened in
+    let unorphaned : IsPlain may city undo.images =
+    plain_by city undo.images (λ h q. one_of_plain (same_id id q) _ _ _ _ (t.object_is q) (t.image_is q)
+    (ap is_orphan_written r.write ∙ (plain h).1) (plain_at a.city a.undo.images k.plain (plain h).0 q)) in
     let in_place : IsInPlace b = grind (arith, same_id_true) in
     subst (λ (u : State). OwnWritten u b s id w) seen (record {
       in_place = in_place;
@@ -139,8 +145,12 @@ module _ (a : Inside) (k : IsInPlace a) {v : State} (seen : state_of a ≡ v) (s
       let was_open : is_begun (state_of a) s ≡ true = ap (λ (u : State). is_begun u s) seen ∙ is_opened in
       grind arith
 
+  unorphaned_then : IsPlain a.may_have_orphan city undo.images
+  unorphaned_then = plain_by city undo.images (λ h q. one_of_plain (has && same_id id q) _ _ _ _ (t.object_is q) (t.image_is q) refl
+      (plain_at a.city a.undo.images k.plain h q))
+
   reserved_in_place : IsInPlace with_it
-  reserved_in_place = let more = more_reserved in grind (arith, same_id_true)
+  reserved_in_place = let more = more_reserved in let u = unorphaned_then in grind (arith, same_id_true)
 
   writes_left : (q : List ℕ) → write_of (state_of with_it).writes q ≡ write_of (state_of a).writes q
   writes_left q =
@@ -211,9 +221,10 @@ module _ (a : Inside) (k : IsInPlace a) {v : State} (seen : state_of a ≡ v) (s
     undo.images)
     (closed : (r : ℕ) → listed_by undo.reservations.entries r
     ≡ (if s == r then None else listed_by a.undo.reservations.entries r))
-    (forgotten : (r : ℕ) → log_of logs r ≡ (if s == r then [] else log_of a.logs r)) where
+    (forgotten : (r : ℕ) → log_of logs r ≡ (if s == r then [] else log_of a.logs r)) (may : Bool)
+    (plain : may ≡ false → (a.may_have_orphan ≡ false) ⊎ (undo.reservations.entries ≡ [])) where
   abbrev without_it : Inside
-  without_it = record a { city = city; undo = undo; logs = logs }
+  without_it = record a { city = city; undo = undo; logs = logs; may_have_orphan = may }
 
   mine : (q : List ℕ) → has_id ids q ≡ is_writer s (writer_of (image a q))
   mine q = ap (λ xs. has_id xs q) are ∙ k.listed s q
@@ -222,8 +233,26 @@ module _ (a : Inside) (k : IsInPlace a) {v : State} (seen : state_of a ≡ v) (s
       → is_reserved (state_of without_it) r q ≡ (if s == r then false else is_reserved (state_of a) r q)
   reserved_left r q = let e = closed r in grind arith
 
+  listed_left : (r : ℕ) (q : List ℕ)
+      → has_id (reservations_of undo.reservations.entries r) q ≡ is_writer r (writer_of (image_at undo.images q))
+  listed_left r q =
+      let m = mine q in let e = reserved_left r q in let j = t.image_is q in let was = k.listed r q in grind arith
+
+  none_left : undo.reservations.entries ≡ [] → (q : List ℕ) → image_at undo.images q ≡ None
+  none_left shut q = unwritten (image_at undo.images q) (λ r. sym (listed_left r q)
+      ∙ ap (λ reservations. has_id (reservations_of reservations r) q) shut)
+
+  unorphaned_at : (a.may_have_orphan ≡ false) ⊎ (undo.reservations.entries ≡ []) → (q : List ℕ)
+      → is_orphan_written (write_at (object_at city.1 q) (image_at undo.images q)) ≡ false
+  unorphaned_at (inl h) q = one_of_plain (has_id ids q) _ _ _ _ (t.object_is q) (t.image_is q) refl (plain_at a.city a.undo.images k.plain h q)
+  unorphaned_at (inr shut) q = ap (λ i. is_orphan_written (write_at (object_at city.1 q) i)) (none_left shut q)
+
+  unorphaned_left : IsPlain may city undo.images
+  unorphaned_left = plain_by city undo.images (λ h. unorphaned_at (plain h))
+
   ended_in_place : IsInPlace without_it
-  ended_in_place = let m = mine in let e = reserved_left in grind arith
+  ended_in_place =
+      let m = mine in let e = reserved_left in let l = listed_left in let u = unorphaned_left in grind arith
 
   committed_at_end : (e : End) → Became (has_id ids) (λ q. left_at_end e (here a q) (image a q)) (λ q. None) a.city city
       a.undo.images undo.images → store_committed (state_of without_it) ≡ map_at_end e (state_of a) s

@@ -61,7 +61,8 @@ impl Store {
         }
     }
 
-    /// Whether the stamp sees an orphan at an id that it has reserved. Doesn't allocate.
+    /// Whether the stamp sees an orphan at an id that it has reserved. It looks only where one may have been
+    /// written, and doesn't allocate.
     #[tactic(auto, using(crate::proofs::ChangeMade::change_lists, crate::proofs::ChangeMade::change_ascends))]
     pub fn has_orphan(&self, stamp: u64) -> bool
         ensures none { result ≡ false → HasNoOrphan (λ q. unwrap_or (own_write stamp (write_of self.now.writes q)) None) }
@@ -69,6 +70,9 @@ impl Store {
         ensures lists { (q : List ℕ) → write_in (change_in self.now.writes stamp) q ≡ own_write stamp (write_of self.now.writes q) }
         ensures ordered { IsStrictlySortedBy (slice_cmp nat_cmp) (keys_of (change_in self.now.writes stamp)) }
     {
+        if !self.may_have_orphan {
+            return false;
+        }
         self.has_orphan_among(stamp, self.undo.reserved(stamp))
     }
 

@@ -1,6 +1,7 @@
 //! The city as the open transactions have written it, and how it is put back.
-ghost use Rattle.std.specs.Prelude.{◌≡◌, ◌↔◌, IsTrue, ℕ, List, [], None, Some, OnOk, OnErr, true, false, ◌==◌, ◌&&◌, ◌||◌, is_ok, is_some, option_copied, option_map, if◌then◌else◌};
+ghost use Rattle.std.specs.Prelude.{◌≡◌, ◌↔◌, IsTrue, ℕ, List, [], None, Some, OnOk, OnErr, true, false, ◌==◌, ◌&&◌, ◌||◌, is_ok, is_some, not, option_copied, option_map, if◌then◌else◌};
 ghost use Rattle.city_model.specs.CityMap.{same_id};
+ghost use Rattle.city_model.specs.Relations.{is_orphan_there};
 ghost use Rattle.city_txn.specs.inside.Ending.{map_at_end};
 ghost use Rattle.city_txn.specs.inside.State.{State, is_reserved, is_begun, store_committed, store_view, MayReserve};
 ghost use Rattle.city_txn.specs.inside.State.{store_written, Touches, WritesOne, OthersWritesStay, Begins, Forgets};
@@ -13,6 +14,7 @@ use crate::undo_log::{OwnWrite, UndoLogs};
 use city_model::OutOfMemory;
 use city_model::city::City;
 use city_model::object::Object;
+use city_model::orphans::is_orphan;
 use city_model::plan::view::View;
 use city_model::text::Id;
 use std::alloc::Global;
@@ -29,6 +31,8 @@ pub struct Store {
     city: City,
     pub(crate) undo: Undo,
     pub(crate) logs: UndoLogs,
+    /// Whether an open transaction may have written an orphan.
+    pub(crate) may_have_orphan: bool,
 }
 
 impl Model for Store {
@@ -60,6 +64,7 @@ impl Store {
             city,
             undo: Undo::new(alloc),
             logs: UndoLogs::new(alloc),
+            may_have_orphan: false,
         }
     }
 
@@ -140,6 +145,7 @@ impl Store {
         ensures one { WritesOne id (Some (stamp, object)) self.old self.new }
         ensures others { OthersWritesStay stamp self.old self.new }
     {
+        self.may_have_orphan = has_orphan_then(self.may_have_orphan, &object);
         self.undo.write(&mut self.city, id, object);
     }
 
@@ -181,7 +187,25 @@ impl Store {
         self.logs.close(stamp);
         let ids = self.undo.close(stamp);
         end_each(&mut self.city, &mut self.undo, end, ids.as_slice());
+        self.may_have_orphan = has_orphan_still(self.may_have_orphan, self.undo.is_idle());
     }
+}
+
+/// Whether an orphan may have been written once this one was too, or none was there.
+fn has_orphan_then(before: bool, object: &Option<Object>) -> bool
+    ensures { result ≡ (before || is_orphan_there object.now) }
+{
+    match object {
+        Some(object) => before || is_orphan(object),
+        None => before,
+    }
+}
+
+/// Whether an orphan may still stand written after an end: not where no transaction is open.
+fn has_orphan_still(before: bool, is_idle: bool) -> bool
+    ensures { result ≡ (before && not is_idle) }
+{
+    before && !is_idle
 }
 
 /// What the transaction of the stamp sees of the store.

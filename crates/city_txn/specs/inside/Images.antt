@@ -2,6 +2,7 @@
 use Rattle.std.specs.Prelude.{ℕ, Bool, true, false, Option, None, Some, is_none}
 use Rattle.std.specs.Prelude.{if◌then◌else◌}
 use Rattle.city_model.specs.declared.object.Object.{Object}
+use Rattle.city_model.specs.Relations.{is_orphan_there}
 use Rattle.city_txn.specs.declared.image.UndoImage.{UndoImage}
 
 -- what its transaction sees: nothing where a placeholder holds the slot
@@ -21,6 +22,11 @@ committed_at x (Some i) = before_image x i
 abbrev pub write_at : Option Object → Option UndoImage → Option (ℕ × Option Object)
 write_at x None = None
 write_at x (Some i) = if i.unwritten then None else Some (i.by, seen_under x i)
+
+-- whether an orphan was written
+abbrev pub is_orphan_written : Option (ℕ × Option Object) → Bool
+is_orphan_written None = false
+is_orphan_written (Some w) = is_orphan_there w.1
 
 abbrev pub writer_of : Option UndoImage → Option ℕ
 writer_of None = None

@@ -4,13 +4,13 @@ use Rattle.std.specs.Ordering.{nat_cmp}
 use Rattle.std.specs.Cmp.Lexicographic.{slice_cmp}
 use Rattle.std.specs.BTreeMap.{IsOrdered}
 use Rattle.std.specs.FinMap.{entries, from_sorted}
-use Rattle.city_model.specs.CityMap.{object_at, has_id}
+use Rattle.city_model.specs.CityMap.{CityValue, object_at, has_id}
 use Rattle.city_txn.specs.declared.store.Store.TheInside.{Inside}
 use Rattle.city_txn.specs.UndoLog.{log_of, has_before}
 use Rattle.city_txn.specs.Writes.{made_by}
 use Rattle.city_txn.specs.inside.State.{State}
-use Rattle.city_txn.specs.inside.UndoState.{image_at, reservations_of}
-use Rattle.city_txn.specs.inside.Images.{committed_at, write_at, writer_of}
+use Rattle.city_txn.specs.inside.UndoState.{Images, image_at, reservations_of}
+use Rattle.city_txn.specs.inside.Images.{committed_at, write_at, writer_of, is_orphan_written}
 
 -- the committed city is the one city with all images put back
 abbrev pub state_of : Inside → State
@@ -26,8 +26,14 @@ abbrev pub is_writer : ℕ → Option ℕ → Bool
 is_writer stamp None = false
 is_writer stamp (Some t) = t == stamp
 
+-- where no orphan may have been written, none was
+unfoldable pub IsPlain : Bool → CityValue → Images → Type 0
+IsPlain may city images = may ≡ false → (id : List ℕ)
+    → is_orphan_written (write_at (object_at city.1 id) (image_at images id)) ≡ false
+
 -- each image is of an id that is in the city, if only by a placeholder, and of one that its
--- transaction, and no other, has reserved; and what a log takes back is reserved by its transaction
+-- transaction, and no other, has reserved; what a log takes back is reserved by its transaction; and where no orphan
+-- may have been written, none was
 pub record IsInPlace (a : Inside) : Type 0 where
   pub ordered : IsOrdered (slice_cmp nat_cmp) a.undo.images
   pub has_slot : (id : List ℕ) → is_some (image_at a.undo.images id) ≡ true → is_some (object_at a.city.1 id) ≡ true
@@ -36,3 +42,4 @@ pub record IsInPlace (a : Inside) : Type 0 where
       ≡ is_writer stamp (writer_of (image_at a.undo.images id))
   pub noted : (stamp : ℕ) (id : List ℕ) → has_before (log_of a.logs stamp) id ≡ true
       → has_id (reservations_of a.undo.reservations.entries stamp) id ≡ true
+  pub plain : IsPlain a.may_have_orphan a.city a.undo.images

@@ -16,6 +16,7 @@ invariant_of-self-2 c =
       listed = k.listed;
       noted = λ t q h.
           let e = c.in_ok-push.ensures.ok t in let was = k.noted t q in let at = same_id_true id q in grind arith;
+      plain = k.plain;
     }
 
 pub returns-clause-marks : goal.returns-clause-marks

@@ -1,4 +1,4 @@
-use Rattle.city_txn.proofs.Prelude.{arith, None}
+use Rattle.city_txn.proofs.Prelude.{arith, None, refl}
 use Rattle.city_txn.proofs.StoreChanged.{OwnWritten, own_written}
 use Rattle.city_txn.proofs.store.Store.restore.Goals.{After-unwrite}
 use Rattle.city_txn.proofs.store.Store.restore.Goals as goal
@@ -8,6 +8,7 @@ done : (c : After-unwrite) → OwnWritten c.args.self.now
 done c =
     own_written c.self.inside c.self.invariant c.self.view_is c.args.stamp c.args.id c.requires c.unwrite.new.city
     c.unwrite.new.self c.unwrite.ensures.became c.unwrite.ensures.reservations None
+    c.self.inside.may_have_orphan (λ h. (h, refl))
     (λ mine slot. grind arith)
 
 pub invariant_of-self : goal.invariant_of-self

@@ -4,11 +4,16 @@ use Rattle.city_txn.proofs.store.Store.set.Goals.{After-write}
 use Rattle.city_txn.proofs.store.Store.set.Goals as goal
 
 done : (c : After-write) → OwnWritten c.args.self.now
-    (record c.self.inside { city = c.write.new.city; undo = c.write.new.self }) c.args.stamp c.args.id
+    (record c.self.inside {
+      city = c.write.new.city;
+      undo = c.write.new.self;
+      may_have_orphan = c.has_orphan_then-self-inside.result;
+    }) c.args.stamp c.args.id
     (Some (c.args.stamp, c.args.object))
 done c =
     own_written c.self.inside c.self.invariant c.self.view_is c.args.stamp c.args.id c.requires c.write.new.city
     c.write.new.self c.write.ensures.became c.write.ensures.reservations (Some (c.args.stamp, c.args.object))
+    c.has_orphan_then-self-inside.result (λ h. let may = c.has_orphan_then-self-inside.ensures in grind arith)
     (λ mine slot. grind arith)
 
 pub invariant_of-self : goal.invariant_of-self
