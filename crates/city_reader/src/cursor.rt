@@ -1,5 +1,6 @@
 //! What is left of a text, and the lexemes that it begins with.
 ghost use Rattle.std.specs.Prelude.{◌≡◌, ℕ, List, [], drop, IfSome, IsTrue, MatchOption};
+ghost use Rattle.std.specs.Bool.{MatchBool};
 ghost use Rattle.json.specs.Token.{number, string};
 ghost use Rattle.json.specs.Word.{head};
 ghost use Rattle.json.specs.Lex.{class, operator, operator_lexeme, token, between, lex};
@@ -68,6 +69,18 @@ impl<'t> Cursor<'t> {
             return false;
         }
         are_same(&self.text.as_bytes()[self.at..], &text.as_bytes()[at..])
+    }
+
+    /// Goes from one byte of this text to a later one, if it stands at the first.
+    pub fn pass(&mut self, text: &str, from: usize, to: usize) -> bool
+        ensures { MatchBool result ((self.old ≡ drop from text.now) × (self.new ≡ drop to text.now))
+            (self.new ≡ self.old) }
+    {
+        if self.at != from || to < from || to > text.len() || !self.is_at(text, from) {
+            return false;
+        }
+        self.at = to;
+        true
     }
 
     /// The first byte of the next lexeme, to which the cursor goes, or a space at the end.

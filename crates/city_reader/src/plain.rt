@@ -24,7 +24,7 @@ pub enum Place {
 }
 
 impl Place {
-    fn is(self, other: Place) -> bool
+    pub fn is(self, other: Place) -> bool
         ensures { IsTrue result → self ≡ other }
     {
         match self {
@@ -218,6 +218,18 @@ impl<'t> PlainReader<'t> {
         ensures { IsTrue result → self.now ≡ tokens_from position text.now }
     {
         self.place.is(position.place) && self.cursor.is_at(text, position.at)
+    }
+
+    /// Passes what stands between two positions of this text, if it stands at the first.
+    pub fn pass(&mut self, text: &str, from: Position, to: Position) -> bool
+        ensures { MatchBool result
+            ((self.old ≡ tokens_from from text.now) × (self.new ≡ tokens_from to text.now)) (self.new ≡ self.old) }
+    {
+        if !self.place.is(from.place) || !self.cursor.pass(text, from.at, to.at) {
+            return false;
+        }
+        self.place = to.place;
+        true
     }
 
     #[inline(always)]

@@ -1,4 +1,6 @@
 //! Where a text is read on.
+ghost use Rattle.std.specs.Prelude.{◌≡◌, IsTrue};
+
 use crate::plain::Place;
 
 /// A place in a text from which it can be read on: a byte, and what the text may go on with there.
@@ -15,6 +17,13 @@ impl Position {
             at,
             place: Place::AfterComma,
         }
+    }
+
+    /// Whether it is this position.
+    pub fn is(self, other: Position) -> bool
+        ensures { IsTrue result → self ≡ other }
+    {
+        self.at == other.at && self.place.is(other.place)
     }
 
     /// The byte.

@@ -85,6 +85,17 @@ impl<'t> Reader<'t> {
         }
     }
 
+    /// Passes what stands between two positions of this text, if this reader stands at the first.
+    pub fn pass(&mut self, text: &str, from: Position, to: Position) -> bool
+        ensures { MatchBool result
+            ((self.old ≡ tokens_from from text.now) × (self.new ≡ tokens_from to text.now)) (self.new ≡ self.old) }
+    {
+        match &mut self.source {
+            Source::Plain(reader) => reader.pass(text, from, to),
+            Source::Escaped(_) => false,
+        }
+    }
+
     /// The next token; none at the end, and where anything is odd.
     #[inline(always)]
     pub fn next(&mut self) -> Option<Token<'t>>
