@@ -1,9 +1,11 @@
 mod CommandMembers
 mod Conversions
+pub mod Crossing
 pub mod Laws
 mod Members
 pub mod Options
 mod Pairing
+mod Parts
 mod PlacedParts
 pub mod Prelude
 mod Reading

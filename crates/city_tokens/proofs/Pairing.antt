@@ -1,6 +1,6 @@
 -- Lists whose items belong together one by one, and lists written one item after another.
 use Rattle.city_tokens.proofs.Prelude.{List, [], ◌∷◌, ◌++◌, ◌≡◌, ℕ, zero, suc, ◌<◌, drop, take, length, get_or, refl}
-use Rattle.city_tokens.proofs.Prelude.{ap, arith, Pairs, slice_set}
+use Rattle.city_tokens.proofs.Prelude.{ap, arith, AllByRecursion, Pairs, slice_set}
 
 -- both grow by one at their ends
 pub pairs_push : {A B : Type 0} (R : A → B → Type 0) (xs : List A) (ys : List B) (x : A) (y : B) → Pairs R xs ys → R x y
@@ -16,6 +16,12 @@ pub pairs_over : {A B C : Type 0} (P : A → B → Type 0) (Q : A → C → Type
 pairs_over P Q R one [] [] [] p q = tt
 pairs_over P Q R one (x ∷ xs) (y ∷ ys) (z ∷ zs) p q = (one x y z p.0 q.0, pairs_over P Q R one xs ys zs p.1 q.1)
 pairs_over P Q R one _ _ _ p q = search
+
+-- what holds at each place holds of each item
+pub each_given : {A : Type 0} (P : A → Type 0) (xs : List A) → ((i : ℕ) (d : A) → i < length xs → P (get_or xs i d))
+    → AllByRecursion P xs
+each_given P [] h = tt
+each_given P (x ∷ xs) h = (h 0 x (omega arith), each_given P xs (λ i d less. h (suc i) d (omega (arith, less))))
 
 -- the next item is written
 pub item_written : {A : Type 0} (R : A → A → Type 0) (i : ℕ) (start done : List A) (x y : A)

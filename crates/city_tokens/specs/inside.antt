@@ -4,7 +4,10 @@ pub mod Faultless
 pub mod Frames
 pub mod Geometries
 pub mod Objects
+pub mod Parts
+pub mod Pieces
 pub mod Positions
+pub mod Runs
 pub mod ScriptItems
 pub mod Scripts
 pub mod Standing

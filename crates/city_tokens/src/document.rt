@@ -12,6 +12,7 @@ ghost use Rattle.city_tokens.specs.tree.Texts.{HasTree};
 ghost use Rattle.city_tokens.specs.inside.Tops.{IsTopSoFar, IsTop, IsCity};
 
 use crate::frame::frame_of_rest;
+use crate::in_pieces::top_in_pieces;
 use crate::list::FromTokens;
 use crate::object::UnplacedObject;
 use crate::objects::read_objects;
@@ -131,13 +132,16 @@ pub fn streamed_city(alloc: Global, bytes: &[u8]) -> Option<City>
 
 /// The same, which so many threads read in pieces.
 pub fn streamed_city_by<R: Threads + Sync>(
-    _rt: &R,
+    rt: &R,
     alloc: Global,
     bytes: &[u8],
-    _pieces: Pieces,
+    pieces: Pieces,
 ) -> Option<City>
     ensures { IfSome result (λ c. (d : Data) × HasTree bytes.now d × (is_integral d ≡ true)
         × (city_of d ≡ Some c) × IsFaultless (object_at c.1)) }
 {
+    if let Some(top) = top_in_pieces(rt, alloc, bytes, pieces) {
+        return city_of(alloc, top.parts, top.rest);
+    }
     streamed_city(alloc, bytes)
 }

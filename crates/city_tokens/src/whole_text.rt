@@ -12,7 +12,7 @@ use json::Scratch;
 use std::alloc::Global;
 
 /// How deep a text's arrays and objects may nest.
-const DEPTH: usize = 127;
+pub const DEPTH: usize = 127;
 
 /// What stands for all the tokens.
 fn read_tokens<T: FromTokens>(alloc: Global, reader: &mut Reader<'_>) -> Option<T>

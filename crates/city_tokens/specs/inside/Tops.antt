@@ -8,6 +8,7 @@ use Rattle.city_model.specs.inside.Faultless.{IsFaultless}
 use Rattle.city_model.specs.Members.{without, AreOrdered}
 use Rattle.city_tokens.specs.declared.document.Top.{Top}
 use Rattle.city_tokens.specs.declared.document.TopParts.{TopParts}
+use Rattle.city_tokens.specs.declared.in_pieces.TopInPieces.{TopInPieces}
 use Rattle.city_tokens.specs.document.Cities.{city_of}
 use Rattle.city_tokens.specs.inside.Objects.{AreObjects}
 use Rattle.city_tokens.specs.inside.Positions.{IsVertex}
@@ -18,6 +19,10 @@ pub record IsTopSoFar (parts : TopParts) (found kept : Members) : Type 0 where
   pub vertices : IsSlot (IsArrayOf IsVertex) parts.vertices (get_member (codes "vertices") found)
   pub ordered : AreOrdered found
   pub extra : kept ≡ without (codes "vertices") (without (codes "CityObjects") found)
+
+-- what is read beforehand stands for nothing of itself
+abbrev pub IsTopInPieces : TopInPieces → Members → Members → Type 0
+IsTopInPieces top found kept = IsTopSoFar top.parts found kept
 
 abbrev pub IsTop : Top → Data → Type 0
 IsTop top d = (found : Members) × (d ≡ object found) × IsTopSoFar top.parts found (members_view top.rest.entries)

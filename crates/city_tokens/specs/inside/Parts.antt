@@ -1,0 +1,23 @@
+-- What stands many times, one after another, in a text.
+use Rattle.std.specs.Prelude.{◌≡◌, ℕ, List, [], ◌∷◌, Some}
+use Rattle.json.specs.Token.{Token}
+use Rattle.json.specs.Json.{read_key}
+use Rattle.city_model.specs.declared.object.Object.{Object}
+use Rattle.city_tokens.specs.declared.vertices.Vertex.{Vertex}
+use Rattle.city_tokens.specs.inside.Objects.{IsObject}
+use Rattle.city_tokens.specs.inside.Positions.{IsVertex}
+use Rattle.city_tokens.specs.inside.Standing.{IsReadAs}
+
+-- the tokens begin with these, one after another, and `new` are left
+abbrev pub AreNext : {A : Type 0} → (A → List Token → List Token → Type 0) → List A → List Token → List Token → Type 0
+AreNext R [] old new = old ≡ new
+AreNext R (x ∷ xs) old new = (next : List Token) × R x old next × AreNext R xs next new
+
+-- the tokens begin with a member whose name is the id and whose value is the object
+abbrev pub IsNextObject : List ℕ × Object → List Token → List Token → Type 0
+IsNextObject e old new =
+    (after : List Token) × (read_key old ≡ Some (Some e.0, after)) × IsReadAs IsObject e.1 125 after new
+
+-- the tokens begin with a vertex
+abbrev pub IsNextVertex : Vertex → List Token → List Token → Type 0
+IsNextVertex v old new = IsReadAs IsVertex v 125 old new

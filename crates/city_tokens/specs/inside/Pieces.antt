@@ -1,0 +1,22 @@
+-- What one worker reads, and what it stands for.
+use Rattle.std.specs.Prelude.{◌≡◌, ◌++◌, ℕ, List, Option, Some, None}
+use Rattle.json.specs.Token.{Token}
+use Rattle.city_reader.specs.Positions.{tokens_from}
+use Rattle.city_tokens.specs.declared.piece.Run.{Run}
+use Rattle.city_tokens.specs.declared.piece.Piece.{Piece}
+use Rattle.city_tokens.specs.inside.Parts.{AreNext, IsNextObject, IsNextVertex}
+
+-- the parts stand in the text between the two positions
+abbrev pub IsRun : {A : Type 0} → (A → List Token → List Token → Type 0) → List ℕ → Run A → Type 0
+IsRun R text r = AreNext R r.parts.items (tokens_from r.from text) (tokens_from r.to text)
+
+-- the next run was put after the old one, if an answer says so; nothing changed otherwise
+abbrev pub IsAppended : {A : Type 0} → Option (Unit {0}) → Run A → Run A → Run A → Type 0
+IsAppended None old next new =
+    (new.from ≡ old.from) × (new.to ≡ old.to) × (new.parts.items ≡ old.parts.items)
+IsAppended (Some _) old next new =
+    (new.from ≡ old.from) × (old.to ≡ next.from) × (new.to ≡ next.to)
+    × (new.parts.items ≡ old.parts.items ++ next.parts.items)
+
+abbrev pub IsPiece : List ℕ → Piece → Type 0
+IsPiece text p = IsRun IsNextObject text p.objects × IsRun IsNextVertex text p.vertices

@@ -1,0 +1,263 @@
+//! Guesses where a text can be cut into pieces. A wrong guess costs time, and nothing else: what is read of the pieces
+//! is taken only where one ends just where the next one begins.
+
+use crate::pieces::Pieces;
+use city_reader::Position;
+use memchr::{memchr, memmem};
+use std::alloc::Global;
+
+/// How many bytes are searched for a cut.
+const WINDOW: usize = 131_072;
+
+/// Where pieces of a text begin and end, each right behind a comma.
+#[derive(Drop)]
+pub struct Cuts {
+    /// Between objects.
+    pub objects: Vec<Position>,
+    /// Between vertices.
+    pub vertices: Vec<Position>,
+}
+
+/// How what stands on both sides of a comma looks.
+#[derive(Clone, Copy, Drop)]
+struct Sides {
+    /// The byte that ends what stands before it.
+    end: u8,
+    /// The byte that begins what stands after it.
+    start: u8,
+}
+
+/// Between members that are objects.
+const MEMBERS: Sides = Sides {
+    end: b'}',
+    start: b'"',
+};
+
+/// Between items that are arrays.
+const ITEMS: Sides = Sides {
+    end: b']',
+    start: b'[',
+};
+
+/// Part of a text that has what is cut.
+#[derive(Clone, Copy, Drop)]
+struct Stretch {
+    start: usize,
+    end: usize,
+    /// How many brackets are open where it ends.
+    open: i64,
+}
+
+/// What a walk over bytes knows.
+#[derive(Drop)]
+struct Walk {
+    in_string: bool,
+    /// How many brackets more are open than at its start.
+    open: i64,
+    /// The last byte that is no blank.
+    last: u8,
+}
+
+impl Walk {
+    fn new() -> Walk {
+        Walk {
+            in_string: false,
+            open: 0,
+            last: b' ',
+        }
+    }
+
+    /// Passes a byte; whether it is a comma behind such an end.
+    fn pass(&mut self, byte: u8, end: u8) -> bool {
+        if byte == b'"' {
+            self.in_string = !self.in_string;
+        } else if !self.in_string {
+            match byte {
+                b'{' | b'[' => self.open = self.open.saturating_add(1),
+                b'}' | b']' => self.open = self.open.saturating_sub(1),
+                b',' => return self.last == end,
+                _ => {}
+            }
+        }
+        if byte > b' ' {
+            self.last = byte;
+        }
+        false
+    }
+}
+
+/// Whether the bytes begin with this byte, but for blanks.
+fn begins_with(bytes: &[u8], start: u8) -> bool {
+    bytes.iter().find(|byte| **byte > b' ').copied() == Some(start)
+}
+
+/// Whether a comma, behind which these bytes stand, has such a start on its right side.
+fn is_followed(window: &[u8], comma: usize, start: u8) -> bool {
+    match window.get(comma.saturating_add(1)..) {
+        Some(after) => begins_with(after, start),
+        None => false,
+    }
+}
+
+/// How many brackets more are open at the end of the bytes than at their start.
+fn opened(window: &[u8]) -> i64 {
+    let mut walk = Walk::new();
+    for byte in window {
+        walk.pass(*byte, b',');
+    }
+    walk.open
+}
+
+/// The first comma of such sides where so many brackets are open.
+fn first_at(window: &[u8], sides: Sides, open: i64) -> Option<usize> {
+    let mut walk = Walk::new();
+    for (i, byte) in window.iter().enumerate() {
+        if walk.pass(*byte, sides.end) && walk.open == open && is_followed(window, i, sides.start) {
+            return Some(i);
+        }
+    }
+    None
+}
+
+/// The first comma of such sides of those where the fewest brackets are open.
+fn first_outermost(window: &[u8], sides: Sides) -> Option<usize> {
+    let mut walk = Walk::new();
+    let mut found = None;
+    let mut least = i64::MAX;
+    for (i, byte) in window.iter().enumerate() {
+        if walk.pass(*byte, sides.end) && walk.open < least && is_followed(window, i, sides.start) {
+            found = Some(i);
+            least = walk.open;
+        }
+    }
+    found
+}
+
+/// The place behind the first name in the bytes. A quote with a colon behind it ends a name, for no text is escaped.
+fn after_name(window: &[u8]) -> Option<usize> {
+    let at = memmem::find(window, b"\":")?;
+    Some(at.saturating_add(1))
+}
+
+/// Where the bytes surely stand outside of a string.
+fn outside(window: &[u8], sides: Sides) -> Option<usize> {
+    if sides.start == b'"' {
+        after_name(window)
+    } else {
+        Some(0)
+    }
+}
+
+/// The bytes from a place on, as many as are searched.
+fn window_at(bytes: &[u8], stretch: Stretch, at: usize) -> Option<&[u8]> {
+    bytes.get(at..stretch.end.min(at.saturating_add(WINDOW)))
+}
+
+/// The cut behind the first part.
+fn first_cut(bytes: &[u8], stretch: Stretch, sides: Sides) -> Option<usize> {
+    let window = window_at(bytes, stretch, stretch.start)?;
+    let comma = first_at(window, sides, 0)?;
+    Some(stretch.start.saturating_add(comma).saturating_add(1))
+}
+
+/// A cut soon behind a place.
+fn next_cut(bytes: &[u8], stretch: Stretch, sides: Sides, near: usize) -> Option<usize> {
+    let start = near.saturating_add(outside(window_at(bytes, stretch, near)?, sides)?);
+    let comma = first_outermost(window_at(bytes, stretch, start)?, sides)?;
+    Some(start.saturating_add(comma).saturating_add(1))
+}
+
+/// A cut soon before the end, so that little is left to be read behind the last piece.
+fn last_cut(bytes: &[u8], stretch: Stretch, sides: Sides) -> Option<usize> {
+    let near = stretch.end.saturating_sub(WINDOW);
+    let start = near.saturating_add(outside(window_at(bytes, stretch, near)?, sides)?);
+    let window = bytes.get(start..stretch.end)?;
+    // Two are open between the parts: the top, and what has them.
+    let open = opened(window)
+        .saturating_add(2)
+        .saturating_sub(stretch.open);
+    let comma = first_at(window, sides, open)?;
+    Some(start.saturating_add(comma).saturating_add(1))
+}
+
+/// Keeps a cut that lies behind the others.
+fn keep(cuts: &mut Vec<Position>, cut: Option<usize>) -> Option<()> {
+    let Some(at) = cut else {
+        return Some(());
+    };
+    if cuts.last().is_some_and(|last| last.at() >= at) {
+        return Some(());
+    }
+    cuts.push(Position::after_comma(at)).ok()
+}
+
+/// Cuts of a stretch into so many pieces; fewer where it is short or a cut isn't found, and none without a last one.
+fn cuts_of(
+    alloc: Global,
+    bytes: &[u8],
+    stretch: Stretch,
+    sides: Sides,
+    count: usize,
+) -> Option<Vec<Position>> {
+    let mut cuts = Vec::new(alloc);
+    let step = stretch
+        .end
+        .saturating_sub(stretch.start)
+        .checked_div(count)?;
+    if step < 2 * WINDOW {
+        return Some(cuts);
+    }
+    let Some(last) = last_cut(bytes, stretch, sides) else {
+        return Some(cuts);
+    };
+    keep(&mut cuts, first_cut(bytes, stretch, sides))?;
+    for i in 1..count {
+        let near = stretch.start.saturating_add(step.saturating_mul(i));
+        keep(&mut cuts, next_cut(bytes, stretch, sides, near))?;
+    }
+    keep(&mut cuts, Some(last))?;
+    Some(cuts)
+}
+
+/// The stretch of the member whose name stands here; `other` is where the other member's name does.
+fn stretch_of(bytes: &[u8], name: usize, other: usize, bracket: u8) -> Option<Stretch> {
+    let before = memchr(bracket, bytes.get(name..)?)?;
+    let start = name.saturating_add(before).saturating_add(1);
+    if name < other {
+        Some(Stretch {
+            start,
+            end: other,
+            open: 1,
+        })
+    } else {
+        Some(Stretch {
+            start,
+            end: bytes.len(),
+            open: 0,
+        })
+    }
+}
+
+/// How many pieces are worth it.
+fn count_of(bytes: &[u8], pieces: Pieces) -> usize {
+    let most = bytes.len().checked_div(pieces.least);
+    pieces.count.min(most.unwrap_or(pieces.count))
+}
+
+/// Where a document can be cut; none where it is too short, or has an escape, or doesn't look like one.
+pub fn cuts_of_document(alloc: Global, text: &str, pieces: Pieces) -> Option<Cuts> {
+    let bytes = text.as_bytes();
+    let count = count_of(bytes, pieces);
+    if count < 2 || memchr(b'\\', bytes).is_some() {
+        return None;
+    }
+    let objects = memmem::find(bytes, b"\"CityObjects\"")?;
+    let vertices = memmem::rfind(bytes, b"\"vertices\"")?;
+    let of_objects = stretch_of(bytes, objects, vertices, b'{')?;
+    let of_vertices = stretch_of(bytes, vertices, objects, b'[')?;
+    let cuts = Cuts {
+        objects: cuts_of(alloc, bytes, of_objects, MEMBERS, count)?,
+        vertices: cuts_of(alloc, bytes, of_vertices, ITEMS, count)?,
+    };
+    Some(cuts)
+}

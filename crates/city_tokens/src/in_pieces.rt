@@ -1,0 +1,181 @@
+//! Reads documents of which several workers read pieces beforehand.
+ghost use Rattle.std.specs.Prelude.{◌≡◌, [], List, true, IfSome};
+ghost use Rattle.serde_json.specs.Data.{Data, Members};
+ghost use Rattle.serde_json.specs.View.{items_of};
+ghost use Rattle.city_model.specs.Integral.{is_integral};
+ghost use Rattle.city_tokens.specs.inside.Objects.{AreObjects, IsListing};
+ghost use Rattle.city_tokens.specs.inside.Positions.{IsVertex};
+ghost use Rattle.city_tokens.specs.inside.Standing.{Pairs, IsArrayOf, IsReadAs};
+ghost use Rattle.city_tokens.specs.inside.Taken.{IsRestOfArray, IsRestOfObject};
+ghost use Rattle.city_tokens.specs.inside.Tops.{IsTop, IsTopInPieces};
+ghost use Rattle.city_tokens.specs.tree.Texts.{HasTree};
+
+use crate::cuts::cuts_of_document;
+use crate::document::{Top, TopParts};
+use crate::limits::MAX_TEXT;
+use crate::list::FromTokens;
+use crate::object::{UnplacedObject, read_object};
+use crate::own::{Own, read_object as read_members};
+use crate::part::PART_DEPTH;
+use crate::pieces::Pieces;
+use crate::runs::Runs;
+use crate::text::text_of;
+use crate::vertices::Vertex;
+use crate::whole_text::DEPTH;
+use city_model::sequence::Sequence;
+use city_model::text::Id;
+use city_reader::Reader;
+use json::{Scratch, Token};
+use std::alloc::Global;
+use std::thread::Threads;
+
+/// Reads the objects up to the brace that closes them, but for those that were read beforehand.
+fn rest_of_objects(
+    alloc: Global,
+    reader: &mut Reader<'_>,
+    runs: &mut Runs<'_>,
+) -> Option<Sequence<(Id, UnplacedObject)>>
+    ensures { IfSome result (λ es. (found : Members)
+        × IsRestOfObject 125 reader.old found reader.new × IsListing es found) }
+{
+    let mut objects = Vec::new(alloc);
+    'objects: while let Some(name) = reader.next_key()? {
+        let id = text_of(alloc, name)?;
+        let object = read_object(alloc, reader, PART_DEPTH)?;
+        objects.push((id, object)).ok()?;
+        runs.pass_objects(alloc, reader, &mut objects)?;
+    }
+    Some(Sequence::from_vec(objects))
+}
+
+/// Reads the vertices up to the bracket that closes them, but for those that were read beforehand.
+fn rest_of_vertices(
+    alloc: Global,
+    reader: &mut Reader<'_>,
+    runs: &mut Runs<'_>,
+) -> Option<Sequence<Vertex>>
+    ensures { IfSome result (λ vs. (ds : List Data) × Pairs IsVertex vs ds
+        × IsRestOfArray 125 reader.old (items_of ds) reader.new) }
+{
+    let mut vertices = Vec::new(alloc);
+    'vertices: while !reader.take_end_array() {
+        let vertex = Vertex::from_tokens(alloc, reader, PART_DEPTH)?;
+        vertices.push(vertex).ok()?;
+        runs.pass_vertices(alloc, reader, &mut vertices)?;
+    }
+    Some(Sequence::from_vec(vertices))
+}
+
+/// The next value, an object whose members are city objects.
+fn read_objects(
+    alloc: Global,
+    reader: &mut Reader<'_>,
+    depth: usize,
+    runs: &mut Runs<'_>,
+) -> Option<Sequence<(Id, UnplacedObject)>>
+    ensures { IfSome result (λ es. IsReadAs AreObjects es depth reader.old reader.new) }
+{
+    let Token::BeginObject = reader.next()? else {
+        return None;
+    };
+    // The pieces were read as what stands so deep.
+    if depth != PART_DEPTH + 1 {
+        return None;
+    }
+    rest_of_objects(alloc, reader, runs)
+}
+
+/// The next value, an array of vertices.
+fn read_vertices(
+    alloc: Global,
+    reader: &mut Reader<'_>,
+    depth: usize,
+    runs: &mut Runs<'_>,
+) -> Option<Sequence<Vertex>>
+    ensures { IfSome result (λ vs. IsReadAs (IsArrayOf IsVertex) vs depth reader.old reader.new) }
+{
+    let Token::BeginArray = reader.next()? else {
+        return None;
+    };
+    if depth != PART_DEPTH + 1 {
+        return None;
+    }
+    rest_of_vertices(alloc, reader, runs)
+}
+
+/// What was read of the members of a document's top so far, and of its objects and vertices beforehand.
+#[derive(Drop)]
+pub struct TopInPieces<'t> {
+    pub parts: TopParts,
+    pub runs: Runs<'t>,
+}
+
+impl<'t> Own for TopInPieces<'t> {
+    ghost stands = { IsTopInPieces };
+
+    fn take(
+        &mut self,
+        alloc: Global,
+        name: &str,
+        reader: &mut Reader<'_>,
+        depth: usize,
+    ) -> Option<bool> {
+        match name {
+            "CityObjects" => {
+                let objects = read_objects(alloc, reader, depth, &mut self.runs)?;
+                self.parts.objects = Some(objects);
+            }
+            "vertices" => {
+                let vertices = read_vertices(alloc, reader, depth, &mut self.runs)?;
+                self.parts.vertices = Some(vertices);
+            }
+            _ => return Some(false),
+        }
+        Some(true)
+    }
+}
+
+/// The top of a document that all the tokens are.
+fn read_top(alloc: Global, reader: &mut Reader<'_>, runs: Runs<'_>) -> Option<Top>
+    ensures { IfSome result (λ top. IsReadAs IsTop top 127 reader.old []) }
+{
+    let start = TopInPieces {
+        parts: TopParts {
+            objects: None,
+            vertices: None,
+        },
+        runs,
+    };
+    let (top, rest) = read_members(alloc, reader, DEPTH, start)?;
+    if !reader.is_at_end() {
+        return None;
+    }
+    Some(Top {
+        parts: top.parts,
+        rest,
+    })
+}
+
+/// The top of a document, of which so many threads read pieces; none where anything about the text is odd, where it can
+/// not be cut into pieces, or memory runs out.
+pub fn top_in_pieces<R: Threads + Sync>(
+    rt: &R,
+    alloc: Global,
+    bytes: &[u8],
+    pieces: Pieces,
+) -> Option<Top>
+    ensures { IfSome result (λ top. (d : Data) × HasTree bytes.now d × (is_integral d ≡ true) × IsTop top d) }
+{
+    if bytes.len() > MAX_TEXT {
+        return None;
+    }
+    let Ok(text) = simdutf8::compat::from_utf8(bytes) else {
+        return None;
+    };
+    let cuts = cuts_of_document(alloc, text, pieces)?;
+    let runs = Runs::read(rt, alloc, text, &cuts)?;
+    let mut scratch = Scratch::new(alloc);
+    let mut reader = Reader::new(text, &mut scratch)?;
+    let top = read_top(alloc, &mut reader, runs)?;
+    Some(top)
+}

@@ -1,0 +1,65 @@
+//! Reads parts that stand one after another between two positions of a text: objects by their ids, or vertices.
+ghost use Rattle.std.specs.Prelude.{◌≡◌, ◌<◌, List, length, IfSome};
+ghost use Rattle.json.specs.Token.{Token as SpecToken};
+ghost use Rattle.city_reader.specs.Positions.{tokens_from};
+ghost use Rattle.city_tokens.specs.inside.Parts.{AreNext, IsNextObject, IsNextVertex};
+
+use crate::list::FromTokens;
+use crate::object::{UnplacedObject, read_object};
+use crate::text::text_of;
+use crate::vertices::Vertex;
+use city_model::text::Id;
+use city_reader::{Position, Reader};
+use std::alloc::Global;
+
+/// How deep a city object, or a vertex, may nest.
+pub const PART_DEPTH: usize = 125;
+
+/// What stands many times, one after another, in a text.
+pub trait Part: Sized + Drop {
+    /// The tokens begin with it, and those are left.
+    ghost stands: { Self → List SpecToken → List SpecToken → Type 0 };
+
+    /// The next one.
+    fn next_part(alloc: Global, reader: &mut Reader<'_>) -> Option<Self>
+        ensures stands { IfSome result (λ x. stands x reader.old reader.new) }
+        ensures shorter { IfSome result (λ _. length reader.new < length reader.old) };
+}
+
+impl Part for (Id, UnplacedObject) {
+    ghost stands = { IsNextObject };
+
+    fn next_part(alloc: Global, reader: &mut Reader<'_>) -> Option<(Id, UnplacedObject)> {
+        let name = reader.next_key()??;
+        let id = text_of(alloc, name)?;
+        let object = read_object(alloc, reader, PART_DEPTH)?;
+        Some((id, object))
+    }
+}
+
+impl Part for Vertex {
+    ghost stands = { IsNextVertex };
+
+    fn next_part(alloc: Global, reader: &mut Reader<'_>) -> Option<Vertex> {
+        Vertex::from_tokens(alloc, reader, PART_DEPTH)
+    }
+}
+
+/// The parts between two positions of a text; none where no part ends at the second.
+pub fn read_between<T: Part>(
+    alloc: Global,
+    text: &str,
+    from: Position,
+    to: Position,
+) -> Option<Vec<T>>
+    ensures { IfSome result
+        (λ ps. AreNext T.stands ps.items (tokens_from from text.now) (tokens_from to text.now)) }
+{
+    let mut reader = Reader::from(text, from)?;
+    let mut parts = Vec::new(alloc);
+    'parts: while !reader.is_at(text, to) {
+        let part = T::next_part(alloc, &mut reader)?;
+        parts.push(part).ok()?;
+    }
+    Some(parts)
+}
