@@ -7,6 +7,7 @@
 //! - `own`: objects some of whose members have places of their own, while the others are kept
 //! - `position`, `vertices`, `boundaries`, `placing`: positions, and the points that take their places
 //! - `geometry`, `object`, `objects`, `document`: what a city is made of, and the city
+//! - `cuts`, `part`, `piece`, `runs`, `in_pieces`: documents of which several workers read pieces
 //! - `body`, `other`, `command`, `script`, `scripts`: bodies, what else commands have, commands and scripts
 //! - `frame`, `triples`: the frame of a document, three whole numbers, both of trees
 //! - `whole_text`, `limits`: whole texts, and how large they may be

@@ -65,6 +65,9 @@ fn read_run<T: Part>(alloc: Global, text: &str, cuts: &[Position], i: usize) -> 
 {
     let from = cut_at(cuts, i);
     let to = cut_at(cuts, i.saturating_add(1));
+    if from.is(to) {
+        return Some(Run::at(alloc, from));
+    }
     let parts = read_between(alloc, text, from, to)?;
     Some(Run { from, to, parts })
 }
