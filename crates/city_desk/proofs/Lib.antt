@@ -7,5 +7,6 @@ pub mod Prelude
 pub mod ScriptReads
 pub mod ScriptTurns
 pub mod Shelved
+pub mod TextFaults
 pub mod Throughout
 pub mod Youngest
