@@ -1,4 +1,5 @@
 pub mod ActDone
+pub mod FirstWrites
 pub mod AtOneId
 pub mod ChangeMade
 pub mod CoreFields

@@ -2,6 +2,7 @@
 pub mod Codes
 pub mod Core
 pub mod Ending
+pub mod FirstWrites
 pub mod Images
 pub mod InPlace
 pub mod LogTests

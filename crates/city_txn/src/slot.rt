@@ -1,5 +1,5 @@
 //! Slots of the city: placeholders, and objects put back.
-ghost use Rattle.std.specs.Prelude.{◌≡◌, ℕ, List, None, Some, unwrap_or, OnOk, OnErr, is_none, is_some, true, if◌then◌else◌};
+ghost use Rattle.std.specs.Prelude.{◌≡◌, ℕ, List, None, Some, unwrap_or, IfOk, OnOk, OnErr, is_none, is_some, true, if◌then◌else◌};
 ghost use Rattle.std.specs.Option.{option_or};
 ghost use Rattle.city_model.specs.CityMap.{object_at, changed};
 ghost use Rattle.city_txn.specs.inside.Ending.{left_at_end};
@@ -57,6 +57,17 @@ pub fn swap(city: &mut City, id: Id, object: Object) -> Object
         Ok(None) => unreachable!(),
         Err(_) => unreachable!(),
     }
+}
+
+/// Sets the object of an id, and returns the one that stood there. If memory runs out, the city is unchanged.
+#[tactic(auto, using(crate::proofs::StoreChanged::set_at))]
+pub fn put(city: &mut City, id: Id, object: Object) -> Result<Option<Object>, OutOfMemory>
+    ensures old { IfOk result (λ old. old ≡ object_at city.old.1 id) }
+    ensures after { OnOk result ((q : List ℕ) → object_at city.new.1 q ≡ changed (object_at city.old.1) id (Some object) q) }
+    ensures frame { city.new.0 ≡ city.old.0 }
+    ensures err { OnErr result (city.new ≡ city.old) }
+{
+    city.set(id, object)
 }
 
 /// The object, or a placeholder.

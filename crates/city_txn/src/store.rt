@@ -138,6 +138,23 @@ impl Store {
         self.undo.reserve(&mut self.city, stamp, id)
     }
 
+    /// Reserves for the stamp, which is open, an id that no other has reserved, and writes it: an object, or that
+    /// none is there. If memory runs out, nothing is written.
+    pub fn put(&mut self, stamp: u64, id: Id, object: Option<Object>) -> Result<(), OutOfMemory>
+        requires { MayReserve self.old stamp (same_id id) }
+        ensures touches { Touches stamp (same_id id) self.old self.new }
+        ensures logs { self.new.logs ≡ self.old.logs }
+        ensures writes { (q : List ℕ) → write_of self.new.writes q
+            ≡ (if is_ok result && same_id id q then Some (stamp, object) else write_of self.old.writes q) }
+    {
+        if self.undo.image(&id).is_some() {
+            self.set(stamp, id, object);
+            return Ok(());
+        }
+        self.may_have_orphan = has_orphan_then(self.may_have_orphan, &object);
+        self.undo.write_first(&mut self.city, stamp, &id, object)
+    }
+
     /// Writes an id that the stamp has reserved: an object, or that none is
     /// there. Doesn't allocate.
     pub fn set(&mut self, stamp: u64, id: Id, object: Option<Object>)

@@ -1,9 +1,14 @@
 //! What it takes to end the open transactions: undo images and reservations.
 ghost use Rattle.std.specs.Prelude.{◌≡◌, ◌↔◌, ◌==◌, IsTrue, ℕ, List, [], ◌∷◌, ◌++◌, None, Some, OnOk, OnErr, is_none, is_ok, is_some, true, ◌&&◌, option_copied, option_map, unwrap_or, if◌then◌else◌};
+ghost use Rattle.std.specs.BTreeMap.{IsOrdered};
+ghost use Rattle.std.specs.Cmp.Lexicographic.{slice_cmp};
 ghost use Rattle.std.specs.Option.{option_or};
-ghost use Rattle.city_model.specs.CityMap.{object_at, same_id};
+ghost use Rattle.std.specs.Ordering.{nat_cmp};
+ghost use Rattle.city_model.specs.CityMap.{changed, object_at, same_id};
 ghost use Rattle.city_txn.specs.Placeholder.{placeholder};
+ghost use Rattle.city_txn.specs.declared.ending.End.{End};
 ghost use Rattle.city_txn.specs.inside.Ending.{left_at_end};
+ghost use Rattle.city_txn.specs.inside.FirstWrites.{first_image};
 ghost use Rattle.city_txn.specs.inside.Images.{unwritten_image, written_over, image_unwritten, put_back_at};
 ghost use Rattle.city_txn.specs.inside.Slots.{Became, HasSlot};
 ghost use Rattle.city_txn.specs.inside.UndoState.{image_at, listed_by, reservations_of};
@@ -139,6 +144,98 @@ impl Undo {
             return Err(OutOfMemory);
         };
         Ok(())
+    }
+
+    /// Reserves an id without image for the stamp, and writes it: an object, or that none is there. If memory runs
+    /// out, nothing changes.
+    pub fn write_first(
+        &mut self,
+        city: &mut City,
+        stamp: u64,
+        id: &Id,
+        object: Option<Object>,
+    ) -> Result<(), OutOfMemory>
+        requires { image_at self.old.images id.now ≡ None }
+        ensures became { Became (λ q. is_ok result && same_id id.now q)
+            (λ q. Some (unwrap_or object placeholder))
+            (λ q. Some (first_image stamp (object_at city.old.1 id.now) (is_none object)))
+            city.old city.new self.old.images self.new.images }
+        ensures listed { (t : ℕ) → listed_by self.new.reservations.entries t
+            ≡ (if is_ok result && (stamp == t)
+            then Some (reservations_of self.old.reservations.entries stamp ++ id.now ∷ [])
+            else listed_by self.old.reservations.entries t) }
+    {
+        let Ok(listed) = id.copy(self.alloc) else {
+            return Err(OutOfMemory);
+        };
+        let Ok(()) = self.place_first(city, stamp, id, object) else {
+            return Err(OutOfMemory);
+        };
+        let Ok(()) = push(&mut self.reservations, self.alloc, stamp, listed) else {
+            self.end(city, End::RollBack, id);
+            return Err(OutOfMemory);
+        };
+        Ok(())
+    }
+
+    /// Puts the object, or a placeholder, at an id without image, and what stood there into a new image. If memory
+    /// runs out, nothing changes.
+    #[tactic(auto, using(city_model::proofs::Ids::same_id_true, crate::proofs::StoreChanged::set_at))]
+    fn place_first(
+        &mut self,
+        city: &mut City,
+        stamp: u64,
+        id: &Id,
+        object: Option<Object>,
+    ) -> Result<(), OutOfMemory>
+        requires { image_at self.old.images id.now ≡ None }
+        ensures became { Became (λ q. is_ok result && same_id id.now q)
+            (λ q. Some (unwrap_or object placeholder))
+            (λ q. Some (first_image stamp (object_at city.old.1 id.now) (is_none object)))
+            city.old city.new self.old.images self.new.images }
+        ensures reservations { self.new.reservations ≡ self.old.reservations }
+    {
+        let Ok(key) = id.copy(self.alloc) else {
+            return Err(OutOfMemory);
+        };
+        let Ok(place) = id.copy(self.alloc) else {
+            return Err(OutOfMemory);
+        };
+        let deleted = object.is_none();
+        let standing = slot::standing(self.alloc, object);
+        let Ok(before) = slot::put(city, place, standing) else {
+            return Err(OutOfMemory);
+        };
+        let image = UndoImage {
+            by: stamp,
+            unwritten: false,
+            deleted,
+            before,
+        };
+        self.keep_image(city, key, image)
+    }
+
+    /// Keeps the image of an id that has a slot. If memory runs out, it goes back into the city.
+    #[tactic(auto, using(city_model::proofs::Ids::same_id_true))]
+    fn keep_image(&mut self, city: &mut City, key: Id, image: UndoImage) -> Result<(), OutOfMemory>
+        requires { HasSlot city.old key }
+        ensures objects { (q : List ℕ) → object_at city.new.1 q
+            ≡ (if is_ok result then object_at city.old.1 q
+            else changed (object_at city.old.1) key (left_at_end End.RollBack (object_at city.old.1 key) (Some image)) q) }
+        ensures frame { city.new.0 ≡ city.old.0 }
+        ensures images { (q : List ℕ) → image_at self.new.images q
+            ≡ (if is_ok result && same_id key q then Some image else image_at self.old.images q) }
+        ensures ordered { IsOrdered (slice_cmp nat_cmp) self.new.images }
+        ensures reservations { self.new.reservations ≡ self.old.reservations }
+    {
+        match self.images.insert(key, image) {
+            Ok(_) => Ok(()),
+            Err(refused) => {
+                let (key, image) = refused.value;
+                slot::settle(city, key, End::RollBack, image);
+                Err(OutOfMemory)
+            }
+        }
     }
 
     /// Puts the object, or a placeholder where none is to be there, at a reserved id of the city, and

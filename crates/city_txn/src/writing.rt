@@ -1,5 +1,5 @@
 //! Writes of a command: first all its ids are reserved and noted, then all are written.
-ghost use Rattle.std.specs.Prelude.{◌≡◌, ℕ, List, Some, true, OnOk, OnErr, if◌then◌else◌};
+ghost use Rattle.std.specs.Prelude.{◌≡◌, ℕ, List, Some, length, true, OnOk, OnErr, if◌then◌else◌};
 ghost use Rattle.city_model.specs.CityMap.{CityMap, same_id};
 ghost use Rattle.city_model.specs.Writing.{write_in};
 ghost use Rattle.city_model.specs.inside.Plans.{AreOf};
@@ -21,6 +21,53 @@ use city_model::text::Id;
 impl Store {
     /// Writes all that is planned, or nothing if memory runs out. Marks stay as they are.
     pub fn write_all(&mut self, stamp: u64, writes: Writes) -> Result<(), OutOfMemory>
+        requires { MayReserve self.old stamp (plans writes) }
+        ensures touches { Touches stamp (plans writes) self.old self.new }
+        ensures marks { (store_written self.new stamp).1 ≡ (store_written self.old stamp).1 }
+        ensures ok { OnOk result ((f : CityMap) → AreOf f writes → (id : List ℕ) →
+            write_of self.new.writes id
+            ≡ (if plans writes id then Some (stamp, f id) else write_of self.old.writes id)) }
+        ensures err { OnErr result ((id : List ℕ) → write_of self.new.writes id ≡ write_of self.old.writes id) }
+    {
+        if self.writes_once(stamp, writes.as_slice()) {
+            self.write_once(stamp, writes.into_vec())
+        } else {
+            self.write_each(stamp, writes)
+        }
+    }
+
+    /// Whether one id is planned, in a transaction without marks: so nothing is to be noted.
+    fn writes_once(&self, stamp: u64, writes: &[(Id, Option<Object>)]) -> bool
+        ensures one { result ≡ true → length writes.now ≡ 1 }
+        ensures unmarked { result ≡ true → length (log_of self.now.logs stamp) ≡ 0 }
+    {
+        writes.len() == 1 && self.logs().is_empty(stamp)
+    }
+
+    /// Writes the only one that is planned, in a transaction without marks: reserved and written at once.
+    fn write_once(
+        &mut self,
+        stamp: u64,
+        mut writes: Vec<(Id, Option<Object>)>,
+    ) -> Result<(), OutOfMemory>
+        requires may { MayReserve self.old stamp (plans writes.items) }
+        requires one { length writes.items ≡ 1 }
+        requires unmarked { length (log_of self.old.logs stamp) ≡ 0 }
+        ensures touches { Touches stamp (plans writes.items) self.old self.new }
+        ensures marks { (store_written self.new stamp).1 ≡ (store_written self.old stamp).1 }
+        ensures ok { OnOk result ((f : CityMap) → AreOf f writes.items → (id : List ℕ) →
+            write_of self.new.writes id
+            ≡ (if plans writes.items id then Some (stamp, f id) else write_of self.old.writes id)) }
+        ensures err { OnErr result ((id : List ℕ) → write_of self.new.writes id ≡ write_of self.old.writes id) }
+    {
+        match writes.pop() {
+            Some((id, object)) => self.put(stamp, id, object),
+            None => Ok(()),
+        }
+    }
+
+    /// Reserves and notes all ids that are planned, and then writes them.
+    fn write_each(&mut self, stamp: u64, writes: Writes) -> Result<(), OutOfMemory>
         requires { MayReserve self.old stamp (plans writes) }
         ensures touches { Touches stamp (plans writes) self.old self.new }
         ensures marks { (store_written self.new stamp).1 ≡ (store_written self.old stamp).1 }

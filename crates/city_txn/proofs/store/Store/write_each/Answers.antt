@@ -4,8 +4,8 @@ use Rattle.city_txn.specs.UndoLog.{Written}
 use Rattle.city_txn.proofs.PlanWritten.{unnoted_stays, written_planned}
 use Rattle.city_txn.proofs.Touched.{touches_on, touches_writes}
 use Rattle.city_txn.proofs.UndoLogs.{marked_same}
-use Rattle.city_txn.proofs.store.Store.write_all.Goals.{After-make_ready}
-use Rattle.city_txn.proofs.store.Store.write_all.Goals as goal
+use Rattle.city_txn.proofs.store.Store.write_each.Goals.{After-make_ready}
+use Rattle.city_txn.proofs.store.Store.write_each.Goals as goal
 
 ready : (c : After-make_ready) → Touches c.args.stamp (plans c.args.writes) c.args.self.now c.make_ready.new.self
 ready c =
