@@ -1,8 +1,8 @@
 pub mod ActDone
-pub mod FirstWrites
 pub mod AtOneId
 pub mod ChangeMade
 pub mod CoreFields
+pub mod FirstWrites
 pub mod OneIdChanged
 pub mod PerformDone
 pub mod PlanWritten
