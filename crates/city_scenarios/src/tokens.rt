@@ -1,12 +1,12 @@
 //! The verb `tokens`: whether a text is read from its tokens.
 use crate::pieces::pieces_of;
 use crate::written::Written;
-use city_tokens::{streamed_city, streamed_city_by, streamed_scripts};
+use city_tokens::{city_in_pieces, streamed_city, streamed_scripts};
 use std::alloc::Global;
 use std::thread::Threads;
 
-/// Answers whether a text, which is a `document`, at once or in pieces, or `scripts`, is `read` from its tokens, or
-/// `left` to be read from its tree.
+/// Answers whether a text, which is a `document` or `scripts`, is `read` from its tokens, or `left` to be read from its
+/// tree. Of a document in pieces, whether it is read so, or left to be read at once.
 pub fn play_tokens<T: Threads + Sync>(
     rt: &T,
     alloc: Global,
@@ -18,7 +18,7 @@ pub fn play_tokens<T: Threads + Sync>(
         "document" => streamed_city(alloc, text).is_some(),
         "scripts" => streamed_scripts(alloc, text).is_some(),
         _ => match kind.strip_prefix("document ") {
-            Some(pieces) => streamed_city_by(rt, alloc, text, pieces_of(pieces)).is_some(),
+            Some(pieces) => city_in_pieces(rt, alloc, text, pieces_of(pieces)).is_some(),
             None => return answer.add_line("no such text"),
         },
     };

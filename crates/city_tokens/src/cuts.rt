@@ -119,6 +119,18 @@ fn first_at(window: &[u8], sides: Sides, open: i64) -> Option<usize> {
     None
 }
 
+/// The last comma of such sides where so many brackets are open.
+fn last_at(window: &[u8], sides: Sides, open: i64) -> Option<usize> {
+    let mut walk = Walk::new();
+    let mut found = None;
+    for (i, byte) in window.iter().enumerate() {
+        if walk.pass(*byte, sides.end) && walk.open == open && is_followed(window, i, sides.start) {
+            found = Some(i);
+        }
+    }
+    found
+}
+
 /// The first comma of such sides of those where the fewest brackets are open.
 fn first_outermost(window: &[u8], sides: Sides) -> Option<usize> {
     let mut walk = Walk::new();
@@ -167,16 +179,16 @@ fn next_cut(bytes: &[u8], stretch: Stretch, sides: Sides, near: usize) -> Option
     Some(start.saturating_add(comma).saturating_add(1))
 }
 
-/// A cut soon before the end, so that little is left to be read behind the last piece.
+/// The cut before the last part.
 fn last_cut(bytes: &[u8], stretch: Stretch, sides: Sides) -> Option<usize> {
-    let near = stretch.end.saturating_sub(WINDOW);
+    let near = stretch.start.max(stretch.end.saturating_sub(WINDOW));
     let start = near.saturating_add(outside(window_at(bytes, stretch, near)?, sides)?);
     let window = bytes.get(start..stretch.end)?;
     // Two are open between the parts: the top, and what has them.
     let open = opened(window)
         .saturating_add(2)
         .saturating_sub(stretch.open);
-    let comma = first_at(window, sides, open)?;
+    let comma = last_at(window, sides, open)?;
     Some(start.saturating_add(comma).saturating_add(1))
 }
 
@@ -204,16 +216,18 @@ fn cuts_of(
         .end
         .saturating_sub(stretch.start)
         .checked_div(count)?;
-    if step < 2 * WINDOW {
-        return Some(cuts);
-    }
     let Some(last) = last_cut(bytes, stretch, sides) else {
         return Some(cuts);
     };
-    keep(&mut cuts, first_cut(bytes, stretch, sides))?;
+    // What stands behind the last part may look like parts.
+    let parts = Stretch {
+        end: last,
+        ..stretch
+    };
+    keep(&mut cuts, first_cut(bytes, parts, sides))?;
     for i in 1..count {
         let near = stretch.start.saturating_add(step.saturating_mul(i));
-        keep(&mut cuts, next_cut(bytes, stretch, sides, near))?;
+        keep(&mut cuts, next_cut(bytes, parts, sides, near))?;
     }
     keep(&mut cuts, Some(last))?;
     Some(cuts)

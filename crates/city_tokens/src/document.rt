@@ -130,7 +130,21 @@ pub fn streamed_city(alloc: Global, bytes: &[u8]) -> Option<City>
     city_of(alloc, top.parts, top.rest)
 }
 
-/// The same, which so many threads read in pieces.
+/// The city that a text stands for, of which so many threads read pieces; none also where the text can't be cut.
+pub fn city_in_pieces<R: Threads + Sync>(
+    rt: &R,
+    alloc: Global,
+    bytes: &[u8],
+    pieces: Pieces,
+) -> Option<City>
+    ensures { IfSome result (λ c. (d : Data) × HasTree bytes.now d × (is_integral d ≡ true)
+        × (city_of d ≡ Some c) × IsFaultless (object_at c.1)) }
+{
+    let top = top_in_pieces(rt, alloc, bytes, pieces)?;
+    city_of(alloc, top.parts, top.rest)
+}
+
+/// The city that a text stands for, as `streamed_city` gives it; a large text is read by so many threads, in pieces.
 pub fn streamed_city_by<R: Threads + Sync>(
     rt: &R,
     alloc: Global,
@@ -140,8 +154,8 @@ pub fn streamed_city_by<R: Threads + Sync>(
     ensures { IfSome result (λ c. (d : Data) × HasTree bytes.now d × (is_integral d ≡ true)
         × (city_of d ≡ Some c) × IsFaultless (object_at c.1)) }
 {
-    if let Some(top) = top_in_pieces(rt, alloc, bytes, pieces) {
-        return city_of(alloc, top.parts, top.rest);
+    match city_in_pieces(rt, alloc, bytes, pieces) {
+        Some(city) => Some(city),
+        None => streamed_city(alloc, bytes),
     }
-    streamed_city(alloc, bytes)
 }

@@ -41,7 +41,7 @@ mod value;
 mod vertices;
 mod whole_text;
 
-pub use document::{is_text, streamed_city, streamed_city_by};
+pub use document::{city_in_pieces, is_text, streamed_city, streamed_city_by};
 pub use frame::{frame_of_rest, triple_at};
 pub use limits::{MAX_COMMANDS, MAX_SCRIPTS, MAX_TEXT};
 pub use pieces::Pieces;
