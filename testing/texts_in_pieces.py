@@ -35,12 +35,16 @@ def scenario(number, document):
 
 
 def documents(kind):
-    """Its documents, each once. A file of scenarios is too large a form for the longest."""
+    """Its documents, each once. A file of scenarios is too large a form for the longest.
+
+    A text with a backslash is read at once, so it is also tried with other signs in the place of its escapes.
+    """
     seen = set()
     for document, _ in kind():
-        if document not in seen and len(document) < 1_000_000:
-            seen.add(document)
-            yield document
+        for text in (document, document.replace(b'\\"', b"'").replace(b"\\", b"/")):
+            if text not in seen and len(text) < 1_000_000:
+                seen.add(text)
+                yield text
 
 
 def groups(items, size):
