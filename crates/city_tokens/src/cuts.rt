@@ -258,7 +258,7 @@ fn count_of(bytes: &[u8], pieces: Pieces) -> usize {
     pieces.count.min(most.unwrap_or(pieces.count))
 }
 
-/// Where a document can be cut; none where it is too short, or has an escape, or doesn't look like one.
+/// Where a document can be cut; none where it is too short, has an escape or but one part, or doesn't look like one.
 pub fn cuts_of_document(alloc: Global, text: &str, pieces: Pieces) -> Option<Cuts> {
     let bytes = text.as_bytes();
     let count = count_of(bytes, pieces);
@@ -273,5 +273,8 @@ pub fn cuts_of_document(alloc: Global, text: &str, pieces: Pieces) -> Option<Cut
         objects: cuts_of(alloc, bytes, of_objects, MEMBERS, count)?,
         vertices: cuts_of(alloc, bytes, of_vertices, ITEMS, count)?,
     };
+    if cuts.objects.len() < 2 && cuts.vertices.len() < 2 {
+        return None;
+    }
     Some(cuts)
 }

@@ -130,7 +130,8 @@ pub fn streamed_city(alloc: Global, bytes: &[u8]) -> Option<City>
     city_of(alloc, top.parts, top.rest)
 }
 
-/// The city that a text stands for, of which so many threads read pieces; none also where the text can't be cut.
+/// The city that a text stands for, of which so many threads read pieces; none also where it can't be cut, or was cut
+/// at wrong places.
 pub fn city_in_pieces<R: Threads + Sync>(
     rt: &R,
     alloc: Global,

@@ -147,7 +147,7 @@ fn read_top(alloc: Global, reader: &mut Reader<'_>, runs: Runs<'_>) -> Option<To
         runs,
     };
     let (top, rest) = read_members(alloc, reader, DEPTH, start)?;
-    if !reader.is_at_end() {
+    if !reader.is_at_end() || !top.runs.are_passed() {
         return None;
     }
     Some(Top {
@@ -156,8 +156,8 @@ fn read_top(alloc: Global, reader: &mut Reader<'_>, runs: Runs<'_>) -> Option<To
     })
 }
 
-/// The top of a document, of which so many threads read pieces; none where anything about the text is odd, where it can
-/// not be cut into pieces, or memory runs out.
+/// The top of a document, of which so many threads read pieces; none where anything about the text is odd, where it
+/// can't be cut or is cut at wrong places, or memory runs out.
 pub fn top_in_pieces<R: Threads + Sync>(
     rt: &R,
     alloc: Global,

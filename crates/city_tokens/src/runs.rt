@@ -145,4 +145,9 @@ impl<'t> Runs<'t> {
         vertices.append(&mut run.parts).ok()?;
         Some(())
     }
+
+    /// Whether all that was read beforehand was passed.
+    pub fn are_passed(&self) -> bool {
+        self.read.objects.parts.is_empty() && self.read.vertices.parts.is_empty()
+    }
 }
