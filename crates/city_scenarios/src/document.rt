@@ -14,6 +14,9 @@ use std::thread::Threads;
 /// In how many pieces a document is read where a scenario doesn't say it.
 const PIECES: &str = "2x1 3x1 8x1";
 
+/// A document of so many bytes is read in pieces only where a scenario says it.
+const LARGE: usize = 1_000_000;
+
 /// Answers the canonical text of a document, or why it is refused. Then it is read in each of these pieces; the answer
 /// follows where it is another.
 pub fn play_document<T: Threads + Sync>(
@@ -26,7 +29,11 @@ pub fn play_document<T: Threads + Sync>(
     let mut read = Written::new(alloc);
     add_read(alloc, read_city(alloc, document), &mut read);
     answer.add_written(&read);
-    let pieces = if pieces.is_empty() { PIECES } else { pieces };
+    let pieces = if pieces.is_empty() && document.len() < LARGE {
+        PIECES
+    } else {
+        pieces
+    };
     for word in pieces.split_whitespace() {
         let mut now = Written::new(alloc);
         let city = read_city_by(rt, alloc, document, pieces_of(word));

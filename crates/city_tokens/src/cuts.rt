@@ -172,10 +172,15 @@ fn first_cut(bytes: &[u8], stretch: Stretch, sides: Sides) -> Option<usize> {
     Some(stretch.start.saturating_add(comma).saturating_add(1))
 }
 
-/// A cut soon behind a place.
+/// A cut soon behind a place. The stretch ends behind a comma between parts.
 fn next_cut(bytes: &[u8], stretch: Stretch, sides: Sides, near: usize) -> Option<usize> {
     let start = near.saturating_add(outside(window_at(bytes, stretch, near)?, sides)?);
-    let comma = first_outermost(window_at(bytes, stretch, start)?, sides)?;
+    let window = window_at(bytes, stretch, start)?;
+    let comma = if window.len() < WINDOW {
+        first_at(window, sides, opened(window))?
+    } else {
+        first_outermost(window, sides)?
+    };
     Some(start.saturating_add(comma).saturating_add(1))
 }
 
