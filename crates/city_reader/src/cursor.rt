@@ -56,11 +56,6 @@ impl<'t> Cursor<'t> {
         Some(Cursor { text, at })
     }
 
-    /// At which byte of its text it stands.
-    pub fn at(&self) -> usize {
-        self.at
-    }
-
     /// Whether it stands at this byte of this text. What is left of the texts is compared only where the bytes agree.
     pub fn is_at(&self, text: &str, at: usize) -> bool
         ensures { IsTrue result → self.now ≡ drop at text.now }

@@ -207,13 +207,6 @@ impl<'t> PlainReader<'t> {
         })
     }
 
-    pub fn position(&self) -> Position {
-        Position {
-            at: self.cursor.at(),
-            place: self.place,
-        }
-    }
-
     pub fn is_at(&self, text: &str, position: Position) -> bool
         ensures { IsTrue result → self.now ≡ tokens_from position text.now }
     {

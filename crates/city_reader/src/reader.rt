@@ -67,14 +67,6 @@ impl<'t> Reader<'t> {
         })
     }
 
-    /// Where this reader stands; none in a text with an escape.
-    pub fn position(&self) -> Option<Position> {
-        match &self.source {
-            Source::Plain(reader) => Some(reader.position()),
-            Source::Escaped(_) => None,
-        }
-    }
-
     /// Whether this reader stands at this position of this text.
     pub fn is_at(&self, text: &str, position: Position) -> bool
         ensures { IsTrue result → self.now ≡ tokens_from position text.now }

@@ -63,6 +63,7 @@ fn rest_of_vertices(
         vertices.push(vertex).ok()?;
         runs.pass_vertices(alloc, reader, &mut vertices)?;
     }
+    vertices.shrink_to_fit();
     Some(Sequence::from_vec(vertices))
 }
 

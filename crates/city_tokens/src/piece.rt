@@ -51,11 +51,19 @@ pub struct Piece {
     pub vertices: Run<Vertex>,
 }
 
-/// The cut of this number; the last one where there are fewer.
-pub fn cut_at(cuts: &[Position], i: usize) -> Position {
-    match cuts.get(i).or(cuts.last()) {
+/// The last cut; the beginning of the text where there is none.
+pub fn last_cut(cuts: &[Position]) -> Position {
+    match cuts.last() {
         Some(cut) => *cut,
         None => Position::after_comma(0),
+    }
+}
+
+/// The cut of this number; the last one where there are fewer.
+pub fn cut_at(cuts: &[Position], i: usize) -> Position {
+    match cuts.get(i) {
+        Some(cut) => *cut,
+        None => last_cut(cuts),
     }
 }
 

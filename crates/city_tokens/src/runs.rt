@@ -8,7 +8,7 @@ ghost use Rattle.city_tokens.specs.inside.Pieces.{IsPiece};
 
 use crate::cuts::Cuts;
 use crate::object::UnplacedObject;
-use crate::piece::{Piece, Run, cut_at, read_piece};
+use crate::piece::{Piece, Run, cut_at, last_cut, read_piece};
 use crate::vertices::Vertex;
 use city_model::text::Id;
 use city_reader::Reader;
@@ -79,7 +79,13 @@ impl<'t> Runs<'t> {
         vertices
     }
 
-    /// The pieces as one.
+    /// Whether these reach the last cuts.
+    fn reach(&self, cuts: &Cuts) -> bool {
+        self.read.objects.to.is(last_cut(&cuts.objects))
+            && self.read.vertices.to.is(last_cut(&cuts.vertices))
+    }
+
+    /// The pieces as one; none where they don't go from the first cuts to the last.
     fn joined(
         alloc: Global,
         text: &'t str,
@@ -91,6 +97,9 @@ impl<'t> Runs<'t> {
         let mut runs = Runs::new(alloc, text, cuts);
         for piece in pieces {
             runs.append(piece?)?;
+        }
+        if !runs.reach(cuts) {
+            return None;
         }
         Some(runs)
     }
