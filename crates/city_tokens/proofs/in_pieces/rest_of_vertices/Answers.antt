@@ -29,4 +29,4 @@ vertices-preserved c =
 pub returns : goal.returns
 returns c =
     let i = c.vertices.invariant in
-    (i.0, rw c.from_vec.ensures i.2, items_end i.1 (grind arith))
+    (i.0, rw (c.from_vec.ensures ∙ c.shrink_to_fit.ensures.items) i.2, items_end i.1 (grind arith))
