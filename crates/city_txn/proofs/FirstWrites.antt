@@ -5,18 +5,20 @@ use Rattle.city_txn.proofs.Prelude.{object_at, same_id, Object, same_id_true}
 use Rattle.city_txn.proofs.Prelude.{same_id_back, left_at_end, Touches, image_at, reservations_of, Inside, UndoImage}
 use Rattle.city_txn.proofs.Prelude.{write_at, State, store_committed, is_reserved, state_of, IsInPlace, Became, Write}
 use Rattle.city_txn.proofs.Prelude.{write_of, is_orphan_there, list_any-append, slice_cmp, nat_cmp, Change, plans, AreOf}
-use Rattle.city_txn.proofs.Prelude.{committed_at}
-use Rattle.std.proofs.Common.{is_none, is_ok, OnOk, OnErr, Err}
+use Rattle.city_txn.proofs.Prelude.{committed_at, MayReserve, is_some, same_id_itself}
+use Rattle.std.proofs.Common.{is_none, is_ok, OnOk, OnErr, Err, option_map}
 use Rattle.std.specs.BTreeMap.{IsOrdered}
 use Rattle.city_model.specs.CityMap.{CityMap, CityValue, changed}
 use Rattle.city_txn.specs.Placeholder.{placeholder}
 use Rattle.city_txn.specs.declared.ending.End.TheVariants.{RollBack}
 use Rattle.city_txn.specs.declared.undo.Undo.{Undo}
-use Rattle.city_txn.specs.inside.FirstWrites.{first_image}
-use Rattle.city_txn.specs.inside.Images.{is_orphan_written}
+use Rattle.city_txn.specs.inside.FirstWrites.{first_image, image_put}
+use Rattle.city_txn.specs.inside.Images.{is_orphan_written, written_over}
 use Rattle.city_txn.specs.inside.InPlace.{IsPlain}
 use Rattle.city_txn.specs.inside.State.{is_begun}
 use Rattle.city_txn.specs.inside.UndoState.{Images, listed_by}
+use Rattle.city_txn.proofs.StoreChanged.{OwnWritten, own_written, reserved_before}
+use Rattle.city_txn.proofs.Touched.{touches_writes}
 use Rattle.city_txn.proofs.AtOneId.{here, image, city_is, writes_is, plain_at, plain_by, one_of_plain}
 
 -- ---- a city and its images
@@ -39,15 +41,32 @@ placed s id o has b key place at_key at_place frame set i is frame_kept kept ima
   ordered = λ h. ordered;
 }
 
+-- the image that the id had is kept in the new one
+pub kept_over : (s : ℕ) (id : List ℕ) (o : Option Object) (old : UndoImage) {a c : CityValue} {m n k : Images}
+    → image_at m id ≡ Some old
+    → Became (same_id id) (λ q. Some (unwrap_or o placeholder))
+    (λ q. Some (first_image s (object_at a.1 id) (is_none o))) a c m n
+    → ((q : List ℕ) → image_at k q ≡ (if same_id id q
+    then option_map (λ i. written_over i.before i.deleted old) (image_at n id) else image_at n q))
+    → IsOrdered (slice_cmp nat_cmp) k
+    → Became (same_id id) (λ q. Some (unwrap_or o placeholder))
+    (λ q. Some (image_put s (object_at a.1 id) (is_none o) (image_at m id))) a c m k
+kept_over s id o old was first kept ordered = record {
+  frame = first.frame;
+  object_is = first.object_is;
+  image_is = λ q.
+      let x = kept q in let y = first.image_is q in let z = first.image_is id in let at = same_id_itself id in grind arith;
+  ordered = λ h. ordered;
+}
+
 -- a write at once taken back
-pub first_taken_back : (s : ℕ) (id : List ℕ) (o : Option Object) {a b c : CityValue} {m n k : Images}
+pub first_taken_back : (s : ℕ) (id : List ℕ) (o : Option Object) (x : UndoImage) {a b c : CityValue} {m n k : Images}
     → image_at m id ≡ None
     → Became (same_id id) (λ q. Some (unwrap_or o placeholder))
-    (λ q. Some (first_image s (object_at a.1 id) (is_none o))) a b m n
+    (λ q. Some (image_put s (object_at a.1 id) (is_none o) (image_at m id))) a b m n
     → Became (same_id id) (λ q. left_at_end RollBack (object_at b.1 id) (image_at n id)) (λ q. None) b c n k
-    → Became (λ q. false) (λ q. Some (unwrap_or o placeholder))
-    (λ q. Some (first_image s (object_at a.1 id) (is_none o))) a c m k
-first_taken_back s id o none add back = grind (arith, same_id_true)
+    → Became (λ q. false) (λ q. Some (unwrap_or o placeholder)) (λ q. Some x) a c m k
+first_taken_back s id o x none add back = grind (arith, same_id_true)
 
 -- ---- a store of these
 
@@ -117,6 +136,53 @@ module _ (a : Inside) (k : IsInPlace a) {v : State} (seen : state_of a ≡ v) (s
     writes = first_writes;
     logs = refl;
   })
+
+-- the same where the id was reserved before
+rewritten : (v : State) (b : Inside) (has : Bool) (s : ℕ) (id : List ℕ) (x : Option Object) (w : Option Write)
+    → OwnWritten v b s id w
+    → ((q : List ℕ) → (if same_id id q then w else write_of v.writes q)
+    ≡ (if has && same_id id q then Some (s, x) else write_of v.writes q))
+    → FirstWritten v b has s id x
+rewritten v b has s id x w own same = record {
+  in_place = own.in_place;
+  touches = touches_writes s (same_id id) v (state_of b) own.one.only own.others;
+  writes = λ q. own.one.writes q ∙ same q;
+  logs = own.one.only.logs;
+}
+
+pub put_written : (a : Inside) (k : IsInPlace a) {v : State} (seen : state_of a ≡ v) (s : ℕ) (id : List ℕ)
+    (may_reserve : MayReserve v s (same_id id)) (has : Bool) (city : CityValue) (undo : Undo) (x : Option Object)
+    (o : Option UndoImage) → image a id ≡ o
+    → Became (λ q. has && same_id id q) (λ q. Some (unwrap_or x placeholder))
+    (λ q. Some (image_put s (here a id) (is_none x) o)) a.city city a.undo.images undo.images
+    → ((r : ℕ) → listed_by undo.reservations.entries r
+    ≡ (if (has && is_none o) && (s == r) then Some (reservations_of a.undo.reservations.entries s ++ id ∷ [])
+    else listed_by a.undo.reservations.entries r))
+    → (is_some o ≡ true → undo.reservations ≡ a.undo.reservations) → (may : Bool)
+    → (may ≡ false → (a.may_have_orphan ≡ false) × (is_orphan_there x ≡ false))
+    → FirstWritten v (record a { city = city; undo = undo; may_have_orphan = may }) has s id x
+put_written a k seen s id may_reserve has city undo x None is t listed same may plain =
+    first_written a k seen s id may_reserve.opened is has city undo x t (λ r. let e = listed r in grind arith) may plain
+put_written a k {v} seen s id may_reserve true city undo x (Some i) is t listed same may plain =
+    let reserved = reserved_before a k seen s id may_reserve (ap is_some is) in
+    rewritten v (record a { city = city; undo = undo; may_have_orphan = may }) true s id x (Some (s, x))
+    (own_written a k seen s id reserved city undo t (same refl) (Some (s, x)) may plain (λ mine slot. grind arith))
+    (λ q. refl)
+put_written a k {v} seen s id may_reserve false city undo x (Some i) is t listed same may plain =
+    let reserved = reserved_before a k seen s id may_reserve (ap is_some is) in
+    let w = write_at (here a id) (image a id) in
+    let stays : Became (same_id id) (λ q. here a id) (λ q. image a id) a.city city a.undo.images undo.images =
+    record {
+      frame = t.frame;
+      object_is = λ q. let y = t.object_is q in let at = same_id_true id q in grind arith;
+      image_is = λ q. let y = t.image_is q in let at = same_id_true id q in grind arith;
+      ordered = t.ordered;
+    } in
+    rewritten v (record a { city = city; undo = undo; may_have_orphan = may }) false s id x w
+    (own_written a k seen s id reserved city undo stays (same refl) w may
+    (λ h. ((plain h).0, plain_at a.city a.undo.images k.plain (plain h).0 id)) (λ mine slot. grind arith))
+    (λ q. let was = writes_is a k id in let at = same_id_true id q in
+    let same_write = ap (λ (u : State). write_of u.writes id) seen in grind arith)
 
 -- ---- the only write of a plan
 

@@ -7,13 +7,15 @@ use Rattle.city_txn.proofs.Prelude.{same_id, Object, same_id_true, same_id_itsel
 use Rattle.city_txn.proofs.Prelude.{MayReserve, Touches, store_written, image_at, reservations_of, Inside, UndoImage}
 use Rattle.city_txn.proofs.Prelude.{committed_at, write_at, writer_of, has_id_more, State, store_committed, is_reserved}
 use Rattle.city_txn.proofs.Prelude.{OthersWritesStay, Logs, log_of, marked, state_of, is_writer, IsInPlace, Became}
-use Rattle.city_txn.proofs.Prelude.{Write, write_of, unless_by, own_write}
+use Rattle.city_txn.proofs.Prelude.{Write, write_of, unless_by, own_write, slice_cmp, nat_cmp}
 use Rattle.std.proofs.Common.{is_none, ◌⊎◌, inl, inr}
 use Rattle.std.proofs.lemmas.Bool.{eqb-true}
+use Rattle.std.specs.BTreeMap.{IsOrdered, is_at}
+use Rattle.std.specs.Map.{lookup}
 use Rattle.city_model.specs.CityMap.{CityMap, CityValue, Objects, changed}
-use Rattle.city_txn.specs.inside.Ending.{map_at_end}
+use Rattle.city_txn.specs.inside.Ending.{EndedBut, map_at_end}
 use Rattle.city_txn.specs.inside.State.{Forgets, WritesOne, is_begun}
-use Rattle.city_txn.specs.inside.UndoState.{Images, listed_by}
+use Rattle.city_txn.specs.inside.UndoState.{Images, Reservations, listed_by}
 use Rattle.city_txn.specs.declared.ending.End.{End}
 use Rattle.city_txn.specs.declared.undo.Undo.{Undo}
 use Rattle.city_txn.specs.inside.Images.{unwritten_image, is_orphan_written}
@@ -40,6 +42,48 @@ pub one_more_ended : (end : End) {a b c : CityValue} {m n k : Images} (ids : Lis
     → Became (has_id (take (i + 1) ids)) (λ q. left_at_end end (object_at a.1 q) (image_at m q)) (λ q. None) a c m k
 one_more_ended end ids i id lt is before one =
     let more = λ (q : List ℕ). has_id_more ids i id q lt is in grind (arith, same_id_true)
+
+-- all that have an image ended, one after another
+pub none_ended : (end : End) (a : CityValue) (m : Images) → EndedBut end a a m m
+none_ended end a m = record { frame = refl; objects = λ q. grind arith; images = λ q h. refl }
+
+pub one_ended : (end : End) {a b c : CityValue} {m n k : Images} (id : List ℕ) (i : UndoImage) → EndedBut end a b m n
+    → image_at n id ≡ Some i → ((q : List ℕ) → image_at k q ≡ (if same_id id q then None else image_at n q))
+    → c.0 ≡ b.0
+    → ((q : List ℕ) → object_at c.1 q ≡ changed (object_at b.1) id (left_at_end end (object_at b.1 id) (Some i)) q)
+    → EndedBut end a c m k
+one_ended end id i before is taken frame after = record {
+  frame = frame ∙ before.frame;
+  objects = λ q.
+      let x = after q in let t = taken q in let y = before.objects q in let at = same_id_true id q in
+      let here = before.images id in let z = before.objects id in grind arith;
+  images = λ q h. let t = taken q in let y = before.images q in grind arith;
+}
+
+pub all_ended : (end : End) {a c : CityValue} {m n k : Images} → EndedBut end a c m n → n.entries ≡ []
+    → k.entries ≡ n.entries → IsOrdered (slice_cmp nat_cmp) k
+    → Became (λ q. is_some (image_at m q)) (λ q. left_at_end end (object_at a.1 q) (image_at m q)) (λ q. None) a c m k
+all_ended end {m = m} {n} {k} ended empty same ordered =
+    let none = λ (q : List ℕ). ap (λ es. lookup (is_at (slice_cmp nat_cmp q)) es) empty in
+    let still = λ (q : List ℕ). ap (λ es. lookup (is_at (slice_cmp nat_cmp q)) es) (same ∙ empty) in
+    record {
+      frame = ended.frame;
+      object_is = λ q. let x = ended.objects q in let t = none q in grind arith;
+      image_is = λ q. let t = none q in let u = still q in grind arith;
+      ordered = λ h. ordered;
+    }
+
+-- where these ids are all that have one
+pub ended_at : (end : End) (ids : List (List ℕ)) {a c : CityValue} {m k : Images}
+    → ((q : List ℕ) → is_some (image_at m q) ≡ true → has_id ids q ≡ true)
+    → Became (λ q. is_some (image_at m q)) (λ q. left_at_end end (object_at a.1 q) (image_at m q)) (λ q. None) a c m k
+    → Became (has_id ids) (λ q. left_at_end end (object_at a.1 q) (image_at m q)) (λ q. None) a c m k
+ended_at end ids all became = record {
+  frame = became.frame;
+  object_is = λ q. let x = became.object_is q in let t = all q in grind arith;
+  image_is = λ q. let x = became.image_is q in let t = all q in grind arith;
+  ordered = became.ordered;
+}
 
 -- a reservation taken back
 pub taken_back : (s : ℕ) (id : List ℕ) {a b c : CityValue} {m n k : Images}
@@ -194,6 +238,12 @@ reserved_already a k {v} seen s id may h t q =
     ∙ only_writer s (image a id) h (λ r g. may.alone id (same_id_itself id) r (listed r ∙ g)) in
     let stamp = eqb-true s t in let at = same_id_true id q in grind arith
 
+pub reserved_before : (a : Inside) → IsInPlace a → {v : State} → state_of a ≡ v → (s : ℕ) (id : List ℕ)
+    → MayReserve v s (same_id id) → is_some (image a id) ≡ true → is_reserved v s id ≡ true
+reserved_before a k seen s id may there =
+    let mine = reserved_already a k seen s id may there s id in let itself = same_id_itself id in
+    let stamp = eq-eqb s s refl in grind arith
+
 -- ---- a stamp opened, which wasn't open
 
 pub opened_in_place : (a : Inside) → IsInPlace a → {v : State} → state_of a ≡ v → (s : ℕ) → is_begun v s ≡ false
@@ -213,6 +263,24 @@ pub record Ending (s : ℕ) (end : End) (v : State) (b : Inside) : Type 0 where
   pub in_place : IsInPlace b
   pub forgets : Forgets s v (state_of b)
   pub city : store_committed (state_of b) ≡ map_at_end end v s
+
+-- who alone could have written wrote
+only_listed : (i : Option UndoImage) → is_some i ≡ true → (s : ℕ) (listed : ℕ → Bool)
+    → ((t : ℕ) → listed t ≡ is_writer t (writer_of i)) → ((t : ℕ) → (s == t) ≡ false → listed t ≡ false) → listed s ≡ true
+only_listed None h s listed is others = absurd (false≢true h)
+only_listed (Some i) h s listed is others =
+    let by = is i.by in let own = is s in let other = others i.by in let itself = eq-eqb i.by i.by refl in
+    let same = eqb-true s i.by in grind arith
+
+-- where no other stamp is open than the one that is closed, all images are at its ids
+pub alone_listed : (a : Inside) → IsInPlace a → (s : ℕ) (ids : List (List ℕ)) {left : Reservations}
+    → ids ≡ reservations_of a.undo.reservations.entries s
+    → ((r : ℕ) → listed_by left r ≡ (if s == r then None else listed_by a.undo.reservations.entries r)) → left ≡ []
+    → (q : List ℕ) → is_some (image a q) ≡ true → has_id ids q ≡ true
+alone_listed a k s ids are closed shut q some =
+    ap (λ xs. has_id xs q) are
+    ∙ only_listed (image a q) some s (λ t. has_id (reservations_of a.undo.reservations.entries t) q) (λ t. k.listed t q)
+    (λ t ne. let e = closed t in grind arith)
 
 -- the stamp s is closed, and then each of its ids is ended
 module _ (a : Inside) (k : IsInPlace a) {v : State} (seen : state_of a ≡ v) (s : ℕ) (end : End) (city : CityValue)

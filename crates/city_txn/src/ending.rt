@@ -18,8 +18,25 @@ pub enum End {
     RollBack,
 }
 
+/// Ends the transaction at the ids, given whether no other is open: then all images are at its ids, and no id is
+/// looked up among them. Doesn't allocate.
+pub fn end_at(city: &mut City, undo: &mut Undo, end: End, ids: &[Id], alone: bool)
+    requires slots { (q : List ℕ) → is_some (image_at undo.old.images q) ≡ true → HasSlot city.old q }
+    requires alone { alone ≡ true → (q : List ℕ) → is_some (image_at undo.old.images q) ≡ true → has_id ids.now q ≡ true }
+    ensures became { Became (has_id ids.now)
+        (λ q. left_at_end end (object_at city.old.1 q) (image_at undo.old.images q)) (λ q. None)
+        city.old city.new undo.old.images undo.new.images }
+    ensures reservations { undo.new.reservations ≡ undo.old.reservations }
+{
+    if alone {
+        undo.end_all(city, end);
+    } else {
+        end_each(city, undo, end, ids);
+    }
+}
+
 /// Ends the transaction at the ids, one after another. Doesn't allocate.
-pub fn end_each(city: &mut City, undo: &mut Undo, end: End, ids: &[Id])
+fn end_each(city: &mut City, undo: &mut Undo, end: End, ids: &[Id])
     requires { (q : List ℕ) → is_some (image_at undo.old.images q) ≡ true → HasSlot city.old q }
     ensures became { Became (has_id ids.now)
         (λ q. left_at_end end (object_at city.old.1 q) (image_at undo.old.images q)) (λ q. None)

@@ -48,6 +48,26 @@ impl UndoImage {
         self.deleted = deleted;
     }
 
+    /// Makes the first image of a write that of a later one: what stood before is what `old` says, which the id had.
+    pub fn keep_before(&mut self, old: UndoImage)
+        ensures { self.new ≡ written_over self.old.before self.old.deleted old }
+    {
+        self.by = old.by;
+        self.unwritten = false;
+        let here = self.before.take();
+        self.before = old.into_before(here);
+    }
+
+    /// What stood at the id before the transaction wrote it, where the city has `here`.
+    fn into_before(self, here: Option<Object>) -> Option<Object>
+        ensures { result ≡ before_image here self }
+    {
+        if !self.unwritten {
+            return self.before;
+        }
+        if self.deleted { None } else { here }
+    }
+
     /// Undoes the write, and returns the object that has to go back into the city: None if nothing
     /// was written, or if no object stood there.
     pub fn unwrite(&mut self) -> Option<Object>

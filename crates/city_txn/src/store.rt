@@ -8,7 +8,7 @@ ghost use Rattle.city_txn.specs.inside.State.{store_written, Touches, WritesOne,
 ghost use Rattle.city_txn.specs.UndoLog.{log_of, has_before};
 ghost use Rattle.city_txn.specs.Writes.{write_of, is_by};
 
-use crate::ending::{End, end_each};
+use crate::ending::{End, end_at};
 use crate::undo::Undo;
 use crate::undo_log::{OwnWrite, UndoLogs};
 use city_model::OutOfMemory;
@@ -147,12 +147,8 @@ impl Store {
         ensures writes { (q : List ℕ) → write_of self.new.writes q
             ≡ (if is_ok result && same_id id q then Some (stamp, object) else write_of self.old.writes q) }
     {
-        if self.undo.image(&id).is_some() {
-            self.set(stamp, id, object);
-            return Ok(());
-        }
         self.may_have_orphan = has_orphan_then(self.may_have_orphan, &object);
-        self.undo.write_first(&mut self.city, stamp, &id, object)
+        self.undo.put(&mut self.city, stamp, id, object)
     }
 
     /// Writes an id that the stamp has reserved: an object, or that none is
@@ -203,8 +199,9 @@ impl Store {
     {
         self.logs.close(stamp);
         let ids = self.undo.close(stamp);
-        end_each(&mut self.city, &mut self.undo, end, ids.as_slice());
-        self.may_have_orphan = has_orphan_still(self.may_have_orphan, self.undo.is_idle());
+        let alone = self.undo.is_idle();
+        end_at(&mut self.city, &mut self.undo, end, ids.as_slice(), alone);
+        self.may_have_orphan = has_orphan_still(self.may_have_orphan, alone);
     }
 }
 

@@ -1,5 +1,5 @@
 //! What it takes to end the open transactions: undo images and reservations.
-ghost use Rattle.std.specs.Prelude.{◌≡◌, ◌↔◌, ◌==◌, IsTrue, ℕ, List, [], ◌∷◌, ◌++◌, None, Some, OnOk, OnErr, is_none, is_ok, is_some, true, ◌&&◌, option_copied, option_map, unwrap_or, if◌then◌else◌};
+ghost use Rattle.std.specs.Prelude.{◌≡◌, ◌↔◌, ◌==◌, IsTrue, ℕ, List, [], ◌∷◌, ◌++◌, None, Some, IfOk, OnOk, OnErr, is_none, is_ok, is_some, true, ◌&&◌, option_copied, option_map, unwrap_or, if◌then◌else◌};
 ghost use Rattle.std.specs.BTreeMap.{IsOrdered};
 ghost use Rattle.std.specs.Cmp.Lexicographic.{slice_cmp};
 ghost use Rattle.std.specs.Option.{option_or};
@@ -8,7 +8,7 @@ ghost use Rattle.city_model.specs.CityMap.{changed, object_at, same_id};
 ghost use Rattle.city_txn.specs.Placeholder.{placeholder};
 ghost use Rattle.city_txn.specs.declared.ending.End.{End};
 ghost use Rattle.city_txn.specs.inside.Ending.{left_at_end};
-ghost use Rattle.city_txn.specs.inside.FirstWrites.{first_image};
+ghost use Rattle.city_txn.specs.inside.FirstWrites.{image_put};
 ghost use Rattle.city_txn.specs.inside.Images.{unwritten_image, written_over, image_unwritten, put_back_at};
 ghost use Rattle.city_txn.specs.inside.Slots.{Became, HasSlot};
 ghost use Rattle.city_txn.specs.inside.UndoState.{image_at, listed_by, reservations_of};
@@ -146,53 +146,58 @@ impl Undo {
         Ok(())
     }
 
-    /// Reserves an id without image for the stamp, and writes it: an object, or that none is there. If memory runs
-    /// out, nothing changes.
-    pub fn write_first(
+    /// Writes an id that no other stamp has reserved: an object, or that none is there. Without image it is reserved
+    /// for the stamp. If memory runs out, nothing changes.
+    pub fn put(
         &mut self,
         city: &mut City,
         stamp: u64,
-        id: &Id,
+        id: Id,
         object: Option<Object>,
     ) -> Result<(), OutOfMemory>
-        requires { image_at self.old.images id.now ≡ None }
-        ensures became { Became (λ q. is_ok result && same_id id.now q)
+        requires { is_some (image_at self.old.images id) ≡ true → HasSlot city.old id }
+        ensures became { Became (λ q. is_ok result && same_id id q)
             (λ q. Some (unwrap_or object placeholder))
-            (λ q. Some (first_image stamp (object_at city.old.1 id.now) (is_none object)))
+            (λ q. Some (image_put stamp (object_at city.old.1 id) (is_none object) (image_at self.old.images id)))
             city.old city.new self.old.images self.new.images }
         ensures listed { (t : ℕ) → listed_by self.new.reservations.entries t
-            ≡ (if is_ok result && (stamp == t)
-            then Some (reservations_of self.old.reservations.entries stamp ++ id.now ∷ [])
+            ≡ (if (is_ok result && is_none (image_at self.old.images id)) && (stamp == t)
+            then Some (reservations_of self.old.reservations.entries stamp ++ id ∷ [])
             else listed_by self.old.reservations.entries t) }
+        ensures reservations { is_some (image_at self.old.images id) ≡ true → self.new.reservations ≡ self.old.reservations }
     {
         let Ok(listed) = id.copy(self.alloc) else {
             return Err(OutOfMemory);
         };
-        let Ok(()) = self.place_first(city, stamp, id, object) else {
+        let Ok(is_first) = self.place(city, stamp, &id, object) else {
             return Err(OutOfMemory);
         };
+        if !is_first {
+            return Ok(());
+        }
         let Ok(()) = push(&mut self.reservations, self.alloc, stamp, listed) else {
-            self.end(city, End::RollBack, id);
+            self.end(city, End::RollBack, &id);
             return Err(OutOfMemory);
         };
         Ok(())
     }
 
-    /// Puts the object, or a placeholder, at an id without image, and what stood there into a new image. If memory
-    /// runs out, nothing changes.
+    /// Puts the object, or a placeholder, at an id, and what stood there into its image. Says whether the id had none
+    /// before. If memory runs out, nothing changes.
     #[tactic(auto, using(city_model::proofs::Ids::same_id_true, crate::proofs::StoreChanged::set_at))]
-    fn place_first(
+    fn place(
         &mut self,
         city: &mut City,
         stamp: u64,
         id: &Id,
         object: Option<Object>,
-    ) -> Result<(), OutOfMemory>
-        requires { image_at self.old.images id.now ≡ None }
+    ) -> Result<bool, OutOfMemory>
+        requires { is_some (image_at self.old.images id.now) ≡ true → HasSlot city.old id.now }
         ensures became { Became (λ q. is_ok result && same_id id.now q)
             (λ q. Some (unwrap_or object placeholder))
-            (λ q. Some (first_image stamp (object_at city.old.1 id.now) (is_none object)))
+            (λ q. Some (image_put stamp (object_at city.old.1 id.now) (is_none object) (image_at self.old.images id.now)))
             city.old city.new self.old.images self.new.images }
+        ensures first { IfOk result (λ is_first. is_first ≡ is_none (image_at self.old.images id.now)) }
         ensures reservations { self.new.reservations ≡ self.old.reservations }
     {
         let Ok(key) = id.copy(self.alloc) else {
@@ -212,29 +217,57 @@ impl Undo {
             deleted,
             before,
         };
-        self.keep_image(city, key, image)
+        match self.keep_image(city, key, image)? {
+            Some(old) => {
+                self.keep_before(id, old);
+                Ok(false)
+            }
+            None => Ok(true),
+        }
     }
 
-    /// Keeps the image of an id that has a slot. If memory runs out, it goes back into the city.
+    /// Keeps the image of an id that has a slot, and returns the one that it had. If memory runs out, what stood
+    /// before goes back into the city.
     #[tactic(auto, using(city_model::proofs::Ids::same_id_true))]
-    fn keep_image(&mut self, city: &mut City, key: Id, image: UndoImage) -> Result<(), OutOfMemory>
+    fn keep_image(
+        &mut self,
+        city: &mut City,
+        key: Id,
+        image: UndoImage,
+    ) -> Result<Option<UndoImage>, OutOfMemory>
         requires { HasSlot city.old key }
         ensures objects { (q : List ℕ) → object_at city.new.1 q
             ≡ (if is_ok result then object_at city.old.1 q
             else changed (object_at city.old.1) key (left_at_end End.RollBack (object_at city.old.1 key) (Some image)) q) }
         ensures frame { city.new.0 ≡ city.old.0 }
+        ensures old { IfOk result (λ old. old ≡ image_at self.old.images key) }
         ensures images { (q : List ℕ) → image_at self.new.images q
             ≡ (if is_ok result && same_id key q then Some image else image_at self.old.images q) }
         ensures ordered { IsOrdered (slice_cmp nat_cmp) self.new.images }
         ensures reservations { self.new.reservations ≡ self.old.reservations }
     {
         match self.images.insert(key, image) {
-            Ok(_) => Ok(()),
+            Ok(old) => Ok(old),
             Err(refused) => {
                 let (key, image) = refused.value;
                 slot::settle(city, key, End::RollBack, image);
                 Err(OutOfMemory)
             }
+        }
+    }
+
+    /// Gives the image of the id what the one that it had before says of what stood there. Doesn't allocate.
+    fn keep_before(&mut self, id: &Id, old: UndoImage)
+        requires { is_some (image_at self.old.images id.now) ≡ true }
+        ensures images { (q : List ℕ) → image_at self.new.images q ≡ (if same_id id.now q
+            then option_map (λ image. written_over image.before image.deleted old) (image_at self.old.images id.now)
+            else image_at self.old.images q) }
+        ensures ordered { IsOrdered (slice_cmp nat_cmp) self.new.images }
+        ensures reservations { self.new.reservations ≡ self.old.reservations }
+    {
+        match self.images.get_mut(id) {
+            Some(image) => image.keep_before(old),
+            None => unreachable!(),
         }
     }
 
@@ -290,6 +323,19 @@ impl Undo {
     {
         if let Some((key, image)) = self.images.remove_entry(id) {
             slot::settle(city, key, end, image);
+        }
+    }
+
+    /// Ends a transaction at all ids that have an image, and removes the images. Doesn't allocate.
+    pub fn end_all(&mut self, city: &mut City, end: End)
+        requires { (q : List ℕ) → is_some (image_at self.old.images q) ≡ true → HasSlot city.old q }
+        ensures became { Became (λ q. is_some (image_at self.old.images q))
+            (λ q. left_at_end end (object_at city.old.1 q) (image_at self.old.images q)) (λ q. None)
+            city.old city.new self.old.images self.new.images }
+        ensures reservations { self.new.reservations ≡ self.old.reservations }
+    {
+        while let Some((id, image)) = self.images.pop_last() {
+            slot::settle(city, id, end, image);
         }
     }
 
