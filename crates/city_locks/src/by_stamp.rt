@@ -1,5 +1,5 @@
 //! Lists by stamps, in an ordered map.
-ghost use Rattle.std.specs.Prelude.{◌≡◌, ℕ, OnOk, OnErr, None, Some, [], ◌∷◌, ◌++◌, true, is_some, unwrap_or};
+ghost use Rattle.std.specs.Prelude.{◌≡◌, ℕ, OnOk, OnErr, IfErr, None, Some, [], ◌∷◌, ◌++◌, true, is_some, unwrap_or};
 ghost use Rattle.std.specs.Prelude.{if◌then◌else◌};
 ghost use Rattle.std.specs.Ordering.{nat_cmp};
 ghost use Rattle.std.specs.BTreeMap.{get, is_at};
@@ -23,11 +23,13 @@ pub fn push<T: Drop>(
     ensures err { OnErr result (lists.new.entries ≡ lists.old.entries) }
 {
     if lists.contains_key(&stamp) {
-        push_at(lists, stamp, item)?;
+        match push_at(lists, stamp, item) {
+            Ok(()) => Ok(()),
+            Err(_) => Err(OutOfMemory),
+        }
     } else {
-        begin_with(lists, alloc, stamp, item)?;
+        begin_with(lists, alloc, stamp, item)
     }
-    Ok(())
 }
 
 /// Begins the list of a stamp that has none.
@@ -48,23 +50,22 @@ fn begin_with<T: Drop>(
     Ok(())
 }
 
-/// Adds the item at the end of the list of a stamp that has one.
-fn push_at<T: Drop>(
+/// Adds the item at the end of the list of a stamp that has one. If memory runs out, the lists stay as they are, and
+/// the item comes back.
+pub fn push_at<T: Drop>(
     lists: &mut BTreeMap<u64, Sequence<T>>,
     stamp: u64,
     item: T,
-) -> Result<(), OutOfMemory>
+) -> Result<(), T>
     requires { is_some (get nat_cmp lists.old stamp) ≡ true }
     ensures ok { OnOk result ((t : ℕ) → get nat_cmp lists.new t
         ≡ (if is_at (nat_cmp stamp) t then Some (unwrap_or (get nat_cmp lists.old stamp) [] ++ item ∷ [])
         else get nat_cmp lists.old t)) }
     ensures err { OnErr result (lists.new.entries ≡ lists.old.entries) }
+    ensures back { IfErr result (λ back. back ≡ item) }
 {
     match lists.get_mut(&stamp) {
-        Some(list) => {
-            list.push(item)?;
-            Ok(())
-        }
+        Some(list) => list.try_push(item),
         None => unreachable!(),
     }
 }

@@ -1,5 +1,5 @@
 //! The city: a frame and a map from ids to objects.
-ghost use Rattle.std.specs.Prelude.{◌≡◌, ◌==◌, true, Some, None, IfOk, IsOk, IsSome, OnOk, OnErr, is_some, option_copied, option_map};
+ghost use Rattle.std.specs.Prelude.{◌≡◌, ◌==◌, true, Some, None, IfOk, IfErr, IsOk, IsSome, OnOk, OnErr, is_some, option_copied, option_map};
 ghost use Rattle.std.specs.FinMap.{empty, entries, insert, len, remove};
 ghost use Rattle.city_model.specs.CityMap.{object_at, changed};
 
@@ -11,6 +11,7 @@ use crate::text::Id;
 use std::alloc::Global;
 use std::collections::{BTreeMap, btree_map};
 use std::marker::Model;
+use std::mem;
 
 /// A city model: a frame, and objects by their ids (CityJSON 2.0, section 2).
 #[derive(Drop)]
@@ -107,6 +108,23 @@ impl City {
         ensures unchanged { OnErr result (self.new ≡ self.old) }
     {
         Ok(self.objects.insert(id, object)?)
+    }
+
+    /// Puts another object in place of that of an id, and returns the one that it had. The object comes back where the
+    /// id has none; then the city is unchanged. Doesn't allocate.
+    pub fn replace(&mut self, id: &Id, object: Object) -> Result<Object, Object>
+        ensures old { IfOk result (λ old. object_at self.old.1 id.now ≡ Some old) }
+        ensures frame { self.new.0 ≡ self.old.0 }
+        ensures map { OnOk result (object_at self.new.1 ≡ changed (object_at self.old.1) id.now (Some object)) }
+        ensures back { IfErr result (λ back. back ≡ object) }
+        ensures absent { OnErr result (object_at self.old.1 id.now ≡ None) }
+        ensures unchanged { OnErr result (self.new ≡ self.old) }
+    {
+        let Some(place) = self.objects.get_mut(id) else {
+            return Err(object);
+        };
+        let old = mem::replace(place, object);
+        Ok(old)
     }
 
     /// Removes the object of an id, and returns it. Doesn't allocate.

@@ -59,15 +59,27 @@ pub fn swap(city: &mut City, id: Id, object: Object) -> Object
     }
 }
 
-/// Sets the object of an id, and returns the one that stood there. If memory runs out, the city is unchanged.
+/// Sets the object of an id, and returns the one that stood there. If memory runs out, the city is unchanged. It copies
+/// the id where no object stood there.
 #[tactic(auto, using(crate::proofs::StoreChanged::set_at))]
-pub fn put(city: &mut City, id: Id, object: Object) -> Result<Option<Object>, OutOfMemory>
-    ensures old { IfOk result (λ old. old ≡ object_at city.old.1 id) }
-    ensures after { OnOk result ((q : List ℕ) → object_at city.new.1 q ≡ changed (object_at city.old.1) id (Some object) q) }
+pub fn put(
+    city: &mut City,
+    alloc: Global,
+    id: &Id,
+    object: Object,
+) -> Result<Option<Object>, OutOfMemory>
+    ensures old { IfOk result (λ old. old ≡ object_at city.old.1 id.now) }
+    ensures after { OnOk result ((q : List ℕ) → object_at city.new.1 q ≡ changed (object_at city.old.1) id.now (Some object) q) }
     ensures frame { city.new.0 ≡ city.old.0 }
     ensures err { OnErr result (city.new ≡ city.old) }
 {
-    city.set(id, object)
+    match city.replace(id, object) {
+        Ok(old) => Ok(Some(old)),
+        Err(object) => {
+            let _ = city.set(id.copy(alloc)?, object)?;
+            Ok(None)
+        }
+    }
 }
 
 /// The object, or a placeholder.

@@ -16,7 +16,7 @@ ghost use Rattle.city_txn.specs.inside.UndoState.{image_at, listed_by, reservati
 use crate::ending::End;
 use crate::image::UndoImage;
 use crate::slot;
-use city_locks::by_stamp::push;
+use city_locks::by_stamp::{push, push_at};
 use city_model::OutOfMemory;
 use city_model::city::City;
 use city_model::copied::Copied;
@@ -146,8 +146,8 @@ impl Undo {
         Ok(())
     }
 
-    /// Writes an id that no other stamp has reserved: an object, or that none is there. Without image it is reserved
-    /// for the stamp. If memory runs out, nothing changes.
+    /// Writes an id that no other stamp than this one, which is open, has reserved: an object, or that none is there.
+    /// Without image it is reserved for the stamp. If memory runs out, nothing changes.
     pub fn put(
         &mut self,
         city: &mut City,
@@ -155,7 +155,8 @@ impl Undo {
         id: Id,
         object: Option<Object>,
     ) -> Result<(), OutOfMemory>
-        requires { is_some (image_at self.old.images id) ≡ true → HasSlot city.old id }
+        requires slot { is_some (image_at self.old.images id) ≡ true → HasSlot city.old id }
+        requires opened { is_some (listed_by self.old.reservations.entries stamp) ≡ true }
         ensures became { Became (λ q. is_ok result && same_id id q)
             (λ q. Some (unwrap_or object placeholder))
             (λ q. Some (image_put stamp (object_at city.old.1 id) (is_none object) (image_at self.old.images id)))
@@ -166,19 +167,16 @@ impl Undo {
             else listed_by self.old.reservations.entries t) }
         ensures reservations { is_some (image_at self.old.images id) ≡ true → self.new.reservations ≡ self.old.reservations }
     {
-        let Ok(listed) = id.copy(self.alloc) else {
-            return Err(OutOfMemory);
-        };
         let Ok(is_first) = self.place(city, stamp, &id, object) else {
             return Err(OutOfMemory);
         };
         if !is_first {
             return Ok(());
         }
-        let Ok(()) = push(&mut self.reservations, self.alloc, stamp, listed) else {
+        if let Err(id) = push_at(&mut self.reservations, stamp, id) {
             self.end(city, End::RollBack, &id);
             return Err(OutOfMemory);
-        };
+        }
         Ok(())
     }
 
@@ -203,12 +201,9 @@ impl Undo {
         let Ok(key) = id.copy(self.alloc) else {
             return Err(OutOfMemory);
         };
-        let Ok(place) = id.copy(self.alloc) else {
-            return Err(OutOfMemory);
-        };
         let deleted = object.is_none();
         let standing = slot::standing(self.alloc, object);
-        let Ok(before) = slot::put(city, place, standing) else {
+        let Ok(before) = slot::put(city, self.alloc, id, standing) else {
             return Err(OutOfMemory);
         };
         let image = UndoImage {

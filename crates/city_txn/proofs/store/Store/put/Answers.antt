@@ -1,10 +1,10 @@
-use Rattle.city_txn.proofs.Prelude.{arith}
+use Rattle.city_txn.proofs.Prelude.{◌∙◌, ap, refl, arith, State}
 use Rattle.std.proofs.Common.{is_ok}
+use Rattle.city_txn.specs.inside.State.{is_begun}
 use Rattle.city_txn.proofs.AtOneId.{image}
 use Rattle.city_txn.proofs.FirstWrites.{FirstWritten, put_written}
 use Rattle.city_txn.proofs.store.Store.put.Goals.{After-put}
 use Rattle.city_txn.proofs.store.Store.put.Goals as goal
-use Rattle.std.proofs.Common.{refl}
 
 done : (c : After-put) → FirstWritten c.args.self.now
     (record c.self.inside {
@@ -18,6 +18,9 @@ done c =
     c.put.new.city c.put.new.self c.args.object (image c.self.inside c.args.id) refl
     c.put.ensures.became c.put.ensures.listed c.put.ensures.reservations
     c.has_orphan_then-self-inside.result (λ h. let may = c.has_orphan_then-self-inside.ensures in grind arith)
+
+pub put-requires-clause-opened : goal.put-requires-clause-opened
+put-requires-clause-opened c = ap (λ (u : State). is_begun u c.args.stamp) c.self.view_is ∙ c.requires.opened
 
 pub invariant_of-self : goal.invariant_of-self
 invariant_of-self c = (done (goal.at.invariant_of-self c).After-put).in_place
