@@ -1,19 +1,51 @@
--- What a worker reads may go to another thread.
-use denote.Param.Send.{IsSend, sendable}
+-- What workers read, and place, may go to another thread.
+use denote.Param.Send.{IsSend, IsSync, recorded_send, sendable}
+use denote.Struct.Declared.{field}
+use denote.RattleType.{RattleType}
 use Rattle.std.proofs.Crossing as values
+use Rattle.std.proofs.MapsCrossing as maps
+use Rattle.serde_json.proofs.value.Value.TheLaws.TheKnot as json
 use Rattle.city_model.proofs.Crossing.{text_sends, text_syncs, body_sends}
+use Rattle.city_model.proofs.object.Shape.TheSendSync as shape
+use Rattle.city_model.specs.contracts.object.Geometry as Geometry
+use Rattle.city_model.specs.contracts.script.Script as Script
 use Rattle.city_reader.proofs.plain.Place.TheSendSync as place
 use Rattle.city_reader.specs.contracts.position.Position as Position
 use Rattle.city_tokens.specs.contracts.object.UnplacedObject as UnplacedObject
-use Rattle.city_tokens.specs.contracts.piece.Piece as Piece
+use Rattle.city_tokens.specs.contracts.run.Run as Run
 
 pub unplaced_sends : IsSend UnplacedObject.the_field.row
 unplaced_sends =
     search (text_sends, text_syncs, body_sends, values.crosses, sendable) depth 60 fits 20000
 
-position_sends : IsSend Position.the_field.row
+pub position_sends : IsSend Position.the_field.row
 position_sends = search (place.the_field_send, sendable) depth 60 fits 20000
 
-pub piece_sends : IsSend Piece.the_row
-piece_sends =
-    search (text_sends, unplaced_sends, position_sends, values.crosses, sendable) depth 60 fits 20000
+-- parts that were read, where each may
+run_field_sends : (T : RattleType) → IsSend T → IsSend (Run.the_field T).row
+run_field_sends T s = search (s, position_sends, values.crosses, sendable) depth 60 fits 20000
+
+pub run_sends : (T : RattleType) → IsSend T → IsSend (Run.the_row T)
+run_sends T s =
+    let R = Run.the_type T in
+    recorded_send (field R).row R.D R.to R.to_one (run_field_sends T s)
+
+geometry_sends : IsSend Geometry.the_field.row
+geometry_sends =
+    search (text_sends, shape.the_field_send, maps.crosses, values.crosses, json.crosses, sendable) depth 60 fits 20000
+
+geometry_syncs : IsSync Geometry.the_field.row
+geometry_syncs =
+    search (text_syncs, shape.the_field_sync, maps.crosses, values.crosses, json.crosses, sendable) depth 60 fits 20000
+
+pub script_sends : IsSend Script.the_field.row
+script_sends = search (
+  text_sends,
+  body_sends,
+  geometry_sends,
+  geometry_syncs,
+  maps.crosses,
+  values.crosses,
+  json.crosses,
+  sendable,
+) depth 60 fits 20000

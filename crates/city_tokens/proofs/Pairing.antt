@@ -1,6 +1,11 @@
 -- Lists whose items belong together one by one, and lists written one item after another.
 use Rattle.city_tokens.proofs.Prelude.{List, [], ◌∷◌, ◌++◌, ◌≡◌, ℕ, zero, suc, ◌<◌, drop, take, length, get_or, refl}
-use Rattle.city_tokens.proofs.Prelude.{ap, arith, AllByRecursion, Pairs, slice_set}
+use Rattle.city_tokens.proofs.Prelude.{◌∙◌, append_assoc}
+use Rattle.city_tokens.proofs.Prelude.{ap, arith, AllByRecursion, Pairs, slice_set, Option, Some, None, IfSome}
+use Rattle.std.specs.Prelude.{Vec, flat_map}
+use Rattle.std.specs.Vec.{vec_items}
+use Rattle.std.proofs.lemmas.List.{flat_map_more, take-append-drop}
+use Rattle.city_tokens.specs.inside.Stretches.{AreJoined}
 
 -- both grow by one at their ends
 pub pairs_push : {A B : Type 0} (R : A → B → Type 0) (xs : List A) (ys : List B) (x : A) (y : B) → Pairs R xs ys → R x y
@@ -34,3 +39,43 @@ item_written R (suc i) (s ∷ start) (d ∷ done) x y all below is one =
     (ap (λ zs. d ∷ zs) more.0, (all.0, more.1))
 item_written R _ [] [] x y all below is one = absurd (let no : ⊥ = omega (arith, below) in no)
 item_written R _ _ _ x y all below is one = absurd all
+
+-- what holds at each place of two lists of one length holds of both
+pub pairs_given : {A B : Type 0} (R : A → B → Type 0) (xs : List A) (ys : List B) → length ys ≡ length xs
+    → ((i : ℕ) (d : A) (e : B) → i < length xs → R (get_or xs i d) (get_or ys i e)) → Pairs R xs ys
+pairs_given R [] [] same h = tt
+pairs_given R (x ∷ xs) (y ∷ ys) same h = (
+  h 0 x y (omega arith),
+  pairs_given R xs ys (omega (arith, same))
+      (λ i d e less. h (suc i) d e (omega (arith, less))),
+)
+pairs_given R [] (y ∷ ys) same h = absurd (cc)
+pairs_given R (x ∷ xs) [] same h = absurd (cc)
+
+pub pairs_append : {A B : Type 0} (R : A → B → Type 0) (xs more : List A) (ys rest : List B) → Pairs R xs ys
+    → Pairs R more rest → Pairs R (xs ++ more) (ys ++ rest)
+pairs_append R [] more [] rest h k = k
+pairs_append R (x ∷ xs) more (y ∷ ys) rest h k = (h.0, pairs_append R xs more ys rest h.1 k)
+pairs_append R _ more _ rest h k = absurd h
+
+-- stretches that belong together are lists that do
+pub pairs_joined : {A B Z : Type 0} (R : A → B → Type 0) (xs : List (Vec A Z)) (ys : List (Option (Vec B Z)))
+    (all : List B) → Pairs (λ s o. IfSome o (λ p. Pairs R s.items p.items)) xs ys → AreJoined ys all
+    → Pairs R (flat_map vec_items xs) all
+pairs_joined R [] [] all h is = rw is tt
+pairs_joined R (x ∷ xs) (Some y ∷ ys) all h is =
+    rw is.1 (pairs_append R x.items (flat_map vec_items xs) y.items is.0 h.0 (pairs_joined R xs ys is.0 h.1 is.2))
+pairs_joined R (x ∷ xs) (None ∷ ys) all h is = absurd is
+pairs_joined R [] (y ∷ ys) all h is = absurd h
+pairs_joined R (x ∷ xs) [] all h is = absurd h
+
+-- the items of so many stretches, and of one more
+pub stretch_last : {A Z : Type 0} (xs : List (Vec A Z)) (x : Vec A Z) (all : List A)
+    → all ≡ flat_map vec_items xs ++ x.items → all ≡ flat_map vec_items (xs ++ x ∷ [])
+stretch_last xs x all h = h ∙ flat_map_more vec_items [] xs x
+
+pub stretch_cut : {A Z : Type 0} (xs : List (Vec A Z)) (old x y : Vec A Z) (n : ℕ) (all : List A)
+    → all ≡ flat_map vec_items xs ++ old.items → x.items ≡ take n old.items → y.items ≡ drop n old.items
+    → all ≡ flat_map vec_items (xs ++ x ∷ []) ++ y.items
+stretch_cut xs old x y n all h first later =
+    rw (← flat_map_more vec_items [] xs x, first, later, append_assoc, take-append-drop n old.items) h

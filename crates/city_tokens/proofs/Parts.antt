@@ -1,11 +1,12 @@
 -- Parts that stand one after another: runs of them, and what is read so far with the next ones.
 use Rattle.city_tokens.proofs.Prelude.{ℕ, ◌<◌, ◌≤◌, List, [], ◌∷◌, ◌++◌, length, Option, Some, None, refl, ap}
-use Rattle.city_tokens.proofs.Prelude.{subst, append_assoc, append-nil, arith, Token, Data, Members, put, Object, Vertex}
-use Rattle.city_tokens.proofs.Prelude.{Pairs, IsVertex}
-use Rattle.city_tokens.specs.declared.piece.Run.{Run}
+use Rattle.city_tokens.proofs.Prelude.{subst, append_assoc, append-nil, arith, Token, Data, Members, put, Object}
+use Rattle.city_tokens.proofs.Prelude.{Pairs}
+use Rattle.std.proofs.Common.{inl, inr}
+use Rattle.city_tokens.specs.declared.run.Run.{Run}
 use Rattle.city_tokens.specs.inside.Objects.{IsListing}
-use Rattle.city_tokens.specs.inside.Parts.{AreNext, IsNextObject, IsNextVertex}
-use Rattle.city_tokens.specs.inside.Pieces.{IsRun, IsAppended}
+use Rattle.city_tokens.specs.inside.Parts.{AreNext, IsNextObject, IsNextItem}
+use Rattle.city_tokens.specs.inside.Runs.{IsRun, IsAppended, IsLeft, ArePassed}
 use Rattle.city_tokens.proofs.Reading.{AreFound, AreRead, members_next, items_next, member_shorter, value_shorter}
 use Rattle.city_tokens.proofs.Pairing.{pairs_push}
 use Rattle.city_tokens.proofs.document.Listings.{listed}
@@ -34,11 +35,23 @@ module _ {A : Type 0} (R : A → List Token → List Token → Type 0) where
       let more = rw (← is.1) at k in
       rw (is.0, is.2, is.3) (next_append old.parts.items next.parts.items _ _ _ h more)
 
+  -- what is left of a run is a run
+  pub run_left : (text : List ℕ) (old new : Run A) → IsLeft old new → IsRun R text old → IsRun R text new
+  run_left text old new (inl same) h = rw same h
+  run_left text old new (inr end) h = rw (end.0, end.1, end.2) refl
+
+  -- what was passed stands there
+  pub run_passed : (text : List ℕ) (run : Run A) (more : List A) (before after : List Token)
+      → ArePassed text run more before after → IsRun R text run → AreNext R more before after
+  run_passed text run more before after (inl none) h = rw (none.0, none.1) refl
+  run_passed text run more before after (inr all) h = rw (all.0, all.1, all.2) h
+
 pub object_shorter : (e : List ℕ × Object) (old new : List Token) → IsNextObject e old new → length new < length old
 object_shorter e old new h = member_shorter old h.1 h.2.1
 
-pub vertex_shorter : (v : Vertex) (old new : List Token) → IsNextVertex v old new → length new < length old
-vertex_shorter v old new h = value_shorter 125 old new h.0 h.1
+pub item_shorter : {A : Type 0} (R : A → Data → Type 0) (depth : ℕ) (x : A) (old new : List Token)
+    → IsNextItem R depth x old new → length new < length old
+item_shorter R depth x old new h = value_shorter depth old new h.0 h.1
 
 -- the members so far, and objects that stand next
 pub objects_over : (es more : List (List ℕ × Object)) (start now new : List Token) (found : Members)
@@ -53,14 +66,15 @@ objects_over es (e ∷ more) start now new found h is next =
     next.2 in
     (rest.0, rest.1, subst (λ xs. IsListing xs rest.0) (append_assoc es (e ∷ []) more) rest.2)
 
--- the items so far, and vertices that stand next
-pub vertices_over : (vs more : List Vertex) (start now new : List Token) (ds : List Data) → AreRead 125 start now ds
-    → Pairs IsVertex vs ds → AreNext IsNextVertex more now new
-    → (all : List Data) × AreRead 125 start new all × Pairs IsVertex (vs ++ more) all
-vertices_over vs [] start now new ds h is next = (ds, rw (← next) h, rw (append-nil vs) is)
-vertices_over vs (v ∷ more) start now new ds h is next =
-    let read = next.1 in
-    let one = items_next h read.1 in
-    let rest = vertices_over (vs ++ v ∷ []) more start next.0 new (ds ++ read.0 ∷ []) one
-    (pairs_push IsVertex vs ds v read.0 is read.2) next.2 in
-    (rest.0, rest.1, subst (λ xs. Pairs IsVertex xs rest.0) (append_assoc vs (v ∷ []) more) rest.2)
+-- the items so far, and those that stand next
+module _ {A : Type 0} (R : A → Data → Type 0) (depth : ℕ) where
+  pub items_over : (xs more : List A) (start now new : List Token) (ds : List Data) → AreRead depth start now ds
+      → Pairs R xs ds → AreNext (IsNextItem R depth) more now new
+      → (all : List Data) × AreRead depth start new all × Pairs R (xs ++ more) all
+  items_over xs [] start now new ds h is next = (ds, rw (← next) h, rw (append-nil xs) is)
+  items_over xs (x ∷ more) start now new ds h is next =
+      let read = next.1 in
+      let one = items_next h read.1 in
+      let rest = items_over (xs ++ x ∷ []) more start next.0 new (ds ++ read.0 ∷ []) one
+      (pairs_push R xs ds x read.0 is read.2) next.2 in
+      (rest.0, rest.1, subst (λ ys. Pairs R ys rest.0) (append_assoc xs (x ∷ []) more) rest.2)

@@ -28,6 +28,13 @@ array_value depth ts new ds some h =
     let all = h.read (length ts) (omega arith) in
     record { read = rw (value-begin_array depth ts some, converted-array, all) refl; whole = h.whole }
 
+-- the items that nest so deep
+pub items_value : (depth : ℕ) (ts new : List Token) (ds : Items) → IsRestOfArray depth ts ds new
+    → IsValue (depth + 1) (Token.begin_array ∷ ts) (array ds) new
+items_value depth ts new ds h =
+    let one : depth ≡ depth + 1 - 1 = omega arith in
+    array_value (depth + 1) ts new ds (omega arith) (rw one at h)
+
 pub object_value : (depth : ℕ) (ts new : List Token) (ms : Members) → 0 < depth → IsRestOfObject (depth - 1) ts ms new
     → IsValue depth (Token.begin_object ∷ ts) (object ms) new
 object_value depth ts new ms some h =
@@ -128,8 +135,7 @@ after_value {depth} {before} {now} {new} {d} ds v rest =
           ∙ ap (parse_map (item d)) (rest.read (turns - 1) (omega (arith, less, enough)));
       whole = rw (v.whole, rest.whole) refl;
     } in
-    let one : depth ≡ depth + 1 - 1 = omega arith in
-    array_value (depth + 1) before new (items_of (d ∷ ds)) (omega arith) (rw one at all)
+    items_value depth before new (items_of (d ∷ ds)) all
 
 -- three items, and the bracket that closes them
 pub three_value : (depth : ℕ) {a b c e new : List Token} {x y z : Data} → 0 < depth → IsValue (depth - 1) a x b

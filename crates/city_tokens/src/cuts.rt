@@ -25,18 +25,34 @@ struct Sides {
     end: u8,
     /// The byte that begins what stands after it.
     start: u8,
+    /// What the first name of what stands after it may be; any, where there is none.
+    names: &'static [&'static [u8]],
+    /// Whether there are texts in what stands there.
+    has_texts: bool,
 }
 
 /// Between members that are objects.
 const MEMBERS: Sides = Sides {
     end: b'}',
     start: b'"',
+    names: &[],
+    has_texts: true,
 };
 
-/// Between items that are arrays.
+/// Between items that are arrays of numbers.
 const ITEMS: Sides = Sides {
     end: b']',
     start: b'[',
+    names: &[],
+    has_texts: false,
+};
+
+/// Between scripts, whose first name no command has.
+const SCRIPTS: Sides = Sides {
+    end: b'}',
+    start: b'{',
+    names: &[b"\"name\"", b"\"commands\"", b"\"vertices\""],
+    has_texts: true,
 };
 
 /// Part of a text that has what is cut.
@@ -44,8 +60,8 @@ const ITEMS: Sides = Sides {
 struct Stretch {
     start: usize,
     end: usize,
-    /// How many brackets are open where it ends.
-    open: i64,
+    /// How many brackets fewer are open where it ends than between its parts.
+    closed: i64,
 }
 
 /// What a walk over bytes knows.
@@ -86,15 +102,33 @@ impl Walk {
     }
 }
 
-/// Whether the bytes begin with this byte, but for blanks.
-fn begins_with(bytes: &[u8], start: u8) -> bool {
-    bytes.iter().find(|byte| **byte > b' ').copied() == Some(start)
+/// The bytes behind the blanks that they begin with, and behind this byte; none where another byte stands there.
+fn behind(bytes: &[u8], start: u8) -> Option<&[u8]> {
+    let at = bytes.iter().position(|byte| *byte > b' ')?;
+    if bytes.get(at).copied() != Some(start) {
+        return None;
+    }
+    bytes.get(at.saturating_add(1)..)
 }
 
-/// Whether a comma, behind which these bytes stand, has such a start on its right side.
-fn is_followed(window: &[u8], comma: usize, start: u8) -> bool {
-    match window.get(comma.saturating_add(1)..) {
-        Some(after) => begins_with(after, start),
+/// Whether the bytes begin with one of these names, but for blanks.
+fn begins_with_any(bytes: &[u8], names: &[&[u8]]) -> bool {
+    let Some(at) = bytes.iter().position(|byte| *byte > b' ') else {
+        return false;
+    };
+    let Some(name) = bytes.get(at..) else {
+        return false;
+    };
+    names.iter().any(|known| name.starts_with(known))
+}
+
+/// Whether a comma, behind which these bytes stand, has such a right side.
+fn is_followed(window: &[u8], comma: usize, sides: Sides) -> bool {
+    let Some(after) = window.get(comma.saturating_add(1)..) else {
+        return false;
+    };
+    match behind(after, sides.start) {
+        Some(inner) => sides.names.is_empty() || begins_with_any(inner, sides.names),
         None => false,
     }
 }
@@ -112,7 +146,7 @@ fn opened(window: &[u8]) -> i64 {
 fn first_at(window: &[u8], sides: Sides, open: i64) -> Option<usize> {
     let mut walk = Walk::new();
     for (i, byte) in window.iter().enumerate() {
-        if walk.pass(*byte, sides.end) && walk.open == open && is_followed(window, i, sides.start) {
+        if walk.pass(*byte, sides.end) && walk.open == open && is_followed(window, i, sides) {
             return Some(i);
         }
     }
@@ -124,7 +158,7 @@ fn last_at(window: &[u8], sides: Sides, open: i64) -> Option<usize> {
     let mut walk = Walk::new();
     let mut found = None;
     for (i, byte) in window.iter().enumerate() {
-        if walk.pass(*byte, sides.end) && walk.open == open && is_followed(window, i, sides.start) {
+        if walk.pass(*byte, sides.end) && walk.open == open && is_followed(window, i, sides) {
             found = Some(i);
         }
     }
@@ -137,7 +171,7 @@ fn first_outermost(window: &[u8], sides: Sides) -> Option<usize> {
     let mut found = None;
     let mut least = i64::MAX;
     for (i, byte) in window.iter().enumerate() {
-        if walk.pass(*byte, sides.end) && walk.open < least && is_followed(window, i, sides.start) {
+        if walk.pass(*byte, sides.end) && walk.open < least && is_followed(window, i, sides) {
             found = Some(i);
             least = walk.open;
         }
@@ -153,7 +187,7 @@ fn after_name(window: &[u8]) -> Option<usize> {
 
 /// Where the bytes surely stand outside of a string.
 fn outside(window: &[u8], sides: Sides) -> Option<usize> {
-    if sides.start == b'"' {
+    if sides.has_texts {
         after_name(window)
     } else {
         Some(0)
@@ -172,12 +206,12 @@ fn first_cut(bytes: &[u8], stretch: Stretch, sides: Sides) -> Option<usize> {
     Some(stretch.start.saturating_add(comma).saturating_add(1))
 }
 
-/// A cut soon behind a place. The stretch ends behind a comma between parts.
+/// A cut soon behind a place.
 fn next_cut(bytes: &[u8], stretch: Stretch, sides: Sides, near: usize) -> Option<usize> {
     let start = near.saturating_add(outside(window_at(bytes, stretch, near)?, sides)?);
     let window = window_at(bytes, stretch, start)?;
     let comma = if window.len() < WINDOW {
-        first_at(window, sides, opened(window))?
+        first_at(window, sides, opened(window).saturating_add(stretch.closed))?
     } else {
         first_outermost(window, sides)?
     };
@@ -189,10 +223,7 @@ fn last_cut(bytes: &[u8], stretch: Stretch, sides: Sides) -> Option<usize> {
     let near = stretch.start.max(stretch.end.saturating_sub(WINDOW));
     let start = near.saturating_add(outside(window_at(bytes, stretch, near)?, sides)?);
     let window = bytes.get(start..stretch.end)?;
-    // Two are open between the parts: the top, and what has them.
-    let open = opened(window)
-        .saturating_add(2)
-        .saturating_sub(stretch.open);
+    let open = opened(window).saturating_add(stretch.closed);
     let comma = last_at(window, sides, open)?;
     Some(start.saturating_add(comma).saturating_add(1))
 }
@@ -208,8 +239,9 @@ fn keep(cuts: &mut Vec<Position>, cut: Option<usize>) -> Option<()> {
     cuts.push(Position::after_comma(at)).ok()
 }
 
-/// Cuts of a stretch into so many pieces; fewer where it is short or a cut isn't found, and none without a last one.
-fn cuts_of(
+/// Cuts of a stretch, before which the last part stands, into so many pieces; fewer where it is short or a cut isn't
+/// found.
+fn cuts_before(
     alloc: Global,
     bytes: &[u8],
     stretch: Stretch,
@@ -221,19 +253,31 @@ fn cuts_of(
         .end
         .saturating_sub(stretch.start)
         .checked_div(count)?;
-    let Some(last) = last_cut(bytes, stretch, sides) else {
-        return Some(cuts);
-    };
-    // What stands behind the last part may look like parts.
-    let parts = Stretch {
-        end: last,
-        ..stretch
-    };
-    keep(&mut cuts, first_cut(bytes, parts, sides))?;
+    keep(&mut cuts, first_cut(bytes, stretch, sides))?;
     for i in 1..count {
         let near = stretch.start.saturating_add(step.saturating_mul(i));
-        keep(&mut cuts, next_cut(bytes, parts, sides, near))?;
+        keep(&mut cuts, next_cut(bytes, stretch, sides, near))?;
     }
+    Some(cuts)
+}
+
+/// Cuts of a stretch of a document; none without a last one, for what stands behind the last part may look like parts.
+fn cuts_of(
+    alloc: Global,
+    bytes: &[u8],
+    stretch: Stretch,
+    sides: Sides,
+    count: usize,
+) -> Option<Vec<Position>> {
+    let Some(last) = last_cut(bytes, stretch, sides) else {
+        return Some(Vec::new(alloc));
+    };
+    let parts = Stretch {
+        start: stretch.start,
+        end: last,
+        closed: 0,
+    };
+    let mut cuts = cuts_before(alloc, bytes, parts, sides, count)?;
     keep(&mut cuts, Some(last))?;
     Some(cuts)
 }
@@ -246,30 +290,31 @@ fn stretch_of(bytes: &[u8], name: usize, other: usize, bracket: u8) -> Option<St
         Some(Stretch {
             start,
             end: other,
-            open: 1,
+            closed: 1,
         })
     } else {
         Some(Stretch {
             start,
             end: bytes.len(),
-            open: 0,
+            closed: 2,
         })
     }
 }
 
-/// How many pieces are worth it.
-fn count_of(bytes: &[u8], pieces: Pieces) -> usize {
+/// Into how many pieces the bytes are cut; none where they are too short, or have an escape.
+fn count_of(bytes: &[u8], pieces: Pieces) -> Option<usize> {
     let most = bytes.len().checked_div(pieces.least);
-    pieces.count.min(most.unwrap_or(pieces.count))
+    let count = pieces.count.min(most.unwrap_or(pieces.count));
+    if count < 2 || memchr(b'\\', bytes).is_some() {
+        return None;
+    }
+    Some(count)
 }
 
 /// Where a document can be cut; none where it is too short, has an escape or but one part, or doesn't look like one.
 pub fn cuts_of_document(alloc: Global, text: &str, pieces: Pieces) -> Option<Cuts> {
     let bytes = text.as_bytes();
-    let count = count_of(bytes, pieces);
-    if count < 2 || memchr(b'\\', bytes).is_some() {
-        return None;
-    }
+    let count = count_of(bytes, pieces)?;
     let objects = memmem::find(bytes, b"\"CityObjects\"")?;
     let vertices = memmem::rfind(bytes, b"\"vertices\"")?;
     let of_objects = stretch_of(bytes, objects, vertices, b'{')?;
@@ -279,6 +324,25 @@ pub fn cuts_of_document(alloc: Global, text: &str, pieces: Pieces) -> Option<Cut
         vertices: cuts_of(alloc, bytes, of_vertices, ITEMS, count)?,
     };
     if cuts.objects.len() < 2 && cuts.vertices.len() < 2 {
+        return None;
+    }
+    Some(cuts)
+}
+
+/// Where a text of scripts can be cut; none where it is too short, has an escape or less than three scripts, or doesn't
+/// look like one.
+pub fn cuts_of_scripts(alloc: Global, text: &str, pieces: Pieces) -> Option<Vec<Position>> {
+    let bytes = text.as_bytes();
+    let count = count_of(bytes, pieces)?;
+    let before = memchr(b'[', bytes)?;
+    let scripts = Stretch {
+        start: before.saturating_add(1),
+        end: bytes.len(),
+        closed: 1,
+    };
+    let mut cuts = cuts_before(alloc, bytes, scripts, SCRIPTS, count)?;
+    keep(&mut cuts, last_cut(bytes, scripts, SCRIPTS))?;
+    if cuts.len() < 2 {
         return None;
     }
     Some(cuts)

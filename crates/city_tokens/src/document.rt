@@ -1,15 +1,20 @@
 //! Reads documents, whose cities have no fault in a body.
-ghost use Rattle.std.specs.Prelude.{◌≡◌, ◌&&◌, IfSome, Some, true, codes, option_map};
+ghost use Rattle.std.specs.Prelude.{◌≡◌, ◌&&◌, List, IfSome, Some, true, codes, option_map};
 ghost use Rattle.serde_json.specs.Data.{Data, Members, object};
 ghost use Rattle.serde_json.specs.Find.{get_member};
 ghost use Rattle.serde_json.specs.View.{view, members_view};
-ghost use Rattle.city_model.specs.CityMap.{object_at};
+ghost use Rattle.city_model.specs.CityMap.{Entries, object_at};
 ghost use Rattle.city_model.specs.Integral.{is_integral};
 ghost use Rattle.city_model.specs.inside.Faultless.{IsFaultless};
-ghost use Rattle.city_tokens.specs.document.Cities.{city_of};
+ghost use Rattle.city_model.specs.declared.object.Point.{Point as SpecPoint};
+ghost use Rattle.city_tokens.specs.declared.document.TopParts.{TopParts as SpecTopParts};
+ghost use Rattle.city_tokens.specs.document.Cities.{city_of, entries_of};
 ghost use Rattle.city_tokens.specs.tree.Members.{is_text};
 ghost use Rattle.city_tokens.specs.tree.Texts.{HasTree};
-ghost use Rattle.city_tokens.specs.inside.Tops.{IsTopSoFar, IsTop, IsCity};
+ghost use Rattle.city_tokens.specs.inside.Faultless.{AreFaultless};
+ghost use Rattle.city_tokens.specs.inside.Objects.{IsListing, IsPlacedObject};
+ghost use Rattle.city_tokens.specs.inside.Standing.{Pairs};
+ghost use Rattle.city_tokens.specs.inside.Tops.{IsTopSoFar, IsTop, IsCity, ArePlaced};
 
 use crate::frame::frame_of_rest;
 use crate::in_pieces::top_in_pieces;
@@ -18,16 +23,19 @@ use crate::object::UnplacedObject;
 use crate::objects::read_objects;
 use crate::own::{Own, read_object};
 use crate::pieces::Pieces;
-use crate::placing::placed_objects;
+use crate::placing::place_objects;
+use crate::stretches::place_objects_by;
 use crate::vertices::Vertex;
 use crate::whole_text::read_whole_text;
 use city_model::city::City;
 use city_model::members::member;
+use city_model::object::Object;
 use city_model::sequence::Sequence;
 use city_model::text::Id;
 use city_reader::Reader;
 use serde_json::{Map, Value};
 use std::alloc::Global;
+use std::collections::BTreeMap;
 use std::thread::Threads;
 
 /// What was read of the members of a document's top so far.
@@ -81,16 +89,53 @@ fn is_city_json(rest: &Map<String, Value>) -> bool
     is_text(member(rest, "type"), "CityJSON") && is_text(member(rest, "version"), "2.0")
 }
 
-/// The city of what was read of all members of the top, and of the kept ones.
-fn city_of(alloc: Global, parts: TopParts, rest: Map<String, Value>) -> Option<City>
-    ensures { IfSome result (λ c. (found : Members)
+/// The objects that were read of all members of the top, with points in the places of their positions.
+fn placed_objects(alloc: Global, parts: TopParts) -> Option<Vec<(Id, Object)>>
+    ensures { IfSome result (λ placed. ArePlaced parts placed.items) }
+{
+    let vertices = parts.vertices?;
+    let objects = parts.objects?;
+    place_objects(alloc, vertices.as_slice(), objects.into_vec())
+}
+
+/// The same, placed by so many threads.
+fn placed_objects_by<R: Threads + Sync>(
+    rt: &R,
+    alloc: Global,
+    parts: TopParts,
+    count: usize,
+) -> Option<Vec<(Id, Object)>>
+    ensures { IfSome result (λ placed. ArePlaced parts placed.items) }
+{
+    let vertices = parts.vertices?;
+    let objects = parts.objects?;
+    place_objects_by(rt, alloc, vertices.as_slice(), objects.into_vec(), count)
+}
+
+/// The objects by their ids.
+///
+/// All are put into the map at once: where the text has them in the order of their ids, each id is compared with the
+/// one before it alone, and the nodes of the map are full.
+fn by_ids(alloc: Global, placed: Vec<(Id, Object)>) -> Option<BTreeMap<Id, Object>>
+    ensures entries { IfSome result (λ objects. (points : List SpecPoint) (all : Entries) (found : Members)
+        → Pairs (IsPlacedObject points) all placed.items → IsListing all found
+        → entries_of points found ≡ Some objects.entries) }
+    ensures faultless { IfSome result (λ objects. (points : List SpecPoint) (all : Entries)
+        → Pairs (IsPlacedObject points) all placed.items → AreFaultless objects.entries) }
+{
+    let objects = placed.into_iter().collect(alloc).ok()?;
+    Some(objects)
+}
+
+/// The city of the objects of a top, and of the members that are kept.
+fn city_of(alloc: Global, placed: Vec<(Id, Object)>, rest: Map<String, Value>) -> Option<City>
+    ensures { IfSome result (λ c. (parts : SpecTopParts) (found : Members) → ArePlaced parts placed.items
         → IsTopSoFar parts found (members_view rest.entries) → IsCity c (object found)) }
 {
     if !is_city_json(&rest) {
         return None;
     }
-    let vertices = parts.vertices?;
-    let objects = placed_objects(alloc, vertices.as_slice(), parts.objects?)?;
+    let objects = by_ids(alloc, placed)?;
     let frame = frame_of_rest(rest)?;
     Some(City::from_parts(frame, objects))
 }
@@ -127,11 +172,12 @@ pub fn streamed_city(alloc: Global, bytes: &[u8]) -> Option<City>
 {
     let top = read_whole_text::<Top>(alloc, bytes)?;
     // By now the reader's memory, as much as the text, is free again: the map is made after it.
-    city_of(alloc, top.parts, top.rest)
+    let placed = placed_objects(alloc, top.parts)?;
+    city_of(alloc, placed, top.rest)
 }
 
-/// The city that a text stands for, of which so many threads read pieces; none also where it can't be cut, or was cut
-/// at wrong places.
+/// The city that a text stands for, of which so many threads read and place pieces; none also where it can't be cut, or
+/// was cut at wrong places.
 pub fn city_in_pieces<R: Threads + Sync>(
     rt: &R,
     alloc: Global,
@@ -142,7 +188,8 @@ pub fn city_in_pieces<R: Threads + Sync>(
         × (city_of d ≡ Some c) × IsFaultless (object_at c.1)) }
 {
     let top = top_in_pieces(rt, alloc, bytes, pieces)?;
-    city_of(alloc, top.parts, top.rest)
+    let placed = placed_objects_by(rt, alloc, top.parts, pieces.count)?;
+    city_of(alloc, placed, top.rest)
 }
 
 /// The city that a text stands for, as `streamed_city` gives it; a large text is read by so many threads, in pieces.

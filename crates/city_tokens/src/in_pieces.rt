@@ -1,26 +1,22 @@
 //! Reads documents of which several workers read pieces beforehand.
-ghost use Rattle.std.specs.Prelude.{◌≡◌, [], List, true, IfSome};
+ghost use Rattle.std.specs.Prelude.{◌≡◌, [], true, IfSome};
 ghost use Rattle.serde_json.specs.Data.{Data, Members};
-ghost use Rattle.serde_json.specs.View.{items_of};
 ghost use Rattle.city_model.specs.Integral.{is_integral};
 ghost use Rattle.city_tokens.specs.inside.Objects.{AreObjects, IsListing};
-ghost use Rattle.city_tokens.specs.inside.Positions.{IsVertex};
-ghost use Rattle.city_tokens.specs.inside.Standing.{Pairs, IsArrayOf, IsReadAs};
-ghost use Rattle.city_tokens.specs.inside.Taken.{IsRestOfArray, IsRestOfObject};
+ghost use Rattle.city_tokens.specs.inside.Standing.{IsReadAs};
+ghost use Rattle.city_tokens.specs.inside.Taken.{IsRestOfObject};
 ghost use Rattle.city_tokens.specs.inside.Tops.{IsTop, IsTopInPieces};
 ghost use Rattle.city_tokens.specs.tree.Texts.{HasTree};
 
 use crate::cuts::cuts_of_document;
 use crate::document::{Top, TopParts};
 use crate::limits::MAX_TEXT;
-use crate::list::FromTokens;
 use crate::object::{UnplacedObject, read_object};
 use crate::own::{Own, read_object as read_members};
 use crate::part::PART_DEPTH;
 use crate::pieces::Pieces;
 use crate::runs::Runs;
 use crate::text::text_of;
-use crate::vertices::Vertex;
 use crate::whole_text::DEPTH;
 use city_model::sequence::Sequence;
 use city_model::text::Id;
@@ -48,60 +44,18 @@ fn rest_of_objects(
     Some(Sequence::from_vec(objects))
 }
 
-/// Reads the vertices up to the bracket that closes them, but for those that were read beforehand.
-fn rest_of_vertices(
-    alloc: Global,
-    reader: &mut Reader<'_>,
-    runs: &mut Runs<'_>,
-) -> Option<Sequence<Vertex>>
-    ensures { IfSome result (λ vs. (ds : List Data) × Pairs IsVertex vs ds
-        × IsRestOfArray 125 reader.old (items_of ds) reader.new) }
-{
-    let mut vertices = Vec::new(alloc);
-    'vertices: while !reader.take_end_array() {
-        let vertex = Vertex::from_tokens(alloc, reader, PART_DEPTH)?;
-        vertices.push(vertex).ok()?;
-        runs.pass_vertices(alloc, reader, &mut vertices)?;
-    }
-    vertices.shrink_to_fit();
-    Some(Sequence::from_vec(vertices))
-}
-
 /// The next value, an object whose members are city objects.
 fn read_objects(
     alloc: Global,
     reader: &mut Reader<'_>,
-    depth: usize,
     runs: &mut Runs<'_>,
 ) -> Option<Sequence<(Id, UnplacedObject)>>
-    ensures { IfSome result (λ es. IsReadAs AreObjects es depth reader.old reader.new) }
+    ensures { IfSome result (λ es. IsReadAs AreObjects es 126 reader.old reader.new) }
 {
     let Token::BeginObject = reader.next()? else {
         return None;
     };
-    // The pieces were read as what stands so deep.
-    if depth != PART_DEPTH + 1 {
-        return None;
-    }
     rest_of_objects(alloc, reader, runs)
-}
-
-/// The next value, an array of vertices.
-fn read_vertices(
-    alloc: Global,
-    reader: &mut Reader<'_>,
-    depth: usize,
-    runs: &mut Runs<'_>,
-) -> Option<Sequence<Vertex>>
-    ensures { IfSome result (λ vs. IsReadAs (IsArrayOf IsVertex) vs depth reader.old reader.new) }
-{
-    let Token::BeginArray = reader.next()? else {
-        return None;
-    };
-    if depth != PART_DEPTH + 1 {
-        return None;
-    }
-    rest_of_vertices(alloc, reader, runs)
 }
 
 /// What was read of the members of a document's top so far, and of its objects and vertices beforehand.
@@ -121,13 +75,17 @@ impl<'t> Own for TopInPieces<'t> {
         reader: &mut Reader<'_>,
         depth: usize,
     ) -> Option<bool> {
+        // The pieces were read as what stands so deep.
+        if depth != PART_DEPTH + 1 {
+            return None;
+        }
         match name {
             "CityObjects" => {
-                let objects = read_objects(alloc, reader, depth, &mut self.runs)?;
+                let objects = read_objects(alloc, reader, &mut self.runs)?;
                 self.parts.objects = Some(objects);
             }
             "vertices" => {
-                let vertices = read_vertices(alloc, reader, depth, &mut self.runs)?;
+                let vertices = self.runs.read_vertices(alloc, reader)?;
                 self.parts.vertices = Some(vertices);
             }
             _ => return Some(false),

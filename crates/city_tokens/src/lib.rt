@@ -5,9 +5,9 @@
 //!
 //! - `value`, `text`, `list`: values, texts and arrays
 //! - `own`: objects some of whose members have places of their own, while the others are kept
-//! - `position`, `vertices`, `boundaries`, `placing`: positions, and the points that take their places
+//! - `position`, `vertices`, `boundaries`, `placing`, `stretches`: positions, and the points that take their places
 //! - `geometry`, `object`, `objects`, `document`: what a city is made of, and the city
-//! - `cuts`, `part`, `piece`, `runs`, `in_pieces`: documents of which several workers read pieces
+//! - `cuts`, `part`, `run`, `items`, `runs`, `in_pieces`: texts of which several workers read pieces
 //! - `body`, `other`, `command`, `script`, `scripts`: bodies, what else commands have, commands and scripts
 //! - `frame`, `triples`: the frame of a document, three whole numbers, both of trees
 //! - `whole_text`, `limits`: whole texts, and how large they may be
@@ -21,6 +21,7 @@ mod document;
 mod frame;
 mod geometry;
 mod in_pieces;
+mod items;
 mod limits;
 mod list;
 mod object;
@@ -28,13 +29,14 @@ mod objects;
 mod other;
 mod own;
 mod part;
-mod piece;
 mod pieces;
 mod placing;
 mod position;
+mod run;
 mod runs;
 mod script;
 mod scripts;
+mod stretches;
 mod text;
 mod triples;
 mod value;
@@ -45,5 +47,5 @@ pub use document::{city_in_pieces, is_text, streamed_city, streamed_city_by};
 pub use frame::{frame_of_rest, triple_at};
 pub use limits::{MAX_COMMANDS, MAX_SCRIPTS, MAX_TEXT};
 pub use pieces::Pieces;
-pub use scripts::streamed_scripts;
+pub use scripts::{scripts_in_pieces, streamed_scripts, streamed_scripts_by};
 pub use triples::{are_triples, triple_of};

@@ -1,19 +1,23 @@
-//! Reads parts that stand one after another between two positions of a text: objects by their ids, or vertices.
+//! Reads parts that stand one after another between two positions of a text: objects by their ids, vertices, scripts.
 ghost use Rattle.std.specs.Prelude.{◌≡◌, ◌<◌, List, length, IfSome};
 ghost use Rattle.json.specs.Token.{Token as SpecToken};
 ghost use Rattle.city_reader.specs.Positions.{tokens_from};
-ghost use Rattle.city_tokens.specs.inside.Parts.{AreNext, IsNextObject, IsNextVertex};
+ghost use Rattle.city_tokens.specs.inside.Parts.{AreNext, IsNextObject, IsNextVertex, IsNextScript};
 
 use crate::list::FromTokens;
 use crate::object::{UnplacedObject, read_object};
 use crate::text::text_of;
 use crate::vertices::Vertex;
+use city_model::script::Script;
 use city_model::text::Id;
 use city_reader::{Position, Reader};
 use std::alloc::Global;
 
 /// How deep a city object, or a vertex, may nest.
 pub const PART_DEPTH: usize = 125;
+
+/// How deep a script may nest.
+pub const SCRIPT_DEPTH: usize = 126;
 
 /// What stands many times, one after another, in a text.
 pub trait Part: Sized + Drop {
@@ -42,6 +46,14 @@ impl Part for Vertex {
 
     fn next_part(alloc: Global, reader: &mut Reader<'_>) -> Option<Vertex> {
         Vertex::from_tokens(alloc, reader, PART_DEPTH)
+    }
+}
+
+impl Part for Script {
+    ghost stands = { IsNextScript };
+
+    fn next_part(alloc: Global, reader: &mut Reader<'_>) -> Option<Script> {
+        Script::from_tokens(alloc, reader, SCRIPT_DEPTH)
     }
 }
 

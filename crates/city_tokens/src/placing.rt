@@ -1,14 +1,12 @@
 //! Replaces positions by their points.
 ghost use Rattle.std.specs.Prelude.{◌≡◌, ℕ, List, Option, Some, None, IfSome};
-ghost use Rattle.serde_json.specs.Data.{Data, Members};
+ghost use Rattle.serde_json.specs.Data.{Data};
 ghost use Rattle.city_model.specs.declared.object.Point as p;
 ghost use Rattle.city_model.specs.Shells.{body_fault};
-ghost use Rattle.city_tokens.specs.document.Cities.{entries_of};
 ghost use Rattle.city_tokens.specs.object.Bodies.{object_of};
 ghost use Rattle.city_tokens.specs.shape.Geometries.{point_at, shape_of, geometry_of};
-ghost use Rattle.city_tokens.specs.inside.Faultless.{AreFaultless};
 ghost use Rattle.city_tokens.specs.inside.Geometries.{IsShape, IsGeometry};
-ghost use Rattle.city_tokens.specs.inside.Objects.{IsObject, IsListing, IsPlacedObject};
+ghost use Rattle.city_tokens.specs.inside.Objects.{IsObject, IsPlacedObject};
 ghost use Rattle.city_tokens.specs.inside.Positions.{IsPlaced, IsPosition, points_of};
 ghost use Rattle.city_tokens.specs.inside.Standing.{Pairs, IsArrayOf};
 ghost use Rattle.city_tokens.specs.tree.Lists.{list_of};
@@ -21,7 +19,6 @@ use city_model::sequence::Sequence;
 use city_model::shared::Shared;
 use city_model::text::Id;
 use std::alloc::Global;
-use std::collections::BTreeMap;
 use std::mem::replace;
 
 /// What has positions, each to be replaced by its point.
@@ -138,7 +135,7 @@ fn place_object(alloc: Global, vertices: &[Vertex], object: UnplacedObject) -> O
 
 /// Puts points in the places of the positions of all objects; none where a position names no vertex,
 /// or where a body has a fault.
-fn place_each(
+pub fn place_objects(
     alloc: Global,
     vertices: &[Vertex],
     unplaced: Vec<(Id, UnplacedObject)>,
@@ -151,23 +148,4 @@ fn place_each(
         placed.push((id, object)).ok()?;
     }
     Some(placed)
-}
-
-/// The objects by their ids, with each position replaced by its point; none where a position names
-/// no vertex, or where a body has a fault.
-///
-/// All are put into the map at once: where the text has them in the order of their ids, each id is compared with the
-/// one before it alone, and the nodes of the map are full.
-pub fn placed_objects(
-    alloc: Global,
-    vertices: &[Vertex],
-    listed: Sequence<(Id, UnplacedObject)>,
-) -> Option<BTreeMap<Id, Object>>
-    ensures placed { IfSome result (λ objects. (found : Members) → IsListing listed found
-        → entries_of (points_of vertices.now) found ≡ Some objects.entries) }
-    ensures faultless { IfSome result (λ objects. AreFaultless objects.entries) }
-{
-    let placed = place_each(alloc, vertices, listed.into_vec())?;
-    let objects = placed.into_iter().collect(alloc).ok()?;
-    Some(objects)
 }

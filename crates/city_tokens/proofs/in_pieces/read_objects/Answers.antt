@@ -7,4 +7,4 @@ returns c =
     IfSome_then c.rest_of_objects.result c.rest_of_objects.ensures (λ es rest.
     let seen = seen_token c.in_ok-next.ensures (ap token_of c.in-BeginObject.is) refl
     (object_value 126 _ _ _ (omega arith) rest.1) in
-    (object rest.0, rw c.if-depth.false seen, (rest.0, refl, rest.2)))
+    (object rest.0, seen, (rest.0, refl, rest.2)))

@@ -1,4 +1,4 @@
-use Rattle.city_tokens.proofs.Prelude.{◌≡◌, w64, sym, ap, rules, to_z, of_z, number, of_integer}
+use Rattle.city_tokens.proofs.Prelude.{◌≡◌, w64, ap, rules, to_z, of_z, number, of_integer}
 use Rattle.city_tokens.proofs.Reading.{seen_value, whole_value}
 use Rattle.city_tokens.proofs.vertices.read_whole.Goals as goal
 

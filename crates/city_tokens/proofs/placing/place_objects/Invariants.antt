@@ -1,5 +1,5 @@
 use Rattle.city_tokens.proofs.Prelude.{◌≡◌, ◌++◌, into_iter_items, Entries, IsPlacedObject, points_of, Pairs}
-use Rattle.city_tokens.proofs.placing.place_each.Given as goal
+use Rattle.city_tokens.proofs.placing.place_objects.Given as goal
 
 abbrev pub invariant-loop-id : goal.invariant-loop-id
 invariant-loop-id l =

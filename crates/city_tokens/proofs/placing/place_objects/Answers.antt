@@ -3,7 +3,7 @@ use Rattle.city_tokens.proofs.Prelude.{into_iter_items, Object, IsPlacedObject, 
 use Rattle.std.specs.Bool.{if◌then◌else◌}
 use Rattle.std.proofs.lemmas.List.{append-nil, nil_from_length}
 use Rattle.city_tokens.proofs.Pairing.{pairs_push}
-use Rattle.city_tokens.proofs.placing.place_each.Goals as goal
+use Rattle.city_tokens.proofs.placing.place_objects.Goals as goal
 
 pub loop-id-preserved : goal.loop-id-preserved
 loop-id-preserved c =

@@ -1,0 +1,57 @@
+//! Reads arrays of which several workers read items beforehand.
+ghost use Rattle.std.specs.Prelude.{◌+◌, List, IfSome};
+ghost use Rattle.serde_json.specs.Data.{Data};
+ghost use Rattle.serde_json.specs.View.{items_of};
+ghost use Rattle.city_tokens.specs.inside.Parts.{IsNextItem};
+ghost use Rattle.city_tokens.specs.inside.Runs.{IsRun};
+ghost use Rattle.city_tokens.specs.inside.Standing.{Pairs, IsArrayOf, IsReadAs};
+ghost use Rattle.city_tokens.specs.inside.Taken.{IsRestOfArray};
+
+use crate::list::FromTokens;
+use crate::run::Run;
+use city_model::sequence::Sequence;
+use city_reader::Reader;
+use json::Token;
+use std::alloc::Global;
+
+/// Reads the items up to the bracket that closes them, but for those of a text that were read beforehand.
+fn rest_of_items<T: FromTokens>(
+    alloc: Global,
+    reader: &mut Reader<'_>,
+    depth: usize,
+    text: &str,
+    run: &mut Run<T>,
+) -> Option<Sequence<T>>
+    requires { IsRun (IsNextItem T.stands depth) text.now run.old }
+    ensures left { IsRun (IsNextItem T.stands depth) text.now run.new }
+    ensures read { IfSome result (λ xs. (ds : List Data) × Pairs T.stands xs ds
+        × IsRestOfArray depth reader.old (items_of ds) reader.new) }
+{
+    let mut items = Vec::new(alloc);
+    'items: while !reader.take_end_array() {
+        let item = T::from_tokens(alloc, reader, depth)?;
+        items.push(item).ok()?;
+        run.pass(alloc, text, reader, &mut items)?;
+    }
+    items.shrink_to_fit();
+    Some(Sequence::from_vec(items))
+}
+
+/// The next value, an array whose items nest so deep, of which those of a text were read beforehand.
+pub fn read_items<T: FromTokens>(
+    alloc: Global,
+    reader: &mut Reader<'_>,
+    depth: usize,
+    text: &str,
+    run: &mut Run<T>,
+) -> Option<Sequence<T>>
+    requires { IsRun (IsNextItem T.stands depth) text.now run.old }
+    ensures left { IsRun (IsNextItem T.stands depth) text.now run.new }
+    ensures read { IfSome result
+        (λ xs. IsReadAs (IsArrayOf T.stands) xs (depth + 1) reader.old reader.new) }
+{
+    let Token::BeginArray = reader.next()? else {
+        return None;
+    };
+    rest_of_items(alloc, reader, depth, text, run)
+}
