@@ -33,4 +33,4 @@ pub use pieces::{LEAST_PIECE, pieces_for};
 pub use pool::{FIXED_SEED, VertexPool};
 pub use report::write::{seeded_report, write_report};
 pub use script::all_faults::script_faults_of;
-pub use script::read::read_scripts;
+pub use script::read::{read_scripts, read_scripts_by};

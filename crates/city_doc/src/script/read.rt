@@ -23,9 +23,10 @@ use city_model::command::Command;
 use city_model::object::Point;
 use city_model::script::Script;
 use city_model::sequence::Sequence;
-use city_tokens::{MAX_SCRIPTS, streamed_scripts};
+use city_tokens::{MAX_SCRIPTS, Pieces, streamed_scripts, streamed_scripts_by};
 use serde_json::Value;
 use std::alloc::Global;
+use std::thread::Threads;
 
 /// Reads a text of scripts.
 ///
@@ -41,6 +42,26 @@ pub fn read_scripts(alloc: Global, bytes: &[u8]) -> Result<Sequence<Script>, Scr
         ⊎ ((ss : List Scripted) → IsReadAs bytes.now ss → ⊥)) }
 {
     match streamed_scripts(alloc, bytes) {
+        Some(scripts) => Ok(scripts),
+        None => read_tree(alloc, bytes),
+    }
+}
+
+/// Reads a text of scripts as `read_scripts` does, and answers the same; a large one is read in pieces, each by a
+/// thread.
+pub fn read_scripts_by<R: Threads + Sync>(
+    rt: &R,
+    alloc: Global,
+    bytes: &[u8],
+    pieces: Pieces,
+) -> Result<Sequence<Script>, ScriptFault>
+    ensures readable { OnOk result (IsReadable bytes.now) }
+    ensures fault { IfErr result (λ f. ScriptTextFault bytes.now f) }
+    ensures read { IfOk result (λ ss. IsReadAs bytes.now ss) }
+    ensures refused { IfErr result (λ f. (f ≡ ScriptFault.OutOfMemory)
+        ⊎ ((ss : List Scripted) → IsReadAs bytes.now ss → ⊥)) }
+{
+    match streamed_scripts_by(rt, alloc, bytes, pieces) {
         Some(scripts) => Ok(scripts),
         None => read_tree(alloc, bytes),
     }
