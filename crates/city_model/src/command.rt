@@ -3,6 +3,7 @@ use crate::kept::extra::Extra;
 use crate::kept::site::AtAttributes;
 use crate::object::{Body, Geometries, Object};
 use crate::sequence::Sequence;
+use crate::shared::Shared;
 use crate::text::{Id, Text};
 
 /// Attributes that a command names, each with a value.
@@ -14,9 +15,9 @@ pub enum Command {
     /// Returns the object, or says that none is there.
     Read(Id),
     /// Gives the object a body: a new object, without relations, where none is there.
-    Put(Id, Body),
+    Put(Id, Shared<Body>),
     /// Adds an object of this body, without relations. It is refused where an object is there.
-    Add(Id, Body),
+    Add(Id, Shared<Body>),
     /// Gives the named attributes of the object these values; all else stays.
     Set(Id, Attributes),
     /// Takes the attributes of these names out of the object; all else stays.

@@ -30,8 +30,8 @@ fn add_bodies(alloc: Global, commands: &[Command], answer: &mut Written) {
         if let Command::Put(id, body) = command {
             answer.add(id.as_str());
             answer.add(" ");
-            add_cause(alloc, body, answer);
-            add_shells(alloc, body, answer);
+            add_cause(alloc, body.get(), answer);
+            add_shells(alloc, body.get(), answer);
         }
     }
 }

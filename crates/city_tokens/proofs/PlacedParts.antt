@@ -1,5 +1,5 @@
 -- What is read of trees by what stood for their parts: objects, bodies that commands give, and commands.
-use Rattle.city_tokens.proofs.Prelude.{◌≡◌, ℕ, List, [], ◌∷◌, Option, Some, None, refl, Bool, true, false, codes, Data}
+use Rattle.city_tokens.proofs.Prelude.{◌≡◌, ℕ, List, [], ◌∷◌, Option, Some, None, refl, sym, Bool, true, false, codes, Data}
 use Rattle.city_tokens.proofs.Prelude.{array, no_items, Members, put, get, get_member, as_str, items_of, Geometry}
 use Rattle.city_tokens.proofs.Prelude.{Point, object_of, geometry_of, IsGeometry, IsObject, IsObjectSoFar, IsPlaced}
 use Rattle.city_tokens.proofs.Prelude.{Pairs, IsArrayOf, IsListSlot, IsString, IsTaken, IsPassed, read_items, list_of}
@@ -84,6 +84,10 @@ module _ (points : List Point) (b : Body) (new : List Geometry)
   add_placed c id is d h =
       let add : IsCommand (Add id b) d = rw is at h in
       rw (add.1, body_placed add.0 add.2) refl
+
+-- such a body
+pub body_is : (b new : Body) → new.kind ≡ b.kind → new.extra ≡ b.extra → record b { geometry = new.geometry } ≡ new
+body_is b new kind extra = λ i. record { kind = sym kind i; geometry = new.geometry; extra = sym extra i }
 
 -- a command of geometries alone
 pub reshape_placed : (points : List Point) (c : Command) (id : List ℕ) (old new : List Geometry) → c ≡ Reshape id old

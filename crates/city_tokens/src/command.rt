@@ -2,6 +2,11 @@
 ghost use Rattle.std.specs.Prelude.{◌≡◌, Some, None, IfSome};
 ghost use Rattle.serde_json.specs.Data.{Members, object, string};
 ghost use Rattle.city_tokens.specs.script.Commands.{command_of};
+ghost use Rattle.city_tokens.specs.shape.Geometries.{geometry_of};
+ghost use Rattle.city_tokens.specs.inside.Geometries.{IsGeometry};
+ghost use Rattle.city_tokens.specs.inside.Positions.{IsPlaced, points_of};
+ghost use Rattle.city_tokens.specs.inside.Standing.{IsArrayOf};
+ghost use Rattle.city_tokens.specs.tree.Lists.{list_of};
 ghost use Rattle.city_tokens.specs.inside.Commands.{verb_name, with_verb, AreOthers, IsCommand, IsCommandSoFar};
 
 use crate::list::FromTokens;
@@ -11,10 +16,13 @@ use crate::placing::Places;
 use crate::text::{read_str, text_of};
 use crate::vertices::Vertex;
 use city_model::command::Command;
+use city_model::object::Body;
+use city_model::shared::Shared;
 use city_model::text::{Id, Text};
 use city_reader::Reader;
 use json::Token;
 use std::alloc::Global;
+use std::mem::replace;
 
 /// What a command does with the id or the name that it has.
 #[derive(Clone, Copy)]
@@ -70,20 +78,20 @@ impl Own for CommandParts {
         reader: &mut Reader<'_>,
         depth: usize,
     ) -> Option<bool> {
-        if let Some(verb) = verb_named(name) {
-            if self.verb.is_some() {
-                return None;
+        // (a second verb is no other member)
+        if self.verb.is_none() {
+            if let Some(verb) = verb_named(name) {
+                let text = read_str(reader)?;
+                let copy = text_of(alloc, text)?;
+                self.verb = Some((verb, copy));
+                return Some(true);
             }
-            let text = read_str(reader)?;
-            let copy = text_of(alloc, text)?;
-            self.verb = Some((verb, copy));
-        } else {
-            if self.other.is_some() {
-                return None;
-            }
-            let other = read_other(alloc, name, reader, depth)?;
-            self.other = Some(other);
         }
+        if self.other.is_some() {
+            return None;
+        }
+        let other = read_other(alloc, name, reader, depth)?;
+        self.other = Some(other);
         Some(true)
     }
 }
@@ -108,8 +116,8 @@ fn pair_command(verb: Verb, id: Id, other: Other) -> Option<Command>
         → IsCommand c (object (with_verb (Some (verb, id)) others))) }
 {
     match (verb, other) {
-        (Verb::Put, Other::Object(body)) => Some(Command::Put(id, body)),
-        (Verb::Add, Other::Object(body)) => Some(Command::Add(id, body)),
+        (Verb::Put, Other::Object(body)) => Some(Command::Put(id, Shared::unshared(body))),
+        (Verb::Add, Other::Object(body)) => Some(Command::Add(id, Shared::unshared(body))),
         (Verb::Set, Other::Attributes(values)) => Some(Command::Set(id, values)),
         (Verb::Unset, Other::Names(names)) => Some(Command::Unset(id, names)),
         (Verb::Reshape, Other::Geometry(geometry)) => Some(Command::Reshape(id, geometry)),
@@ -164,17 +172,43 @@ impl FromTokens for Command {
     }
 }
 
+/// The body with points in the places of its positions. From here on all copies share it.
+fn placed_body(alloc: Global, vertices: &[Vertex], body: Shared<Body>) -> Option<Shared<Body>>
+    ensures kind { IfSome result (λ placed. placed.kind ≡ body.kind) }
+    ensures extra { IfSome result (λ placed. placed.extra ≡ body.extra) }
+    ensures geometry { IfSome result (λ placed. IsPlaced (IsArrayOf IsGeometry)
+        (list_of (geometry_of (points_of vertices.now))) body.geometry placed.geometry) }
+{
+    let mut body = body.into_owned(alloc).ok()?;
+    body.geometry.place(alloc, vertices)?;
+    let shared = Shared::new(alloc, body).ok()?;
+    Some(shared)
+}
+
+/// The command with points in the places of its positions.
+fn placed(alloc: Global, vertices: &[Vertex], command: Command) -> Option<Command>
+    ensures { IfSome result (λ placed. IsPlaced IsCommand (command_of (points_of vertices.now)) command placed) }
+{
+    match command {
+        Command::Put(id, body) => Some(Command::Put(id, placed_body(alloc, vertices, body)?)),
+        Command::Add(id, body) => Some(Command::Add(id, placed_body(alloc, vertices, body)?)),
+        Command::Reshape(id, geometry) => {
+            let mut geometry = geometry;
+            geometry.place(alloc, vertices)?;
+            Some(Command::Reshape(id, geometry))
+        }
+        command => Some(command),
+    }
+}
+
 impl Places for Command {
     ghost stands = { IsCommand };
 
     ghost reads = { command_of };
 
     fn place(&mut self, alloc: Global, vertices: &[Vertex]) -> Option<()> {
-        match self {
-            Command::Put(_, body) => body.geometry.place(alloc, vertices),
-            Command::Add(_, body) => body.geometry.place(alloc, vertices),
-            Command::Reshape(_, geometry) => geometry.place(alloc, vertices),
-            _ => Some(()),
-        }
+        let unplaced = replace(self, Command::Commit);
+        *self = placed(alloc, vertices, unplaced)?;
+        Some(())
     }
 }

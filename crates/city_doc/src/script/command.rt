@@ -18,6 +18,7 @@ use city_model::command::{Attributes, Command};
 use city_model::kept::extra::Extra;
 use city_model::members::{into_object, take};
 use city_model::object::{Body, Point};
+use city_model::shared::Shared;
 use city_model::text::Id;
 use serde_json::Value;
 use std::alloc::Global;
@@ -73,7 +74,7 @@ fn put_command(
         (option_and_then (unrelated_body points.now) (get (codes "object") (view command)))) }
 {
     match body_in(alloc, points, command)? {
-        Some(body) => Ok(Some(Command::Put(id, body))),
+        Some(body) => Ok(Some(Command::Put(id, Shared::new(alloc, body)?))),
         None => Ok(None),
     }
 }
@@ -88,7 +89,7 @@ fn add_command(
         (option_and_then (unrelated_body points.now) (get (codes "object") (view command)))) }
 {
     match body_in(alloc, points, command)? {
-        Some(body) => Ok(Some(Command::Add(id, body))),
+        Some(body) => Ok(Some(Command::Add(id, Shared::new(alloc, body)?))),
         None => Ok(None),
     }
 }

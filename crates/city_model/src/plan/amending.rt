@@ -18,6 +18,7 @@ use crate::plan::objects::with_body;
 use crate::plan::view::View;
 use crate::plan::writes::{no_object, one};
 use crate::sequence::Sequence;
+use crate::shared::Shared;
 use crate::text::{Id, Text};
 use std::alloc::Global;
 
@@ -25,7 +26,7 @@ use std::alloc::Global;
 #[derive(Clone, Copy)]
 pub enum Amendment<'a> {
     /// Another body.
-    NewBody(&'a Body),
+    NewBody(&'a Shared<Body>),
     /// Attributes with their values.
     Setting(&'a Attributes),
     /// Names of attributes that are taken out.
@@ -88,7 +89,7 @@ fn amendment_fault(alloc: Global, amendment: Amendment<'_>) -> Result<Option<Cau
     ensures { IfOk result (λ fault. fault ≡ amendment_fault (amendment_view amendment.entry)) }
 {
     match amendment {
-        Amendment::NewBody(body) => body_fault(alloc, body),
+        Amendment::NewBody(body) => body_fault(alloc, body.get()),
         Amendment::Reshaping(geometry) => geometry_fault(alloc, geometry.get().as_slice()),
         Amendment::Setting(_) | Amendment::Unsetting(_) => Ok(None),
     }
@@ -115,12 +116,12 @@ fn amended_body(
     id: &Id,
     amendment: Amendment<'_>,
     body: &Body,
-) -> Result<Result<Body, Cause>, OutOfMemory>
+) -> Result<Result<Shared<Body>, Cause>, OutOfMemory>
     ensures { IfOk result (λ r. r ≡ amended_body id.now (amendment_view amendment.entry) body.now) }
 {
     match amendment {
         Amendment::NewBody(new) => {
-            if !is_same(body.kind, new.kind) {
+            if !is_same(body.kind, new.get().kind) {
                 return Ok(Err(Cause::TypeFixed(id.copy(alloc)?)));
             }
             Ok(Ok(new.copy(alloc)?))
@@ -133,11 +134,14 @@ fn amended_body(
             let made = body.extra.with_unset(alloc, names.as_slice())?;
             with_extra(alloc, id, body, made)
         },
-        Amendment::Reshaping(geometry) => Ok(Ok(Body {
-            kind: body.kind,
-            geometry: geometry.copy(alloc)?,
-            extra: body.extra.copy(alloc)?,
-        })),
+        Amendment::Reshaping(geometry) => {
+            let made = Body {
+                kind: body.kind,
+                geometry: geometry.copy(alloc)?,
+                extra: body.extra.copy(alloc)?,
+            };
+            Ok(Ok(Shared::new(alloc, made)?))
+        },
     }
 }
 
@@ -147,15 +151,18 @@ fn with_extra(
     id: &Id,
     body: &Body,
     extra: Option<SharedExtra>,
-) -> Result<Result<Body, Cause>, OutOfMemory>
+) -> Result<Result<Shared<Body>, Cause>, OutOfMemory>
     ensures { IfOk result (λ r. r ≡ with_extra_by id.now body.now (λ made. made) extra) }
 {
     match extra {
         None => Ok(Err(Cause::BadAttributes(id.copy(alloc)?))),
-        Some(extra) => Ok(Ok(Body {
-            kind: body.kind,
-            geometry: body.geometry.copy(alloc)?,
-            extra,
-        })),
+        Some(extra) => {
+            let made = Body {
+                kind: body.kind,
+                geometry: body.geometry.copy(alloc)?,
+                extra,
+            };
+            Ok(Ok(Shared::new(alloc, made)?))
+        },
     }
 }

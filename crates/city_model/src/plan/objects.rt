@@ -11,24 +11,24 @@ use crate::shared_ids::SharedIds;
 use crate::text::Id;
 use std::alloc::Global;
 
-/// An object of this body, without relations.
-pub fn new_object(alloc: Global, body: Body) -> Result<Object, OutOfMemory>
-    ensures { IfOk result (λ o. o ≡ new_object body) }
+/// An object of this body, without relations. Doesn't allocate.
+pub fn new_object(alloc: Global, body: Shared<Body>) -> Object
+    ensures { result ≡ new_object body }
 {
-    Ok(Object {
-        body: Shared::new(alloc, body)?,
+    Object {
+        body,
         parents: SharedIds::new(alloc),
         children: SharedIds::new(alloc),
-    })
+    }
 }
 
 /// An object of this body, with the relations of another.
-pub fn with_body(alloc: Global, object: &Object, body: Body) -> Result<Object, OutOfMemory>
+pub fn with_body(alloc: Global, object: &Object, body: Shared<Body>) -> Result<Object, OutOfMemory>
     ensures { IfOk result (λ o. o
         ≡ record { body = body; parents = object.now.parents; children = object.now.children }) }
 {
     Ok(Object {
-        body: Shared::new(alloc, body)?,
+        body,
         parents: object.parents.copy(alloc)?,
         children: object.children.copy(alloc)?,
     })

@@ -15,14 +15,20 @@ use crate::plan::amending::{Amendment, plan_amend_there};
 use crate::plan::objects::new_object;
 use crate::plan::view::View;
 use crate::plan::writes::one;
+use crate::shared::Shared;
 use crate::text::Id;
 use std::alloc::Global;
 
 /// The plan of a put.
-pub fn plan_put<V: View>(alloc: Global, view: &V, id: &Id, body: &Body) -> Result<Plan, OutOfMemory>
+pub fn plan_put<V: View>(
+    alloc: Global,
+    view: &V,
+    id: &Id,
+    body: &Shared<Body>,
+) -> Result<Plan, OutOfMemory>
     ensures { IfOk result (IsPlan (V.map view.now) (Command.Put id.now body.now)) }
 {
-    if let Some(cause) = body_fault(alloc, body)? {
+    if let Some(cause) = body_fault(alloc, body.get())? {
         return Ok(Plan::Refused(cause));
     }
     match view.look(id) {
@@ -32,10 +38,15 @@ pub fn plan_put<V: View>(alloc: Global, view: &V, id: &Id, body: &Body) -> Resul
 }
 
 /// The plan of an add.
-pub fn plan_add<V: View>(alloc: Global, view: &V, id: &Id, body: &Body) -> Result<Plan, OutOfMemory>
+pub fn plan_add<V: View>(
+    alloc: Global,
+    view: &V,
+    id: &Id,
+    body: &Shared<Body>,
+) -> Result<Plan, OutOfMemory>
     ensures { IfOk result (IsPlan (V.map view.now) (Command.Add id.now body.now)) }
 {
-    if let Some(cause) = body_fault(alloc, body)? {
+    if let Some(cause) = body_fault(alloc, body.get())? {
         return Ok(Plan::Refused(cause));
     }
     match view.look(id) {
@@ -45,10 +56,10 @@ pub fn plan_add<V: View>(alloc: Global, view: &V, id: &Id, body: &Body) -> Resul
 }
 
 /// The plan of a new object, whose body is without fault.
-fn plan_new(alloc: Global, id: &Id, body: &Body) -> Result<Plan, OutOfMemory>
+fn plan_new(alloc: Global, id: &Id, body: &Shared<Body>) -> Result<Plan, OutOfMemory>
     ensures { IfOk result (λ plan. (m : CityMap) → IsPlanOf m (creates m id.now body.now) plan) }
 {
-    let object = new_object(alloc, body.copy(alloc)?)?;
+    let object = new_object(alloc, body.copy(alloc)?);
     let writes = one(alloc, id, object)?;
     Ok(Plan::Writes(Reply::Added, writes))
 }

@@ -3,4 +3,4 @@ use Rattle.city_model.proofs.Planned.{new_writes}
 use Rattle.city_model.proofs.plan.putting.plan_new.Goals as goal
 
 pub returns : goal.returns
-returns c m command is = search (rules, new_writes m command c.args.id.now c.args.body.now c.in_ok-object.object)
+returns c m command is = search (rules, new_writes m command c.args.id.now c.args.body.now c.new_object-object.result)
