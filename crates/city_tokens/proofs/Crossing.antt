@@ -5,7 +5,7 @@ use denote.RattleType.{RattleType}
 use Rattle.std.proofs.Crossing as values
 use Rattle.std.proofs.MapsCrossing as maps
 use Rattle.serde_json.proofs.value.Value.TheLaws.TheKnot as json
-use Rattle.city_model.proofs.Crossing.{text_sends, text_syncs, body_sends}
+use Rattle.city_model.proofs.Crossing.{text_sends, text_syncs, body_sends, body_syncs}
 use Rattle.city_model.proofs.object.Shape.TheSendSync as shape
 use Rattle.city_model.specs.contracts.object.Geometry as Geometry
 use Rattle.city_model.specs.contracts.script.Script as Script
@@ -42,6 +42,7 @@ pub script_sends : IsSend Script.the_field.row
 script_sends = search (
   text_sends,
   body_sends,
+  body_syncs,
   geometry_sends,
   geometry_syncs,
   maps.crosses,
