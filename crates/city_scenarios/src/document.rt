@@ -1,6 +1,6 @@
 //! The verb `document`: a document read, at once and in pieces.
 use crate::fault_lines::end_fault;
-use crate::pieces::pieces_of;
+use crate::pieces::{pieces_of, words_of};
 use crate::written::Written;
 use city_desk::RunFault;
 use city_doc::{ReadFault, read_city, read_city_by, write_city};
@@ -10,12 +10,6 @@ use city_model::copied::Copied;
 use city_model::is_lawful::is_lawful;
 use std::alloc::Global;
 use std::thread::Threads;
-
-/// In how many pieces a document is read where a scenario doesn't say it.
-const PIECES: &str = "2x1 3x1 8x1";
-
-/// A document of so many bytes is read in pieces only where a scenario says it.
-const LARGE: usize = 1_000_000;
 
 /// Answers the canonical text of a document, or why it is refused. Then it is read in each of these pieces; the answer
 /// follows where it is another.
@@ -29,12 +23,7 @@ pub fn play_document<T: Threads + Sync>(
     let mut read = Written::new(alloc);
     add_read(alloc, read_city(alloc, document), &mut read);
     answer.add_written(&read);
-    let pieces = if pieces.is_empty() && document.len() < LARGE {
-        PIECES
-    } else {
-        pieces
-    };
-    for word in pieces.split_whitespace() {
+    for word in words_of(pieces, document).split_whitespace() {
         let mut now = Written::new(alloc);
         let city = read_city_by(rt, alloc, document, pieces_of(word));
         add_read(alloc, city, &mut now);

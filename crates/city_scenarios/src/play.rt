@@ -79,7 +79,7 @@ fn play_text<T: Threads + Sync>(
     match verb {
         "document" => play_document(rt, alloc, rest, text, answer),
         "prefixes" => play_prefixes(rt, alloc, false, text, answer),
-        "scripts" => play_scripts(alloc, text, answer),
+        "scripts" => play_scripts(rt, alloc, rest, text, answer),
         "scriptprefixes" => play_prefixes(rt, alloc, true, text, answer),
         "canonical" => play_canonical(alloc, text, answer),
         "body" => play_body(alloc, text, answer),

@@ -30,7 +30,7 @@ fn play_prefix<T: Threads + Sync>(
     answer: &mut Written,
 ) {
     if scripts {
-        play_scripts(alloc, text, answer);
+        play_scripts(rt, alloc, "", text, answer);
     } else {
         play_document(rt, alloc, "", text, answer);
     }

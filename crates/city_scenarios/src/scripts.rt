@@ -1,14 +1,41 @@
-//! The verb `scripts`: a text of scripts read.
+//! The verb `scripts`: a text of scripts read, at once and in pieces.
 use crate::fault_lines::end_fault;
+use crate::pieces::{pieces_of, words_of};
 use crate::written::Written;
 use city_desk::RunFault;
-use city_doc::{ScriptFault, read_scripts};
+use city_doc::{ScriptFault, read_scripts, read_scripts_by};
 use city_model::script::Script;
+use city_model::sequence::Sequence;
 use std::alloc::Global;
+use std::thread::Threads;
 
-/// Answers a line for each script, with its name and how many commands it has, or why the text is refused.
-pub fn play_scripts(alloc: Global, text: &[u8], answer: &mut Written) {
-    match read_scripts(alloc, text) {
+/// Answers a line for each script, with its name and how many commands it has, or why the text is refused. Then the
+/// text is read in each of these pieces; the answer follows where it is another.
+pub fn play_scripts<T: Threads + Sync>(
+    rt: &T,
+    alloc: Global,
+    pieces: &str,
+    text: &[u8],
+    answer: &mut Written,
+) {
+    let mut read = Written::new(alloc);
+    add_read(alloc, read_scripts(alloc, text), &mut read);
+    answer.add_written(&read);
+    for word in words_of(pieces, text).split_whitespace() {
+        let mut now = Written::new(alloc);
+        let scripts = read_scripts_by(rt, alloc, text, pieces_of(word));
+        add_read(alloc, scripts, &mut now);
+        if now.as_slice() != read.as_slice() {
+            answer.add("in pieces: ");
+            answer.add_line(word);
+            answer.add_written(&now);
+        }
+    }
+}
+
+/// Adds a line for each script, or why there is none.
+fn add_read(alloc: Global, read: Result<Sequence<Script>, ScriptFault>, answer: &mut Written) {
+    match read {
         Ok(scripts) => add_scripts(scripts.as_slice(), answer),
         Err(fault) => add_script_fault(alloc, fault, answer),
     }
