@@ -2,9 +2,9 @@
 use Rattle.city_crew.proofs.Prelude.{arith, ◌≡◌, ℕ, List, [], ◌∷◌, ◌++◌, length, Option, End, CityValue, object_at}
 use Rattle.city_crew.proofs.Prelude.{Change, city_text, report_text, IsReadFrom}
 use Rattle.city_model.specs.Runs.{Scripted, model_after}
-use Rattle.city_desk.specs.DeskState.{DeskState}
-use Rattle.city_desk.specs.Serial.{IsSerial}
-use Rattle.city_desk.proofs.Throughout.{lawful_throughout}
+use Rattle.city_scheduler.specs.DeskState.{DeskState}
+use Rattle.city_scheduler.specs.Serial.{IsSerial}
+use Rattle.city_scheduler.proofs.Throughout.{lawful_throughout}
 use Rattle.city_desk.specs.TextRuns.{IsRun}
 use Rattle.city_crew.specs.inside.CrewRuns.{IsResult}
 

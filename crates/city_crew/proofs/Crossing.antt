@@ -3,7 +3,7 @@ use Rattle.city_crew.proofs.Prelude.{RattleType, shape, IsSend, struct_send, vie
 use denote.Param.Send.{IsSync}
 use Rattle.city_model.proofs.Crossing.{change_sends, city_field_syncs}
 use Rattle.std.below.std_heap.specs.contracts.GlobalAllocator.TheImpl.{ghosts}
-use Rattle.city_crew.proofs.DeskCrossing.{declared_sends}
+use Rattle.city_scheduler.proofs.Crossing.{declared_sends}
 use Rattle.std.proofs.Crossing as values
 use Rattle.std.below.std_heap.specs.contracts.Global as Heap
 use Rattle.std.proofs.option.Option.TheSendSync as option
@@ -12,7 +12,7 @@ use Rattle.left_right.proofs.writer.Writer.TheSendSync as writer
 use Rattle.left_right.proofs.reader.Reader.TheSendSync as reader
 use Rattle.city_crew.proofs.history.History.TheSendSync as history
 use Rattle.city_crew.proofs.history.Head.TheSendSync as head
-use Rattle.city_desk.proofs.opening_city.OpeningCity.TheSendSync as opening
+use Rattle.city_scheduler.proofs.opening_city.OpeningCity.TheSendSync as opening
 use Rattle.city_crew.specs.contracts.poster.Poster as Poster
 use Rattle.city_crew.specs.contracts.poster.Poster.TheInside as PosterInside
 use Rattle.city_crew.specs.contracts.rule.BoardRule as BoardRule

@@ -3,7 +3,6 @@ pub mod Applied
 pub mod CrewFaults
 pub mod CrewResults
 pub mod Crossing
-pub mod DeskCrossing
 pub mod HeldEdits
 pub mod KeptRule
 pub mod LaterVersions

@@ -11,7 +11,7 @@ use Rattle.std.proofs.lemmas.List.Sums.{sum_by-cons}
 use Rattle.city_model.specs.Runs.{Scripted, model_after}
 use Rattle.city_model.specs.declared.end.Outcome.{Outcome}
 use Rattle.city_model.specs.SerialEnds.{commits_in, is_commit}
-use Rattle.city_desk.specs.Serial.{AreChangesOf}
+use Rattle.city_scheduler.specs.Serial.{AreChangesOf}
 use Rattle.city_crew.specs.Rising.{RisesOver, last_over}
 use Rattle.city_crew.specs.Seen.{AreSeen, OfFirstEnds}
 

@@ -3,10 +3,10 @@ use Rattle.city_crew.proofs.Prelude.{RattleType, shape, IsSend, recorded_send, s
 use denote.Param.Send.{enum_send}
 use Rattle.std.specs.declared.sync.Wait.{Ghosts}
 use Rattle.city_crew.proofs.Crossing.{poster_sends}
-use Rattle.city_crew.proofs.DeskCrossing.{declared_sends, desk_field_sends}
+use Rattle.city_scheduler.proofs.Crossing.{declared_sends, desk_field_sends}
 use denote.Enum.Declared as enums
 use Rattle.std.proofs.Crossing as values
-use Rattle.city_desk.proofs.null_shelf.NullShelf.TheSendSync as null_shelf
+use Rattle.city_scheduler.proofs.null_shelf.NullShelf.TheSendSync as null_shelf
 use Rattle.city_crew.specs.contracts.crew_shelf.CrewShelf as CrewShelf
 use Rattle.city_crew.specs.declared.origin.Origin as Origins
 use Rattle.city_crew.specs.contracts.state.State as State

@@ -13,10 +13,10 @@ use crate::rule::{BelievesAll, SeesVersion, TellsAll};
 use crate::version::Version;
 use crate::viewer::Viewer;
 use crate::writer::{BoardWriter, OwnWriter};
-use city_desk::OpeningCity;
 use city_model::OutOfMemory;
 use city_model::city::City;
 use city_model::copied::Copied;
+use city_scheduler::OpeningCity;
 use std::alloc::Global;
 use std::sync::Wait;
 

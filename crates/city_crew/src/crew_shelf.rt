@@ -1,8 +1,8 @@
 //! The shelf of a run.
 use crate::poster::Poster;
-use city_desk::{NullShelf, Shelf};
 use city_model::OutOfMemory;
 use city_model::change::Change;
+use city_scheduler::{NullShelf, Shelf};
 use city_txn::Core;
 use std::sync::Wait;
 

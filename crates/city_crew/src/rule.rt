@@ -2,7 +2,7 @@
 use crate::history::History;
 use crate::version::Version;
 use atomic_table::{Join, Split};
-use city_desk::OpeningCity;
+use city_scheduler::OpeningCity;
 use crossbeam_utils::rule::{Outcome, Protocol};
 
 /// What a viewer or the poster knows of its board. It exists for the proofs only.

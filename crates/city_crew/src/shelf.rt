@@ -1,9 +1,9 @@
 //! A poster as the shelf of a desk.
 use crate::note::Note;
 use crate::poster::Poster;
-use city_desk::Shelf;
 use city_model::OutOfMemory;
 use city_model::change::Change;
+use city_scheduler::Shelf;
 use std::sync::Wait;
 
 /// The list is that of all changes that were taken, and viewers see the published ones; the base is

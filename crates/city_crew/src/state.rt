@@ -10,8 +10,8 @@ use crate::fault::CrewFault;
 use crate::origin::Origin;
 use crate::sleepers::Sleepers;
 use crate::work::Turns;
-use city_desk::{Desk, Finished, Turn};
 use city_model::end::{End, Outcome};
+use city_scheduler::{Desk, Finished, Turn};
 use std::marker::{Model, PhantomData};
 use std::sync::Wait;
 
@@ -40,7 +40,7 @@ impl<R: Wait + Drop, O: Origin> Model for State<R, O> {
     ghost use Rattle.std.specs.Coded.{codes};
     ghost use Rattle.city_model.specs.inside.DataCode.{coded_members};
     ghost use Rattle.city_txn.specs.inside.Codes.{coded_objects};
-    ghost use Rattle.city_desk.specs.DeskState.{DeskState};
+    ghost use Rattle.city_scheduler.specs.DeskState.{DeskState};
 
     ghost Value = { DeskState };
 

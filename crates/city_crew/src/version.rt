@@ -1,11 +1,11 @@
 //! A version of the city, as viewers look at it, and what the poster does to it.
 use crate::apply::apply;
 use crate::history::History;
-use city_desk::OpeningCity;
 use city_model::OutOfMemory;
 use city_model::change::Change;
 use city_model::city::City;
 use city_model::copied::Copied;
+use city_scheduler::OpeningCity;
 use left_right::Absorb;
 use std::alloc::Global;
 

@@ -1,7 +1,7 @@
 //! The workers of a run.
 use crate::gate::Gate;
 use crate::shared::Shared;
-use city_desk::Turn;
+use city_scheduler::Turn;
 use std::sync::{MutexGuard, Wait};
 
 /// How many turns of a script a worker makes under one lock, where no gate may hold it between them.

@@ -1,12 +1,2 @@
-pub mod AloneRun
-pub mod AttemptSteps
-pub mod BeginTurns
-pub mod OpenTurns
-pub mod Opened
 pub mod Prelude
-pub mod ScriptReads
-pub mod ScriptTurns
-pub mod Shelved
 pub mod TextFaults
-pub mod Throughout
-pub mod Youngest

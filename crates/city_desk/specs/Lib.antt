@@ -1,11 +1,4 @@
-pub mod DeskState
 pub mod FaultTexts
-pub mod InTurn
-pub mod Opening
-pub mod RepliesValue
 pub mod RunFaults
-pub mod Serial
 pub mod SerialRuns
 pub mod TextRuns
-pub mod Turning
-pub mod inside

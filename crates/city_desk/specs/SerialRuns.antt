@@ -3,7 +3,7 @@ use Rattle.std.specs.Prelude.{◌≡◌, ℕ, List, Bool, true, not}
 use Rattle.std.specs.List.{list_all}
 use Rattle.city_model.specs.declared.end.End.{End}
 use Rattle.city_model.specs.SerialEnds.{is_no_memory}
-use Rattle.city_desk.specs.InTurn.{AreInTurn}
+use Rattle.city_scheduler.specs.InTurn.{AreInTurn}
 use Rattle.city_desk.specs.TextRuns.{IsRun}
 
 -- a run whose ends come in the order of the scripts

@@ -1,41 +1,19 @@
-//! The desk: scripts that take turns on one transaction core, and their ends.
+//! The desk: the scripts of two texts run on one transaction core, and what is written of their ends.
 //!
-//! - `desk`, `turn`: the desk, and what a turn answers
-//! - `opening`, `attempt`, `ready`, `closing`: what it makes at its opening, the next command of a script, whose turn
-//!   doesn't wait, what is rolled back at the close
-//! - `opening_city`: the city that it was opened over, for contracts only
-//! - `progress`, `replies`: how far a script is, and its replies so far
-//! - `shelf`, `null_shelf`: where the changes of commits go, and a shelf that keeps none
-//! - `taken_changes`, `no_rule`: the changes that a shelf has taken, and records of what was, for contracts only
-//! - `texts`, `in_turn`, `serial_run`: the two texts of a run read, and the run of one worker
+//! - `texts`: the two texts of a run read
+//! - `serial_run`: the run of one worker
 //! - `output`, `fault`: what a run answers, and why it may have no answer
+//!
+//! The desk itself, its shelves and its turns are those of city_scheduler.
 #![tactic(auto)]
 
-mod attempt;
-mod closing;
-mod desk;
 mod fault;
-mod in_turn;
-mod no_rule;
-mod null_shelf;
-mod opening;
-mod opening_city;
 mod output;
-mod progress;
-mod ready;
-mod replies;
 mod serial_run;
-mod shelf;
-mod taken_changes;
 mod texts;
-mod turn;
 
-pub use desk::{Desk, Finished};
+pub use city_scheduler::{Desk, Finished, ListShelf, NullShelf, OpeningCity, Shelf, Turn};
 pub use fault::RunFault;
-pub use null_shelf::NullShelf;
-pub use opening_city::OpeningCity;
 pub use output::{Output, output_bytes};
 pub use serial_run::{run_read, run_serial, run_serial_to_city};
-pub use shelf::{ListShelf, Shelf};
 pub use texts::{read_texts, read_texts_by};
-pub use turn::Turn;

@@ -5,13 +5,12 @@ ghost use Rattle.city_model.specs.Relations.{IsLawful};
 ghost use Rattle.city_doc.specs.Outputs.{IsJsonOutput};
 ghost use Rattle.city_doc.specs.document.Canonical.{city_text};
 ghost use Rattle.city_doc.specs.report.Reports.{report_text};
-ghost use Rattle.city_desk.specs.InTurn.{AreInTurn};
+ghost use Rattle.city_scheduler.specs.InTurn.{AreInTurn};
 ghost use Rattle.city_desk.specs.RunFaults.{IsSerialFault};
 ghost use Rattle.city_desk.specs.SerialRuns.{IsSerialRun, IsDecided};
 ghost use Rattle.city_desk.specs.TextRuns.{IsReadFrom, IsRun};
 
 use crate::fault::RunFault;
-use crate::in_turn::run_each;
 use crate::output::{Output, output_bytes};
 use crate::texts::read_texts;
 use city_doc::FIXED_SEED;
@@ -19,6 +18,7 @@ use city_model::OutOfMemory;
 use city_model::city::City;
 use city_model::script::Script;
 use city_model::sequence::Sequence;
+use city_scheduler::run_each;
 use std::alloc::Global;
 
 /// Runs the scripts on the document's city, one after the other in their order.

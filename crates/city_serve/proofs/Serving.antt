@@ -3,7 +3,7 @@
 use Rattle.city_serve.proofs.Prelude.{◌≡◌, ◌++◌, ℕ, List, Bool, true, Option, Some, None, IfSome, sym, subst, take, drop}
 use Rattle.city_serve.proofs.Prelude.{Vec, Appends, End, ServeFault, AreServedBy, document_part, written_by, faults_by}
 use Rattle.std.proofs.lemmas.List.{take-append-drop}
-use Rattle.city_desk.specs.InTurn.{AreInTurn}
+use Rattle.city_scheduler.specs.InTurn.{AreInTurn}
 use Rattle.city_serve.specs.declared.options.Options.{Options}
 use Rattle.city_serve.specs.RunOptions.{plain_destination}
 use Rattle.city_serve.specs.Destinations.{Folder, IsCutAt, IsRunInParts, IsDelivered, IsDeliveryFault, bytes_to_writer}

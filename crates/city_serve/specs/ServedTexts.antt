@@ -6,7 +6,7 @@ use Rattle.city_model.specs.declared.end.End.{End}
 use Rattle.city_model.specs.SerialEnds.{commits_in}
 use Rattle.city_tokens.specs.tree.Texts.{max_text}
 use Rattle.city_desk.specs.declared.fault.RunFault.{RunFault}
-use Rattle.city_desk.specs.InTurn.{AreInTurn}
+use Rattle.city_scheduler.specs.InTurn.{AreInTurn}
 use Rattle.city_desk.specs.RunFaults.{IsRunFault, is_of_crew}
 use Rattle.city_desk.specs.TextRuns.{IsRun}
 use Rattle.city_crew.specs.Seen.{AreSeen}

@@ -4,7 +4,7 @@ ghost use Rattle.city_model.specs.CityMap.{object_at};
 ghost use Rattle.city_model.specs.Relations.{IsLawful};
 ghost use Rattle.city_model.specs.SerialEnds.{commits_in};
 ghost use Rattle.city_crew.specs.Seen.{AreSeen};
-ghost use Rattle.city_desk.specs.InTurn.{AreInTurn};
+ghost use Rattle.city_scheduler.specs.InTurn.{AreInTurn};
 ghost use Rattle.city_desk.specs.RunFaults.{IsRunFault, is_of_crew};
 ghost use Rattle.city_desk.specs.TextRuns.{IsReadFrom, IsRun};
 ghost use Rattle.city_serve.specs.RunOptions.{AreWithin};

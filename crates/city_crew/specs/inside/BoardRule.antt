@@ -5,7 +5,7 @@ use mathlib.Core.List.{IsPrefix}
 use lib.ListN.{get_elem?}
 use Rattle.city_model.specs.CityMap.{CityValue}
 use Rattle.city_crew.specs.HistoryValue.{HistoryValue, history_of}
-use Rattle.city_desk.specs.inside.NoCity.{no_city}
+use Rattle.city_scheduler.specs.inside.NoCity.{no_city}
 use Rattle.city_crew.specs.inside.Versions.{IsFaithful, LeadTo}
 use Rattle.city_crew.specs.declared.rule.Known.{Known}
 use Rattle.city_crew.specs.declared.version.Edit.{Edit}

@@ -2,7 +2,7 @@
 use Rattle.std.specs.Prelude.{◌≡◌, ◌<◌, ℕ, List, length, true}
 use Rattle.city_model.specs.declared.end.End.{End}
 use Rattle.city_model.specs.Runs.{Scripted, has_end}
-use Rattle.city_desk.specs.DeskState.{DeskState}
+use Rattle.city_scheduler.specs.DeskState.{DeskState}
 use Rattle.city_desk.specs.declared.fault.RunFault.{RunFault}
 use Rattle.city_crew.specs.declared.board.BoardFault.{BoardFault}
 use Rattle.city_crew.specs.declared.fault.CrewFault.{CrewFault}

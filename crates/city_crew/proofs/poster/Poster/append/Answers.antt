@@ -1,6 +1,6 @@
 use Rattle.city_crew.proofs.Prelude.{rules, ◌≡◌, ◌∷◌, ◌++◌, [], drop, ap, sym, ◌∙◌, subst, view, object_at, IsLawful}
 use Rattle.city_crew.proofs.Prelude.{after_changes, HistoryValue, history_of, Edit}
-use Rattle.city_desk.proofs.Shelved.{if_some_to}
+use Rattle.city_scheduler.proofs.Shelved.{if_some_to}
 use Rattle.city_crew.specs.BoardValues.{PosterValue}
 use Rattle.city_crew.proofs.HeldEdits.{holds_waiting}
 use Rattle.city_crew.proofs.Prefixes.{prefix_trans}

@@ -1,7 +1,0 @@
-use Rattle.city_desk.proofs.Prelude.{KeepsCity}
-use Rattle.city_desk.specs.inside.Closing.{AreOpenFrom}
-use Rattle.city_desk.proofs.closing.roll_back_all.Given as goal
-
-abbrev pub invariant-loop-script : goal.invariant-loop-script
-invariant-loop-script l =
-    record { keeps : KeepsCity l.initial.core l.core; opened : AreOpenFrom l.script-index l.progress l.core }

@@ -1,0 +1,12 @@
+pub mod AloneRun
+pub mod AttemptSteps
+pub mod BeginTurns
+pub mod Crossing
+pub mod OpenTurns
+pub mod Opened
+pub mod Prelude
+pub mod ScriptReads
+pub mod ScriptTurns
+pub mod Shelved
+pub mod Throughout
+pub mod Youngest

@@ -1,0 +1,7 @@
+pub mod DeskState
+pub mod InTurn
+pub mod Opening
+pub mod RepliesValue
+pub mod Serial
+pub mod Turning
+pub mod inside

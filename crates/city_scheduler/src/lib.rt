@@ -1,0 +1,33 @@
+//! The scheduler: scripts that take turns on one transaction core, and their ends.
+//!
+//! - `desk`, `turn`: the desk, and what a turn answers
+//! - `opening`, `attempt`, `ready`, `closing`: what it makes at its opening, the next command of a script, whose turn
+//!   doesn't wait, what is rolled back at the close
+//! - `opening_city`: the city that it was opened over, for contracts only
+//! - `progress`, `replies`: how far a script is, and its replies so far
+//! - `shelf`, `null_shelf`: where the changes of commits go, and a shelf that keeps none
+//! - `taken_changes`, `no_rule`: the changes that a shelf has taken, and records of what was, for contracts only
+//! - `in_turn`: scripts run one after the other
+#![tactic(auto)]
+
+mod attempt;
+mod closing;
+mod desk;
+mod in_turn;
+mod no_rule;
+mod null_shelf;
+mod opening;
+mod opening_city;
+mod progress;
+mod ready;
+mod replies;
+mod shelf;
+mod taken_changes;
+mod turn;
+
+pub use desk::{Desk, Finished};
+pub use in_turn::run_each;
+pub use null_shelf::NullShelf;
+pub use opening_city::OpeningCity;
+pub use shelf::{ListShelf, Shelf};
+pub use turn::Turn;

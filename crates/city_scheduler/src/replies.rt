@@ -1,0 +1,77 @@
+//! The replies in a script's open transaction, in the room that was made for them.
+ghost use Rattle.std.specs.Prelude.{◌≡◌, ◌<◌, ◌++◌, ◌∷◌, [], length, IfOk};
+
+use city_model::OutOfMemory;
+use city_model::command::Reply;
+use city_model::sequence::Sequence;
+use std::alloc::Global;
+use std::marker::Model;
+
+/// A list of replies that never takes more room than it was made with. Contracts see the list and
+/// the room.
+#[derive(Drop)]
+pub struct Replies {
+    items: Vec<Reply>,
+}
+
+impl Model for Replies {
+    ghost use Rattle.std.specs.Prelude.{vec_capacity};
+    ghost use Rattle.std.specs.Coded.{codes};
+    ghost use Rattle.city_model.specs.inside.DataCode.{coded_members};
+    ghost use Rattle.city_txn.specs.inside.Codes.{coded_objects};
+    ghost use Rattle.city_scheduler.specs.RepliesValue.{RepliesValue};
+
+    ghost Value = { RepliesValue };
+
+    ghost coded = { Prim.hlevel (codes, coded_members, coded_objects) };
+
+    ghost view = { λ r. record { list = r.items.items; room = vec_capacity r.items } };
+}
+
+impl Replies {
+    /// No replies, with room for so many.
+    pub fn with_room(alloc: Global, room: usize) -> Result<Replies, OutOfMemory>
+        ensures { IfOk result (λ replies. replies ≡ record { list = []; room = room }) }
+    {
+        let items = Vec::with_capacity(alloc, room)?;
+        Ok(Replies { items })
+    }
+
+    /// No replies and no room. Doesn't allocate.
+    pub fn none(alloc: Global) -> Replies
+        ensures { result ≡ record { list = []; room = 0 } }
+    {
+        Replies {
+            items: Vec::new(alloc),
+        }
+    }
+
+    /// How many replies there are.
+    pub fn len(&self) -> usize
+        ensures { result ≡ length self.now.list }
+    {
+        self.items.len()
+    }
+
+    /// Adds a reply for which there is room. Doesn't allocate.
+    pub fn add(&mut self, reply: Reply)
+        requires { length self.old.list < self.old.room }
+        ensures { self.new ≡ record self.old { list = self.old.list ++ reply ∷ [] } }
+    {
+        self.items.push_reserved(reply);
+    }
+
+    /// Drops the replies; the room stays. Doesn't allocate.
+    pub fn clear(&mut self)
+        ensures { self.new ≡ record self.old { list = [] } }
+    {
+        self.items.clear();
+    }
+
+    /// The replies. Doesn't allocate.
+    pub fn into_sequence(self) -> Sequence<Reply>
+        ensures { result ≡ self.list }
+    {
+        Sequence::from_vec(self.items)
+    }
+}
