@@ -1,68 +1,49 @@
--- Posters and viewers may go to other threads.
-use Rattle.city_crew.proofs.Prelude.{RattleType, shape, IsSend, struct_send, view_send, sendable, city_field_sends}
-use denote.Param.Send.{IsSync}
-use Rattle.city_model.proofs.Crossing.{change_sends, city_field_syncs}
-use Rattle.std.below.std_heap.specs.contracts.GlobalAllocator.TheImpl.{ghosts}
-use Rattle.city_scheduler.proofs.Crossing.{declared_sends}
+-- A run's watchers, and what lies under its lock, may go to other threads.
+use Rattle.city_crew.proofs.Prelude.{IsSend, sendable}
+use denote.Param.Send.{enum_send, recorded_send, struct_send, view_send}
+use denote.RattleType.{RattleType}
+use denote.Struct.Declared.{shape}
+use Rattle.std.specs.declared.sync.Wait.{Ghosts}
+use Rattle.city_board.proofs.Crossing.{poster_sends, viewer_sends}
+use Rattle.city_scheduler.proofs.Crossing.{declared_sends, desk_field_sends}
+use denote.Enum.Declared as enums
 use Rattle.std.proofs.Crossing as values
-use Rattle.std.below.std_heap.specs.contracts.Global as Heap
-use Rattle.std.proofs.option.Option.TheSendSync as option
-use Rattle.left_right.specs.contracts.writer.Writer as Writer
-use Rattle.left_right.proofs.writer.Writer.TheSendSync as writer
-use Rattle.left_right.proofs.reader.Reader.TheSendSync as reader
-use Rattle.city_crew.proofs.history.History.TheSendSync as history
-use Rattle.city_crew.proofs.history.Head.TheSendSync as head
-use Rattle.city_scheduler.proofs.opening_city.OpeningCity.TheSendSync as opening
-use Rattle.city_crew.specs.contracts.poster.Poster as Poster
-use Rattle.city_crew.specs.contracts.poster.Poster.TheInside as PosterInside
-use Rattle.city_crew.specs.contracts.rule.BoardRule as BoardRule
-use Rattle.city_crew.specs.contracts.rule.BoardRuleProtocolVersionKnown.TheImpl as protocol
-use Rattle.city_crew.specs.contracts.rule.Known as Known
-use Rattle.city_crew.specs.contracts.version.VersionAbsorbEdit.TheImpl as absorb
-use Rattle.city_crew.specs.contracts.version.Edit as Edit
-use Rattle.city_crew.specs.contracts.version.Version as Version
-use Rattle.city_crew.specs.contracts.viewer.Viewer as Viewer
+use Rattle.city_scheduler.proofs.null_shelf.NullShelf.TheSendSync as null_shelf
+use Rattle.city_crew.specs.contracts.crew_shelf.CrewShelf as CrewShelf
+use Rattle.city_crew.specs.declared.origin.Origin as Origins
+use Rattle.city_crew.specs.contracts.state.State as State
+use Rattle.city_crew.specs.contracts.state.State.TheInside as StateInside
 use Rattle.city_crew.specs.contracts.watcher.Watcher as Watcher
-use Rattle.city_crew.specs.contracts.writer.OwnWriter as OwnWriter
-
--- ---- versions, edits and viewers
-
-version_sends : IsSend Version.the_row
-version_sends =
-    search (city_field_sends, opening.the_send, history.the_send, values.crosses, sendable) depth 60 fits 20000
-
-version_syncs : IsSync Version.the_row
-version_syncs =
-    search (city_field_syncs, opening.the_sync, history.the_sync, values.crosses, sendable) depth 60 fits 20000
-
-edit_sends : IsSend Edit.the_row
-edit_sends = search (change_sends, history.the_send, values.crosses, sendable) depth 60 fits 20000
-
-pub viewer_sends : IsSend Viewer.the_row
-viewer_sends =
-    search (reader.the_field_send, version_syncs, history.the_send, values.frees, values.send, values.sync, sendable)
-    depth 60 fits 20000
 
 pub watcher_sends : IsSend Watcher.the_row
 watcher_sends = search (viewer_sends, values.crosses, sendable) depth 60 fits 20000
 
--- ---- the poster
+shelf_sends : (R : RattleType) → IsSend R → IsSend (CrewShelf.the_row R)
+shelf_sends R s =
+    let T = CrewShelf.the_type R in
+    recorded_send _ T.D T.to T.to_one
+    (enum_send (enums.shape T) ((null_shelf.the_send, tt), ((poster_sends R s, tt), tt)))
 
-writer_sends : IsSend
-    (Writer.the_field Version.the_row Edit.the_row Known.the_row BoardRule.the_row Heap.the_row Version.the_row
-    absorb.ghosts protocol.ghosts ghosts).row
-writer_sends =
-    search (writer.the_field_send, version_sends, edit_sends, values.send, version_syncs, values.sync, values.frees)
-
-own_sends : (R : RattleType) → IsSend R → IsSend (OwnWriter.the_row R)
-own_sends R s = declared_sends (OwnWriter.the_type R) (search (s, writer_sends, sendable) depth 60 fits 20000)
-
-poster_inside_sends : (R : RattleType) → IsSend R → IsSend (PosterInside.the_field R).row
-poster_inside_sends R s = struct_send (shape (PosterInside.the_type R)) (
-  option.the_field_send (OwnWriter.the_row R) (own_sends R s),
-  search (head.the_send, opening.the_send, history.the_send, values.Deque-send, edit_sends, sendable)
-      depth 60 fits 20000,
+inside_sends : (R O : RattleType) (W : Ghosts R.Denot) (N : Origins.Ghosts O.Denot) → IsSend (CrewShelf.the_row R)
+    → IsSend (StateInside.the_field R O W N).row
+inside_sends R O W N shelf = struct_send (shape (StateInside.the_type R O W N)) (
+  search (shelf, desk_field_sends, sendable) depth 60 fits 20000,
+  (
+    search sendable depth 20,
+    (
+      search (values.crosses, sendable) depth 60 fits 20000,
+      (
+        search (values.crosses, sendable) depth 60 fits 20000,
+        (
+          search (values.crosses, sendable) depth 60 fits 20000,
+          (search sendable depth 20, (search (values.crosses, sendable) depth 60 fits 20000, tt)),
+        ),
+      ),
+    ),
+  ),
 )
 
-pub poster_sends : (R : RattleType) → IsSend R → IsSend (Poster.the_row R)
-poster_sends R s = view_send _ _ _ _ _ (declared_sends (PosterInside.the_type R) (poster_inside_sends R s))
+pub state_sends : (R O : RattleType) (W : Ghosts R.Denot) (N : Origins.Ghosts O.Denot) → IsSend R
+    → IsSend (State.the_row R O W N)
+state_sends R O W N s =
+    view_send _ _ _ _ _ (declared_sends (StateInside.the_type R O W N) (inside_sends R O W N (shelf_sends R s)))

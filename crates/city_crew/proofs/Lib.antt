@@ -1,16 +1,6 @@
-pub mod Adding
-pub mod Applied
 pub mod CrewFaults
 pub mod CrewResults
 pub mod Crossing
-pub mod HeldEdits
-pub mod KeptRule
-pub mod LaterVersions
-pub mod LawfulCopy
-pub mod Placed
-pub mod Prefixes
 pub mod Prelude
-pub mod Results
 pub mod Risen
 pub mod ShownEnds
-pub mod StateCrossing

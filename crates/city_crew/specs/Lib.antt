@@ -1,5 +1,3 @@
-pub mod BoardValues
-pub mod HistoryValue
 pub mod Limits
 pub mod Rising
 pub mod Seen

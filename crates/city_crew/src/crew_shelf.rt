@@ -1,5 +1,5 @@
 //! The shelf of a run.
-use crate::poster::Poster;
+use city_board::Poster;
 use city_model::OutOfMemory;
 use city_model::change::Change;
 use city_scheduler::{NullShelf, Shelf};

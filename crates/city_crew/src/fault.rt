@@ -1,5 +1,5 @@
 //! Why a crew of workers and viewers has no output.
-use crate::board::BoardFault;
+use city_board::board::BoardFault;
 use city_desk::RunFault;
 use city_model::OutOfMemory;
 

@@ -14,7 +14,6 @@ ghost use Rattle.city_crew.specs.Limits.{max_workers, max_viewers};
 ghost use Rattle.city_crew.specs.Seen.{AreSeen};
 
 use crate::ages::Ages;
-use crate::board::board;
 use crate::crew_shelf::CrewShelf;
 use crate::fault::CrewFault;
 use crate::gate::Gate;
@@ -24,8 +23,9 @@ use crate::shared::Shared;
 use crate::sleepers::Sleepers;
 use crate::state::State;
 use crate::threads::run_threads;
-use crate::viewer::Viewer;
 use crate::watcher::{Watcher, watchers_of};
+use city_board::Viewer;
+use city_board::board::board;
 use city_desk::{Output, RunFault, output_bytes, read_texts_by};
 use city_doc::{FIXED_SEED, pieces_for};
 use city_model::OutOfMemory;

@@ -4,7 +4,7 @@ ghost use Rattle.city_crew.specs.Rising.{Rises, last_of};
 
 use crate::fault::CrewFault;
 use crate::gate::Gate;
-use crate::viewer::Viewer;
+use city_board::Viewer;
 use city_model::OutOfMemory;
 use std::alloc::Global;
 use std::marker::Model;

@@ -4,7 +4,7 @@ use Rattle.city_model.specs.declared.end.End.{End}
 use Rattle.city_model.specs.Runs.{Scripted, has_end}
 use Rattle.city_scheduler.specs.DeskState.{DeskState}
 use Rattle.city_desk.specs.declared.fault.RunFault.{RunFault}
-use Rattle.city_crew.specs.declared.board.BoardFault.{BoardFault}
+use Rattle.city_board.specs.declared.board.BoardFault.{BoardFault}
 use Rattle.city_crew.specs.declared.fault.CrewFault.{CrewFault}
 
 abbrev pub fault_of_crew : CrewFault → RunFault

@@ -1,7 +1,6 @@
 use Rattle.city_crew.proofs.Prelude.{sendable}
 use Rattle.city_crew.proofs.CrewResults.{is_run}
-use Rattle.city_crew.proofs.Crossing.{watcher_sends}
-use Rattle.city_crew.proofs.StateCrossing.{state_sends}
+use Rattle.city_crew.proofs.Crossing.{state_sends, watcher_sends}
 use Rattle.city_crew.proofs.run.run.Goals as goal
 
 pub run_threads-requires-send-T : goal.run_threads-requires-send-T

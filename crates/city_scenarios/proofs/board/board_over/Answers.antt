@@ -1,4 +1,4 @@
-use Rattle.city_crew.proofs.LawfulCopy.{lawful_copy}
+use Rattle.city_board.proofs.LawfulCopy.{lawful_copy}
 use Rattle.city_scenarios.proofs.board.board_over.Goals as goal
 
 pub board-requires-clause-lawful : goal.board-requires-clause-lawful

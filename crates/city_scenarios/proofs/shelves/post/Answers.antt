@@ -2,7 +2,7 @@ use Rattle.std.proofs.Common.{ap, sym, subst}
 use Rattle.city_model.specs.CityMap.{CityValue, object_at}
 use Rattle.city_model.specs.Relations.{IsLawful}
 use Rattle.city_model.specs.Runs.{after_change}
-use Rattle.city_crew.specs.BoardValues.{PosterValue}
+use Rattle.city_board.specs.BoardValues.{PosterValue}
 use Rattle.city_scenarios.proofs.shelves.post.Goals as goal
 
 pub show-requires-clause-after : goal.show-requires-clause-after

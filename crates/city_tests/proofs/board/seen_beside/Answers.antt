@@ -1,5 +1,5 @@
 use denote.Param.Send.{sendable}
-use Rattle.city_crew.proofs.Crossing.{viewer_sends}
+use Rattle.city_board.proofs.Crossing.{viewer_sends}
 use Rattle.city_tests.proofs.board.seen_beside.Goals as goal
 
 pub join-looked-requires-send-F : goal.join-looked-requires-send-F

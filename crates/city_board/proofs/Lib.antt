@@ -1,0 +1,11 @@
+pub mod Adding
+pub mod Applied
+pub mod Crossing
+pub mod HeldEdits
+pub mod KeptRule
+pub mod LaterVersions
+pub mod LawfulCopy
+pub mod Placed
+pub mod Prefixes
+pub mod Prelude
+pub mod Results

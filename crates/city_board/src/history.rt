@@ -1,0 +1,198 @@
+//! The history of a board's changes. It exists for the proofs only, and it only grows.
+ghost use Rattle.std.specs.Prelude.{◌≡◌, ◌⊎◌, ◌<◌, ◌^◌, [], ◌∷◌, ◌++◌, length, IfSome};
+ghost use mathlib.Core.List.{IsPrefix};
+ghost use Rattle.city_board.specs.HistoryValue.{history_of};
+
+use city_model::change::Change;
+use logbook::{Gain, Offer, Plain, Play, Rule, Seen, Start, Word};
+use std::marker::Model;
+
+/// The rule of a history: its word holds its length.
+pub struct HistoryRule;
+
+impl Rule<Change, u64> for HistoryRule {
+    ghost use Rattle.std.specs.Prelude.{[]};
+    ghost use base.Fml.{ftrue};
+    ghost use Rattle.city_board.specs.inside.HistoryRule.{HasLength};
+
+    ghost holds = { λ cells changes. HasLength cells changes };
+
+    ghost first = { [] };
+
+    ghost hinted = { λ n changes. Unit {0} };
+
+    ghost shows = { λ changes. [] };
+
+    ghost keeps = { λ names changes. ftrue };
+
+    ghost moves = { λ ask before after answer. Unit {0} };
+}
+
+/// What adding a change yields besides the change: nothing.
+pub struct NoGain;
+
+impl Gain<Change, u64> for NoGain {
+    ghost use base.Fml.{ftrue};
+
+    ghost after = { λ names about answer. ftrue };
+}
+
+/// The step that adds a change.
+pub struct AddsChange;
+
+impl Play<Change, u64> for AddsChange {
+    ghost use Rattle.city_board.specs.inside.HistoryRule.{Adds};
+
+    ghost then = { Adds };
+}
+
+impl Plain<Change, Change, u64> for AddsChange {
+    ghost use Rattle.std.specs.Prelude.{None};
+
+    ghost ask = { λ change. change };
+
+    ghost state = { λ change. None };
+}
+
+/// The end of a history, where changes are added. Contracts see the history's name.
+#[derive(Drop)]
+pub struct Head {
+    word: Word<Change, u64, HistoryRule>,
+}
+
+impl Model for Head {
+    ghost use Rattle.std.specs.Prelude.{◌≡◌};
+    ghost use Rattle.logbook.specs.Pages.{Book};
+    ghost use Rattle.city_board.specs.inside.HistoryRule.{head_of};
+
+    ghost Value = { Book };
+
+    ghost view = { λ h. h.word.book };
+
+    ghost invariant = { λ h. h.word ≡ head_of h.word.book };
+}
+
+/// A history up to some change. Contracts see its name and the changes.
+#[derive(Drop)]
+pub struct History {
+    len: u64,
+    seen: Seen<Change, u64, HistoryRule>,
+}
+
+impl Model for History {
+    ghost use Rattle.std.specs.Prelude.{◌≡◌, length};
+    ghost use Rattle.std.specs.Coded.{codes};
+    ghost use Rattle.city_model.specs.inside.DataCode.{coded_members};
+    ghost use Rattle.city_board.specs.HistoryValue.{HistoryValue, history_of};
+
+    ghost Value = { HistoryValue };
+
+    ghost coded = { Prim.hlevel (codes, coded_members) };
+
+    ghost view = { λ h. history_of h.seen.book h.seen.log };
+
+    ghost invariant = { λ h. h.len ≡ length h.seen.log };
+}
+
+impl History {
+    /// A new history, without changes, and its end.
+    pub fn new() -> (History, Head)
+        ensures empty { result.0.changes ≡ [] }
+        ensures name { result.1 ≡ result.0.name }
+    {
+        let (seen, mut first, _second) = Seen::open(Start::alone(), 0, 0);
+        let word = Word::tracked(0, &mut first);
+        (History { len: 0, seen }, Head { word })
+    }
+
+    /// How many changes it has.
+    pub fn len(&self) -> u64
+        ensures { result ≡ length self.now.changes }
+    {
+        self.len
+    }
+
+    /// The same once more. Doesn't allocate.
+    pub fn again(&self) -> History
+        ensures { result ≡ self.now }
+    {
+        History {
+            len: self.len,
+            seen: self.seen.again(),
+        }
+    }
+
+    /// The longer of two, which begins with the other.
+    pub fn longer(&self, other: &History) -> History
+        requires { other.now.name ≡ self.now.name }
+        ensures one { (result ≡ self.now) ⊎ (result ≡ other.now) }
+        ensures this { IsPrefix self.now.changes result.changes }
+        ensures that { IsPrefix other.now.changes result.changes }
+    {
+        let mut both = self.seen.again();
+        both.learn(&other.seen);
+        if self.len < other.len {
+            other.again()
+        } else {
+            self.again()
+        }
+    }
+
+    /// This with one change more, which is still to be added.
+    pub fn with(&self, change: &Change) -> Addition
+        ensures { result ≡ history_of self.now.name (self.now.changes ++ change.now ∷ []) }
+    {
+        Addition {
+            len: self.len,
+            seen: self.seen.again(),
+            offer: self.seen.plain::<NoGain, Change, AddsChange>(change),
+        }
+    }
+}
+
+/// A history up to some change, and one more that is to follow it. Contracts see both as one.
+#[derive(Drop)]
+pub struct Addition {
+    len: u64,
+    seen: Seen<Change, u64, HistoryRule>,
+    offer: Offer<Change, u64, HistoryRule, NoGain>,
+}
+
+impl Model for Addition {
+    ghost use Rattle.std.specs.Prelude.{◌≡◌, [], ◌∷◌, ◌++◌, length, None};
+    ghost use Rattle.std.specs.Coded.{codes};
+    ghost use Rattle.city_model.specs.inside.DataCode.{coded_members};
+    ghost use Rattle.city_board.specs.HistoryValue.{HistoryValue, history_of};
+
+    ghost Value = { HistoryValue };
+
+    ghost coded = { Prim.hlevel (codes, coded_members) };
+
+    ghost view = { λ a. history_of a.seen.book (a.seen.log ++ a.offer.ask ∷ []) };
+
+    ghost invariant = { λ a. (a.len ≡ length a.seen.log) × (a.offer.names ≡ a.seen.names) × (a.offer.state ≡ None) };
+}
+
+impl Addition {
+    /// Adds the change to the history; none where another one follows already.
+    pub fn add(self, head: &Head) -> Option<History>
+        requires name { head.now ≡ self.name }
+        requires room { length self.changes < 2 ^ 64 }
+        ensures { IfSome result (λ history. history ≡ self) }
+    {
+        let Addition {
+            len,
+            mut seen,
+            mut offer,
+        } = self;
+        let mut pen = seen.no_pen();
+        let found = head
+            .word
+            .compare_exchange::<AddsChange, NoGain>(len, len + 1, &mut seen, &mut offer, &mut pen);
+        if found == len {
+            Some(History { len: len + 1, seen })
+        } else {
+            None
+        }
+    }
+}

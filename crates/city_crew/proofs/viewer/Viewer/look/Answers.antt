@@ -1,5 +1,0 @@
-use Rattle.city_crew.proofs.KeptRule.{looks}
-use Rattle.city_crew.proofs.viewer.Viewer.look.Goals as goal
-
-pub enter_as-requires : goal.enter_as-requires
-enter_as-requires c = looks _ _
