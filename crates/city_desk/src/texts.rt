@@ -6,7 +6,7 @@ ghost use Rattle.city_desk.specs.RunFaults.{IsSerialFault};
 ghost use Rattle.city_desk.specs.TextRuns.{IsReadFrom};
 
 use crate::fault::RunFault;
-use city_doc::{Pieces, read_city, read_city_by, read_scripts};
+use city_doc::{Pieces, read_city, read_city_by, read_scripts, read_scripts_by};
 use city_model::city::City;
 use city_model::script::Script;
 use city_model::sequence::Sequence;
@@ -29,7 +29,7 @@ pub fn read_texts(
     Ok((city, scripts))
 }
 
-/// Reads two texts as `read_texts` does, and answers the same. The document is read in pieces, each by a thread.
+/// Reads two texts as `read_texts` does, and answers the same. Both are read in pieces, each by a thread.
 ///
 /// One piece needs no thread.
 pub fn read_texts_by<R: Threads + Sync>(
@@ -47,6 +47,6 @@ pub fn read_texts_by<R: Threads + Sync>(
         return read_texts(alloc, document, scripts);
     }
     let city = read_city_by(rt, alloc, document, pieces)?;
-    let scripts = read_scripts(alloc, scripts)?;
+    let scripts = read_scripts_by(rt, alloc, scripts, pieces)?;
     Ok((city, scripts))
 }
