@@ -1,4 +1,5 @@
 mod FaultLists
 pub mod Laws
 pub mod OneValue
+pub mod EachPiece
 pub mod Prelude

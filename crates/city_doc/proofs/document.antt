@@ -1,6 +1,8 @@
 -- What the proofs of several functions of src/document/ use.
 pub mod AllFaults
 mod ArrangedCities
+pub mod CanonicalCities
+pub mod CityInPieces
 mod CityNests
 pub mod EntriesRead
 mod ExampleFaults
@@ -19,6 +21,7 @@ mod OneFirst
 mod Order
 pub mod OwnMembers
 pub mod PutMembers
+pub mod PiecesWritten
 mod ReadableObjects
 mod RelatedCities
 pub mod Right

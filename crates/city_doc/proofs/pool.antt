@@ -2,5 +2,6 @@
 pub mod KeptNumbers
 pub mod NumberedAt
 pub mod NumberedPoints
+pub mod PointsAgain
 pub mod Repeats
 pub mod Walks

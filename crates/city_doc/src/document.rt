@@ -6,6 +6,7 @@ pub mod build;
 pub mod city_faults;
 pub mod each_fault;
 pub mod faults;
+pub mod in_pieces;
 pub mod indexed;
 pub mod read;
 pub mod text;

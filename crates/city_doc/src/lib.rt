@@ -10,7 +10,8 @@
 //! - `script`: texts of scripts: the forms of commands, commands, faults
 //! - `report`: the report of a run: ends and replies
 //! - `pool`: points, each with a number
-//! - `pieces`: in how many pieces a text is read
+//! - `point_numbers`: the numbers of points, as they are met or as they were given beforehand
+//! - `pieces`: in how many pieces a text is read, and in how many a city or a report is written
 //! - `fault`: why a text is refused
 #![tactic(auto)]
 
@@ -18,6 +19,7 @@ mod document;
 mod fault;
 mod object;
 mod pieces;
+mod point_numbers;
 mod pool;
 mod report;
 mod script;
@@ -27,10 +29,11 @@ mod tree;
 pub use city_tokens::{MAX_TEXT, Pieces};
 pub use document::all_faults::faults_of;
 pub use document::read::{read_city, read_city_by};
-pub use document::write::{append_city, write_city};
+pub use document::write::{append_city, append_city_by, write_city};
 pub use fault::{ReadFault, ScriptFault};
 pub use pieces::{LEAST_PIECE, pieces_for};
 pub use pool::{FIXED_SEED, VertexPool};
+pub use report::in_pieces::seeded_report_by;
 pub use report::write::{seeded_report, write_report};
 pub use script::all_faults::script_faults_of;
 pub use script::read::{read_scripts, read_scripts_by};

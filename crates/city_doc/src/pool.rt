@@ -1,5 +1,6 @@
 //! Numbers points in the order in which they are first met.
 ghost use Rattle.std.specs.Prelude.{◌≡◌, [], IfOk, OnOk, OnErr, true};
+ghost use Rattle.std.specs.List.{IsDistinct};
 ghost use Rattle.city_model.specs.Shells.{same_point};
 ghost use Rattle.city_doc.specs.Pool.{number_of, with_point};
 
@@ -67,6 +68,19 @@ fn is_same(point: &Point, other: &Point) -> bool
     *point == *other
 }
 
+/// Whether a point is among points of which each is there once, and has this number.
+#[tactic(auto, using(crate::proofs::pool::NumberedAt::kept_at))]
+pub fn is_numbered(points: &[Point], point: &Point, number: usize) -> bool
+    requires { IsDistinct same_point points.now }
+    ensures number { result ≡ true → number ≡ number_of points.now point.now }
+    ensures there { result ≡ true → with_point points.now point.now ≡ points.now }
+{
+    match points.get(number) {
+        None => false,
+        Some(there) => is_same(there, point),
+    }
+}
+
 impl Model for VertexPool {
     ghost use Rattle.std.specs.Prelude.{List};
     ghost use Rattle.city_model.specs.declared.object.Point.{Point};
@@ -94,18 +108,6 @@ impl VertexPool {
         }
     }
 
-    /// Whether a point is there and has this number.
-    #[tactic(auto, using(crate::proofs::pool::NumberedAt::kept_at))]
-    fn is_numbered(&self, point: &Point, number: usize) -> bool
-        ensures number { result ≡ true → number ≡ number_of self.now point.now }
-        ensures there { result ≡ true → with_point self.now point.now ≡ self.now }
-    {
-        match self.points.as_slice().get(number) {
-            None => false,
-            Some(there) => is_same(there, point),
-        }
-    }
-
     /// Adds a point, and gives its number. A point that is there keeps its number.
     ///
     /// If memory runs out, the pool is unchanged.
@@ -116,7 +118,7 @@ impl VertexPool {
     {
         let place = place_of(&point) as usize;
         let lately = self.lately[place];
-        if self.is_numbered(&point, lately) {
+        if is_numbered(self.as_slice(), &point, lately) {
             return Ok(lately);
         }
         let (number, _) = self.points.insert_full(point)?;
@@ -129,5 +131,13 @@ impl VertexPool {
         ensures { result.now.keys ≡ self.now }
     {
         &self.points
+    }
+
+    /// The points by their numbers, each once. Doesn't allocate.
+    pub fn as_slice(&self) -> &[Point]
+        ensures points { result.now ≡ self.now }
+        ensures distinct { IsDistinct same_point self.now }
+    {
+        self.points.as_slice()
     }
 }

@@ -5,11 +5,10 @@ use Rattle.city_doc.proofs.Prelude.{Point, Object, Geometry, shape_name, triple_
 use Rattle.city_doc.proofs.Prelude.{vertices_data, boundaries_data, geometry_data, put_list, object_data, objects_data}
 use Rattle.city_doc.proofs.Prelude.{listed}
 use Rattle.std.proofs.Common.{codes}
+use Rattle.city_doc.specs.inside.document.Pieces.{frame_own}
+use Rattle.city_doc.specs.inside.tree.OwnMembers.{Own}
 use Rattle.city_doc.proofs.tree.Among.{puts, put_if}
 use Rattle.city_tokens.proofs.Laws.{put-swap}
-
-abbrev pub Own : Type 0
-Own = List (List ℕ × Option Data)
 
 abbrev pub geometry_own : List Point → Geometry → Own
 geometry_own pool g =
@@ -43,9 +42,7 @@ transform_puts f = simp (← put-swap)
 
 abbrev pub city_own : List Point → CityValue → Own
 city_own pool c =
-    (codes "CityObjects", Some (objects_data pool (entries c.1))) ∷ (codes "transform", Some (transform_data c.0))
-    ∷ (codes "type", Some (string (codes "CityJSON")))
-    ∷ (codes "version", Some (string (codes "2.0"))) ∷ (codes "vertices", Some (vertices_data pool)) ∷ []
+    (codes "CityObjects", Some (objects_data pool (entries c.1))) ∷ frame_own pool c.0
 
 pub city_puts : (pool : List Point) (c : CityValue) → numbered_tree pool c ≡ object (puts (city_own pool c) c.0.extra)
 city_puts pool c =

@@ -6,13 +6,15 @@ use Rattle.city_doc.proofs.Prelude.{kept_at_geometry, kept_at_transform, kept_at
 use Rattle.city_doc.proofs.Prelude.{Object, Point, pool_of, without_repeats, with_points, transform_data, numbered_tree}
 use Rattle.city_doc.proofs.Prelude.{tree_of, object_data, geometry_data, members_before, members_from, tokens_of}
 use Rattle.city_doc.proofs.Prelude.{tokens_of_members, tokens_of_own, closing_members, ReadsBack, MembersReadBack}
-use Rattle.std.proofs.Common.{◌-◌, OnOk}
+use Rattle.std.proofs.Common.{◌-◌, OnOk, Ok, Err}
 use Rattle.city_doc.proofs.tree.Among.{puts, AreAbove, IsLeft, begun, own_written, value_written, end_written}
 use Rattle.city_doc.proofs.tree.Among.{AllReadBack, ordered_from, none_from, own_read}
 use Rattle.city_doc.proofs.object.ObjectsRead.{geometry_members_lacking, object_members_lacking}
 use Rattle.city_doc.proofs.pool.Repeats.{pool_is_without_repeats}
 use Rattle.city_doc.proofs.document.FramesRead.{transform_members_lacking, top_members_lacking}
-use Rattle.city_doc.proofs.document.OwnMembers.{Own, geometry_own, object_own, object_puts, transform_own}
+pub use Rattle.city_doc.specs.inside.tree.OwnMembers.{written}
+use Rattle.city_doc.specs.inside.tree.OwnMembers.{Own, part}
+use Rattle.city_doc.proofs.document.OwnMembers.{geometry_own, object_own, object_puts, transform_own}
 use Rattle.city_doc.proofs.document.OwnMembers.{transform_puts, city_own, city_puts}
 
 -- its own names ascend, and no kept member has one of them
@@ -30,19 +32,11 @@ pub record IsPut (kept : Members) (own : Own) (d : Data) : Type 0 where
 pub on_ok : {T E P Q : Type 0} (r : Result T E) → OnOk r P → (P → Q) → OnOk r Q
 on_ok r h f = on_ok_weaker r f h
 
+pub both_ok : {T E P Q R : Type 0} (r : Result T E) → OnOk r P → OnOk r Q → (P → Q → R) → OnOk r R
+both_ok (Ok x) p q f = f p q
+both_ok (Err e) p q f = tt
+
 -- ---- its tokens
-
--- its own member m and the kept ones before it: the member by its name and its value, or at once
-abbrev part : Members → ℕ → List ℕ → Option Data → List Token → List Token
-part kept zero m (Some d) out =
-    (out ++ (tokens_of_members (members_before m kept) ++ key m ∷ [])) ++ tokens_of d
-part kept zero m None out = out ++ (tokens_of_members (members_before m kept) ++ [])
-part kept (suc n) m o out = out ++ (tokens_of_members (members_before m kept) ++ tokens_of_own m o)
-
--- all that is written, the first n of its own members each at once
-abbrev pub written : Members → ℕ → Own → List Token → List Token
-written kept n [] out = out ++ (tokens_of_members kept ++ end_object ∷ [])
-written kept n (o ∷ own) out = written (members_from o.0 kept) (n - 1) own (part kept n o.0 o.1 out)
 
 apart_from : (m : List ℕ) (kept : Members) (own : Own) → AreApart kept own → AreApart (members_from m kept) own
 apart_from m kept [] apart = tt

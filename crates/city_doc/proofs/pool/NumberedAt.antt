@@ -38,3 +38,15 @@ there_at (x ∷ pool) (suc n) q p at same = grind (arith, there_at pool n q p)
 pub kept_at : (pool : List Point) (n : ℕ) (q p : Point) → slice_get pool n ≡ Some q → same_point q p ≡ true
     → with_point pool p ≡ pool
 kept_at pool n q p at same = rw (there_at pool n q p at same) refl
+
+all_apart : {eq : Point → Point → Bool} (p : Point) (ps : List Point) → AllByRecursion (λ q. eq p q ≡ false) ps
+    → ((a b : Point) → eq a b ≡ same_point a b) → AllByRecursion (λ q. same_point p q ≡ false) ps
+all_apart p [] h alike = tt
+all_apart p (q ∷ ps) h alike = (sym (alike p q) ∙ h.0, all_apart p ps h.1 alike)
+
+-- points that no test that is alike finds twice
+pub distinct_alike : {eq : Point → Point → Bool} (ps : List Point) → IsDistinct eq ps
+    → ((a b : Point) → eq a b ≡ same_point a b) → IsDistinct same_point ps
+unfolding IsDistinct
+distinct_alike [] h alike = tt
+distinct_alike (p ∷ ps) h alike = (all_apart p ps h.0 alike, distinct_alike ps h.1 alike)

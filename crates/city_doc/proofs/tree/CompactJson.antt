@@ -7,23 +7,29 @@ use Rattle.json.specs.Lex.{tokens}
 use Rattle.json.specs.Print.{print, ArePrintableOrBad}
 use Rattle.json.specs.Tree.{json_tokens, depth, HasNumbers}
 use Rattle.json.proofs.Numbered.{ArePrintableOrBad-tokens, value-HasNumbers}
-use Rattle.json.proofs.Printed.Trees.{value-json_tokens}
+use Rattle.json.proofs.Printed.Tokens.{tokens-print}
+use Rattle.json.proofs.Printed.Trees.{value-json_tokens, ArePrintable-json_tokens}
 use Rattle.serde_json.specs.Written.{outline, compact_text}
 use Rattle.city_doc.specs.report.JsonLines.{IsCompactJson, AreJsonLines}
 use Rattle.city_doc.specs.tree.Tokens.{tokens_of}
 
--- what a text has for numbers are numbers
-numbers_of : (text : List ℕ) (tree : Json) → tokens text ≡ json_tokens tree → HasNumbers tree
-numbers_of text tree same =
+-- tokens of a value that may be printed have numbers for numbers
+numbers_of : (tree : Json) → ArePrintableOrBad (json_tokens tree) → HasNumbers tree
+numbers_of tree printable =
     value-HasNumbers (depth tree) (json_tokens tree ++ []) [] tree
-    (subst ArePrintableOrBad (same ∙ sym (append-nil (json_tokens tree))) (ArePrintableOrBad-tokens text))
+    (subst ArePrintableOrBad (sym (append-nil (json_tokens tree))) printable)
     (value-json_tokens tree (depth tree) [] (omega arith))
+
+-- the tokens of data that may be printed are those of their print
+pub lexed_again : (d : Data) → ArePrintableOrBad (tokens_of d) → tokens (print (tokens_of d)) ≡ tokens_of d
+lexed_again d printable =
+    tokens-print (tokens_of d) (ArePrintable-json_tokens (outline d) (numbers_of (outline d) printable))
 
 pub compact_json : (d : Data) → tokens (print (tokens_of d)) ≡ tokens_of d → IsUtf8 (print (tokens_of d))
     → IsCompactJson (compact_text d)
 compact_json d again utf8 = record {
   tree = outline d;
-  numbers = numbers_of _ (outline d) again;
+  numbers = numbers_of (outline d) (subst ArePrintableOrBad again (ArePrintableOrBad-tokens (print (tokens_of d))));
   utf8 = subst IsUtf8 (print-outline d) utf8;
   text_is = sym (print-outline d);
 }

@@ -7,16 +7,20 @@ ghost use Rattle.city_doc.specs.Pool.{pool_of};
 ghost use Rattle.city_doc.specs.document.Ranges.{IsInRange};
 ghost use Rattle.city_doc.specs.tree.Ranges.{is_i64_triple};
 ghost use Rattle.city_doc.specs.tree.Tokens.{tokens_of};
-ghost use Rattle.city_doc.specs.inside.tree.ReadsBack.{ReadsBack};
+ghost use Rattle.city_doc.specs.inside.document.Pieces.{frame_own};
+ghost use Rattle.city_doc.specs.inside.tree.OwnMembers.{written};
+ghost use Rattle.city_doc.specs.inside.tree.ReadsBack.{ReadsBack, MembersReadBack};
+ghost use Rattle.city_doc.specs.shape.Vertices.{vertices_data};
 
 use crate::object::text::write_objects;
-use crate::pool::VertexPool;
+use crate::point_numbers::PointNumbers;
 use crate::shape::vertices::write_vertices;
 use crate::tree::kept_members::KeptMembers;
 use crate::tree::triples::write_triple;
 use city_model::OutOfMemory;
 use city_model::city::City;
 use city_model::frame::Frame;
+use city_model::object::Point;
 use json::Writer;
 use std::alloc::Global;
 
@@ -39,8 +43,38 @@ fn write_transform(frame: &Frame, out: &mut Writer) -> Result<(), OutOfMemory>
     kept.write_last(out)
 }
 
-/// Writes a city, whose points it adds to a pool without points.
-fn write_numbered(city: &City, pool: &mut VertexPool, out: &mut Writer) -> Result<(), OutOfMemory>
+/// Writes the members of a city behind its objects, and the brace that closes it. The kept ones before them are written.
+pub fn write_rest(
+    frame: &Frame,
+    kept: &mut KeptMembers<'_>,
+    points: &[Point],
+    out: &mut Writer,
+) -> Result<(), OutOfMemory>
+    ensures before { OnOk result (out.new.before ≡ out.old.before) }
+    ensures tokens { OnOk result (out.new.tokens
+        ≡ written kept.old 0 (frame_own points.now frame.now) out.old.tokens) }
+    ensures left { OnOk result (MembersReadBack kept.old) }
+    ensures reads { OnOk result (ReadsBack (transform_data frame.now) × ReadsBack (vertices_data points.now)) }
+    ensures kept { OnOk result (kept_at_transform frame.now.more ≡ true) }
+    ensures in_range { OnOk result (IsInRange points.now frame.now) }
+{
+    kept.write_name("transform", out)?;
+    write_transform(frame, out)?;
+    kept.write_name("type", out)?;
+    out.string("CityJSON")?;
+    kept.write_name("version", out)?;
+    out.string("2.0")?;
+    kept.write_name("vertices", out)?;
+    write_vertices(points, out)?;
+    kept.write_last(out)
+}
+
+/// Writes a city, whose points get numbers as they are met.
+fn write_numbered(
+    city: &City,
+    pool: &mut PointNumbers<'_>,
+    out: &mut Writer,
+) -> Result<(), OutOfMemory>
     requires { pool.old ≡ [] }
     ensures before { OnOk result (out.new.before ≡ out.old.before) }
     ensures tokens { OnOk result (out.new.tokens ≡ out.old.tokens ++ tokens_of (tree_of city.now)) }
@@ -54,15 +88,7 @@ fn write_numbered(city: &City, pool: &mut VertexPool, out: &mut Writer) -> Resul
     out.begin_object()?;
     kept.write_name("CityObjects", out)?;
     write_objects(city, pool, out)?;
-    kept.write_name("transform", out)?;
-    write_transform(frame, out)?;
-    kept.write_name("type", out)?;
-    out.string("CityJSON")?;
-    kept.write_name("version", out)?;
-    out.string("2.0")?;
-    kept.write_name("vertices", out)?;
-    write_vertices(pool, out)?;
-    kept.write_last(out)
+    write_rest(frame, &mut kept, pool.as_slice(), out)
 }
 
 /// Writes a city, whose points are hashed by the seed.
@@ -78,6 +104,6 @@ pub fn write_members(
     ensures kept { OnOk result (IsKeptCity city.now) }
     ensures in_range { OnOk result (IsInRange (pool_of city.now) city.now.0) }
 {
-    let mut pool = VertexPool::with_seed(alloc, seed);
+    let mut pool = PointNumbers::as_met(alloc, seed);
     write_numbered(city, &mut pool, out)
 }

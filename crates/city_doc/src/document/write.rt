@@ -15,12 +15,19 @@ ghost use Rattle.city_tokens.specs.tree.Texts.{IsReadable};
 ghost use Rattle.city_doc.specs.tree.Tokens.{tokens_of};
 ghost use Rattle.city_doc.specs.Pool.{pool_of};
 
+use crate::document::in_pieces::append_in_pieces;
 use crate::document::text::write_members;
+use crate::pieces::piece_len;
 use crate::pool::FIXED_SEED;
 use city_model::OutOfMemory;
 use city_model::city::City;
+use city_tokens::Pieces;
 use json::Writer;
 use std::alloc::Global;
+use std::thread::Threads;
+
+/// How many bytes of text an object counts as where a city is written in pieces.
+const OBJECT_BYTES: usize = 1024;
 
 /// The canonical text of a city, without a newline.
 ///
@@ -63,4 +70,27 @@ pub fn append_city(
     write_members(alloc, seed, city, &mut out)?;
     let bytes = out.into_inner();
     Ok(bytes)
+}
+
+/// The bytes, and after them the canonical text of a city, without a newline.
+///
+/// The text is the one of `append_city`, of which so many threads write pieces. A city that is too small for two pieces
+/// is written at once.
+pub fn append_city_by<R: Threads + Sync>(
+    rt: &R,
+    alloc: Global,
+    seed: u64,
+    bytes: Vec<u8>,
+    city: &City,
+    pieces: Pieces,
+) -> Result<Vec<u8>, OutOfMemory>
+    ensures text { IfOk result (λ b. b.items ≡ bytes.items ++ city_text city.now) }
+    ensures canonical { IfOk result (λ _. IsCanonicalText (city_text city.now) city.now) }
+    ensures json { IfOk result (λ _. IsCompactJson (city_text city.now)) }
+{
+    let len = piece_len(city.len(), OBJECT_BYTES, pieces);
+    if city.len() <= len {
+        return append_city(alloc, seed, bytes, city);
+    }
+    append_in_pieces(rt, alloc, seed, bytes, city, len)
 }

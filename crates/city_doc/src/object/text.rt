@@ -1,11 +1,12 @@
 //! Writes city objects.
-ghost use Rattle.std.specs.Prelude.{◌≡◌, ◌<◌, ◌^◌, ◌++◌, List, OnOk, length, true, flat_map};
+ghost use Rattle.std.specs.Prelude.{◌≡◌, ◌<◌, ◌^◌, ◌++◌, List, OnOk, length, true, flat_map, take};
 ghost use Rattle.std.specs.List.{list_all};
 ghost use Rattle.std.specs.FinMap.{entries};
 ghost use Rattle.serde_json.specs.Data.{string};
 ghost use Rattle.city_model.specs.Chunks.{ids_left};
 ghost use Rattle.city_tokens.specs.tree.Lists.{list_data};
 ghost use Rattle.city_model.specs.declared.object.Point as p;
+ghost use Rattle.city_doc.specs.inside.object.InTurn.{in_turn, entry_points};
 ghost use Rattle.city_doc.specs.inside.tree.Parted.{members_before, members_from};
 ghost use Rattle.city_doc.specs.object.Canonical.{object_data, objects_data};
 ghost use Rattle.city_doc.specs.inside.document.KeptMembers.{is_kept_object, are_kept_objects};
@@ -16,6 +17,7 @@ ghost use Rattle.city_doc.specs.inside.tree.PartTokens.{tokens_of_members, token
 ghost use Rattle.city_doc.specs.inside.tree.ReadsBack.{ReadsBack, OwnReadsBack};
 ghost use Rattle.city_doc.specs.inside.tree.ReadsBack.{ReadsBackNumbered, MembersReadBack};
 
+use crate::point_numbers::PointNumbers;
 use crate::pool::VertexPool;
 use crate::shape::text::Written;
 use crate::tree::kept_members::KeptMembers;
@@ -25,14 +27,16 @@ use city_model::id_list::Ids;
 use city_model::object::Object;
 use city_model::object_type::name;
 use city_model::sequence::Sequence;
+use city_model::text::Id;
 use json::Writer;
+use std::collections::btree_map::Iter;
 
 /// Writes the kept members before a name, and a list under that name unless it is empty.
 fn write_list<T: Written>(
     kept: &mut KeptMembers<'_>,
     name: &str,
     list: &Sequence<T>,
-    pool: &mut VertexPool,
+    pool: &mut PointNumbers<'_>,
     out: &mut Writer,
 ) -> Result<(), OutOfMemory>
     ensures pool { OnOk result (pool.new ≡ with_points pool.old (flat_map T.points list.now)) }
@@ -96,7 +100,7 @@ fn write_relatives(
 #[tactic(auto, unfolding(crate::specs::inside::document::KeptMembers::is_kept_object))]
 pub fn write_object(
     object: &Object,
-    pool: &mut VertexPool,
+    pool: &mut PointNumbers<'_>,
     out: &mut Writer,
 ) -> Result<(), OutOfMemory>
     ensures pool { OnOk result (pool.new ≡ with_points pool.old (object_points object.now)) }
@@ -119,10 +123,62 @@ pub fn write_object(
     kept.write_last(out)
 }
 
+/// Adds the points of an object to a pool, in the order in which they are met where it is written.
+fn add_points(object: &Object, pool: &mut VertexPool) -> Result<(), OutOfMemory>
+    ensures { OnOk result (pool.new ≡ with_points pool.old (object_points object.now)) }
+{
+    let body = object.body.get();
+    body.geometry.get().add_points(pool)
+}
+
+/// Adds the points of the first `count` of these objects, or of all where there are fewer, to a pool.
+pub fn add_first(
+    mut left: Iter<'_, Id, Object>,
+    mut count: usize,
+    pool: &mut VertexPool,
+) -> Result<(), OutOfMemory>
+    ensures { OnOk result (pool.new ≡ with_points pool.old (entry_points (take count left.entry))) }
+{
+    'objects: while count > 0 {
+        let Some((_, object)) = left.next() else {
+            return Ok(());
+        };
+        add_points(object, pool)?;
+        count -= 1;
+    }
+    Ok(())
+}
+
+/// Writes the first `count` of these objects, or all where there are fewer, each under its id.
+pub fn write_first(
+    mut left: Iter<'_, Id, Object>,
+    mut count: usize,
+    pool: &mut PointNumbers<'_>,
+    out: &mut Writer,
+) -> Result<(), OutOfMemory>
+    ensures pool { OnOk result (pool.new ≡ with_points pool.old (entry_points (take count left.entry))) }
+    ensures before { OnOk result (out.new.before ≡ out.old.before) }
+    ensures tokens { OnOk result ((later : List p.Point) → out.new.tokens ≡ out.old.tokens
+        ++ tokens_of_members (in_turn (with_points pool.new later) (take count left.entry))) }
+    ensures reads { OnOk result ((ps : List p.Point) → length ps < 2 ^ 63
+        → MembersReadBack (in_turn ps (take count left.entry))) }
+    ensures kept { OnOk result (are_kept_objects (take count left.entry) ≡ true) }
+{
+    'objects: while count > 0 {
+        let Some((id, object)) = left.next() else {
+            return Ok(());
+        };
+        out.key(id.as_str())?;
+        write_object(object, pool, out)?;
+        count -= 1;
+    }
+    Ok(())
+}
+
 /// Writes the objects of a city by their ids.
 pub fn write_objects(
     city: &City,
-    pool: &mut VertexPool,
+    pool: &mut PointNumbers<'_>,
     out: &mut Writer,
 ) -> Result<(), OutOfMemory>
     ensures pool { OnOk result (pool.new ≡ with_points pool.old (city_points city.now)) }
@@ -133,9 +189,6 @@ pub fn write_objects(
     ensures kept { OnOk result (are_kept_objects (entries city.now.1) ≡ true) }
 {
     out.begin_object()?;
-    for (id, object) in city.iter() {
-        out.key(id.as_str())?;
-        write_object(object, pool, out)?;
-    }
+    write_first(city.iter(), city.len(), pool, out)?;
     out.end_object()
 }

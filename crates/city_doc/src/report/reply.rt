@@ -5,7 +5,7 @@ ghost use Rattle.city_doc.specs.report.Replies.{found_data, found_reply, reply_d
 ghost use Rattle.city_doc.specs.tree.Tokens.{tokens_of};
 
 use crate::object::text::write_object;
-use crate::pool::VertexPool;
+use crate::point_numbers::PointNumbers;
 use crate::shape::vertices::write_vertices;
 use city_model::OutOfMemory;
 use city_model::command::Reply;
@@ -16,7 +16,7 @@ use std::alloc::Global;
 /// Writes an object with its own vertices, which it adds to a pool without points.
 fn write_numbered(
     object: &Object,
-    pool: &mut VertexPool,
+    pool: &mut PointNumbers<'_>,
     out: &mut Writer,
 ) -> Result<(), OutOfMemory>
     requires { pool.old ≡ [] }
@@ -28,7 +28,7 @@ fn write_numbered(
     out.key("object")?;
     write_object(object, pool, out)?;
     out.key("vertices")?;
-    write_vertices(pool, out)?;
+    write_vertices(pool.as_slice(), out)?;
     out.end_object()
 }
 
@@ -43,7 +43,7 @@ fn write_found(
     ensures tokens { OnOk result (out.new.tokens
         ≡ out.old.tokens ++ tokens_of (found_data object.now)) }
 {
-    let mut pool = VertexPool::with_seed(alloc, seed);
+    let mut pool = PointNumbers::as_met(alloc, seed);
     write_numbered(object, &mut pool, out)
 }
 

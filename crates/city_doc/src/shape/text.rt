@@ -12,6 +12,7 @@ ghost use Rattle.city_doc.specs.inside.Pool.{with_points};
 ghost use Rattle.city_doc.specs.tree.Tokens.{tokens_of};
 ghost use Rattle.city_doc.specs.inside.tree.ReadsBack.{ReadsBackNumbered};
 
+use crate::point_numbers::PointNumbers;
 use crate::pool::VertexPool;
 use crate::tree::kept_members::KeptMembers;
 use city_model::OutOfMemory;
@@ -29,13 +30,17 @@ pub trait Written {
     ghost is_kept: { Self → Bool };
 
     /// Writes the value. Points that the pool doesn't have are added as they are met.
-    fn write(&self, pool: &mut VertexPool, out: &mut Writer) -> Result<(), OutOfMemory>
+    fn write(&self, pool: &mut PointNumbers<'_>, out: &mut Writer) -> Result<(), OutOfMemory>
         ensures pool { OnOk result (pool.new ≡ with_points pool.old (points self.now)) }
         ensures before { OnOk result (out.new.before ≡ out.old.before) }
         ensures tokens { OnOk result ((later : List p.Point) → out.new.tokens
             ≡ out.old.tokens ++ tokens_of (written (with_points pool.new later) self.now)) }
         ensures reads { OnOk result (ReadsBackNumbered (λ ps. written ps self.now)) }
         ensures kept { OnOk result (is_kept self.now ≡ true) };
+
+    /// Adds the points of the value to a pool, in the order in which `write` meets them.
+    fn add_points(&self, pool: &mut VertexPool) -> Result<(), OutOfMemory>
+        ensures { OnOk result (pool.new ≡ with_points pool.old (points self.now)) };
 }
 
 impl Written for Point {
@@ -45,9 +50,14 @@ impl Written for Point {
 
     ghost is_kept = { λ _. true };
 
-    fn write(&self, pool: &mut VertexPool, out: &mut Writer) -> Result<(), OutOfMemory> {
+    fn write(&self, pool: &mut PointNumbers<'_>, out: &mut Writer) -> Result<(), OutOfMemory> {
         let number = pool.add(*self)?;
         out.u64(number as u64)
+    }
+
+    fn add_points(&self, pool: &mut VertexPool) -> Result<(), OutOfMemory> {
+        let _ = pool.add(*self)?;
+        Ok(())
     }
 }
 
@@ -58,13 +68,21 @@ impl<T: Written> Written for Sequence<T> {
 
     ghost is_kept = { λ xs. list_all T.is_kept xs };
 
-    fn write(&self, pool: &mut VertexPool, out: &mut Writer) -> Result<(), OutOfMemory> {
+    fn write(&self, pool: &mut PointNumbers<'_>, out: &mut Writer) -> Result<(), OutOfMemory> {
         out.begin_array()?;
         let items = self.as_slice();
         for item in items {
             item.write(pool, out)?;
         }
         out.end_array()
+    }
+
+    fn add_points(&self, pool: &mut VertexPool) -> Result<(), OutOfMemory> {
+        let items = self.as_slice();
+        for item in items {
+            item.add_points(pool)?;
+        }
+        Ok(())
     }
 }
 
@@ -75,11 +93,19 @@ impl Written for Shape {
 
     ghost is_kept = { λ _. true };
 
-    fn write(&self, pool: &mut VertexPool, out: &mut Writer) -> Result<(), OutOfMemory> {
+    fn write(&self, pool: &mut PointNumbers<'_>, out: &mut Writer) -> Result<(), OutOfMemory> {
         match self.bounds() {
             Bounds::Surfaces(surfaces) => surfaces.write(pool, out),
             Bounds::Shells(shells) => shells.write(pool, out),
             Bounds::Solids(solids) => solids.write(pool, out),
+        }
+    }
+
+    fn add_points(&self, pool: &mut VertexPool) -> Result<(), OutOfMemory> {
+        match self.bounds() {
+            Bounds::Surfaces(surfaces) => surfaces.add_points(pool),
+            Bounds::Shells(shells) => shells.add_points(pool),
+            Bounds::Solids(solids) => solids.add_points(pool),
         }
     }
 }
@@ -105,7 +131,7 @@ impl Written for Geometry {
     ghost is_kept = { is_kept_geometry };
 
     #[tactic(auto, unfolding(crate::specs::inside::document::KeptMembers::is_kept_geometry))]
-    fn write(&self, pool: &mut VertexPool, out: &mut Writer) -> Result<(), OutOfMemory> {
+    fn write(&self, pool: &mut PointNumbers<'_>, out: &mut Writer) -> Result<(), OutOfMemory> {
         let members = self.extra.map();
         let mut kept = KeptMembers::new(members);
         out.begin_object()?;
@@ -116,5 +142,9 @@ impl Written for Geometry {
         kept.write_name("type", out)?;
         out.string(shape_name(&self.shape))?;
         kept.write_last(out)
+    }
+
+    fn add_points(&self, pool: &mut VertexPool) -> Result<(), OutOfMemory> {
+        self.shape.add_points(pool)
     }
 }

@@ -10,7 +10,6 @@ ghost use Rattle.city_doc.specs.shape.Vertices.{vertex_data, vertices_data, is_i
 ghost use Rattle.city_doc.specs.tree.Tokens.{tokens_of};
 ghost use Rattle.city_doc.specs.inside.tree.ReadsBack.{ReadsBack};
 
-use crate::pool::VertexPool;
 use crate::tree::triples::write_three;
 use city_model::OutOfMemory;
 use city_model::object::Point;
@@ -80,17 +79,16 @@ fn write_vertex(point: &Point, out: &mut Writer) -> Result<(), OutOfMemory>
     write_three(point.x, point.y, point.z, out)
 }
 
-/// Writes the points of a pool, by their numbers.
-pub fn write_vertices(pool: &VertexPool, out: &mut Writer) -> Result<(), OutOfMemory>
+/// Writes points, by their numbers.
+pub fn write_vertices(points: &[Point], out: &mut Writer) -> Result<(), OutOfMemory>
     ensures before { OnOk result (out.new.before ≡ out.old.before) }
     ensures tokens { OnOk result (out.new.tokens
-        ≡ out.old.tokens ++ tokens_of (vertices_data pool.now)) }
-    ensures reads { OnOk result (ReadsBack (vertices_data pool.now)) }
-    ensures in_range { OnOk result (list_all is_i64_point pool.now ≡ true) }
-    ensures fewer { OnOk result (length pool.now < 2 ^ 63) }
+        ≡ out.old.tokens ++ tokens_of (vertices_data points.now)) }
+    ensures reads { OnOk result (ReadsBack (vertices_data points.now)) }
+    ensures in_range { OnOk result (list_all is_i64_point points.now ≡ true) }
+    ensures fewer { OnOk result (length points.now < 2 ^ 63) }
 {
     out.begin_array()?;
-    let points = pool.points().as_slice();
     for point in points {
         write_vertex(point, out)?;
     }

@@ -1,0 +1,13 @@
+use Rattle.city_doc.proofs.Prelude.{◌≡◌, ℕ, with_points}
+use Rattle.std.proofs.Common.{take}
+use Rattle.city_doc.specs.inside.object.InTurn.{entry_points}
+use Rattle.city_doc.proofs.object.text.add_first.Given as goal
+
+-- what is left leads to the pool of all
+abbrev pub invariant-objects : goal.invariant-objects
+invariant-objects l =
+    with_points l.initial.pool (entry_points (take l.initial.count l.initial.left)) ≡ with_points l.pool
+    (entry_points (take l.count l.left))
+
+abbrev pub decreases-objects : goal.decreases-objects
+decreases-objects l = l.count

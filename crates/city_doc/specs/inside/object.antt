@@ -1,0 +1,2 @@
+-- Words for how city objects are written.
+pub mod InTurn
