@@ -2,7 +2,7 @@
 use denote.Param.Send.{IsSend, IsSync, recorded_send, sendable, struct_send, view_send}
 use denote.RattleType.{RattleType}
 use denote.Struct.Declared.{Declared, row, field, shape}
-use Rattle.city_model.proofs.Crossing.{text_sends, text_syncs, body_sends, object_sends, city_field_sends}
+use Rattle.city_model.proofs.Crossing.{text_sends, text_syncs, body_sends, body_syncs, object_sends, city_field_sends}
 use Rattle.city_scheduler.specs.declared.shelf.Shelf.{Ghosts}
 use Rattle.std.proofs.Crossing as values
 use Rattle.std.proofs.MapsCrossing as maps
@@ -27,6 +27,7 @@ script_sends : IsSend Script.the_field.row
 script_sends = search (
   text_sends,
   body_sends,
+  body_syncs,
   geometry_sends,
   geometry_syncs,
   maps.crosses,
