@@ -1,8 +1,8 @@
 -- A city of which several workers wrote pieces.
 use Rattle.city_doc.proofs.Prelude.{◌≡◌, ℕ, List, [], ◌∷◌, ◌++◌, Option, true, false, is_some, list_all, refl, sym, ap, ◌∙◌, subst, append_assoc, entries}
-use Rattle.city_doc.proofs.Prelude.{entries_ascend, CityValue, Entries, Frame, Members, Point, pool_of, city_points, tree_of, tokens_of}
+use Rattle.city_doc.proofs.Prelude.{entries_ascend, CityValue, Frame, Members, Point, pool_of, city_points, tree_of, tokens_of}
 use Rattle.city_doc.proofs.Prelude.{transform_data, vertices_data, AreOrdered, kept_at_top, kept_at_transform, members_from, IsInRange}
-use Rattle.city_doc.proofs.Prelude.{IsKeptCity, MembersReadBack, ReadsBack, with_points, objects_data, end_object}
+use Rattle.city_doc.proofs.Prelude.{MembersReadBack, ReadsBack, with_points, objects_data, end_object}
 use Rattle.std.proofs.Common.{codes, length, ◌<◌, ◌^◌}
 use Rattle.std.specs.Str.{IsUtf8}
 use Rattle.json.specs.Lex.{tokens}
@@ -11,7 +11,7 @@ use Rattle.city_doc.specs.document.Canonical.{city_text}
 use Rattle.city_doc.specs.document.CanonicalTexts.{IsCanonicalText}
 use Rattle.city_doc.specs.inside.Pieces.{EachPiece, joined, joined_by_commas}
 use Rattle.city_doc.specs.inside.document.Pieces.{IsListed, IsWritten, IsWrittenIfKnown, frame_own, head_tokens}
-use Rattle.city_doc.specs.inside.object.InTurn.{in_turn, entry_points}
+use Rattle.city_doc.specs.inside.object.InTurn.{entry_points}
 use Rattle.city_doc.specs.inside.tree.Appended.{IsAppended, IsPrinted}
 use Rattle.city_doc.specs.inside.tree.OwnMembers.{written}
 use Rattle.city_doc.specs.report.JsonLines.{IsCompactJson}

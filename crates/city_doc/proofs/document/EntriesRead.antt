@@ -1,7 +1,7 @@
 -- The objects that were written one after the other are read again by their ids.
 use Rattle.city_doc.proofs.Prelude.{◌≡◌, ℕ, ◌<◌, List, ◌∷◌, ◌++◌, length, true, Some, nat_cmp, refl, sym, ap, [], ◌∙◌}
 use Rattle.city_doc.proofs.Prelude.{subst, append_assoc, append-nil, arith, ◌^◌, flat_map, slice_cmp, keys_of}
-use Rattle.city_doc.proofs.Prelude.{nat_list_cmp_total, list_all-append, Members, no_members, member, put, Entries}
+use Rattle.city_doc.proofs.Prelude.{nat_list_cmp_total, list_all-append, no_members, put, Entries}
 use Rattle.city_doc.proofs.Prelude.{Object, Point, entries_of, object_data, with_objects, are_kept_objects}
 use Rattle.city_doc.proofs.Prelude.{object_points}
 use Rattle.std.specs.List.Sorted.{IsStrictlySortedBy}

@@ -1,9 +1,9 @@
 -- Pieces of the objects of a city, written and put together.
 use Rattle.city_doc.proofs.Prelude.{◌≡◌, ℕ, Bool, true, false, List, [], ◌∷◌, ◌++◌, Option, Some, None, refl, sym, ap, ◌∙◌, subst}
 use Rattle.city_doc.proofs.Prelude.{append_assoc, drop, Token, key, begin_object, end_object, Entries, Point, are_kept_objects, and_parts}
-use Rattle.city_doc.proofs.Prelude.{list_all-append, tokens_of, tokens_of_members, MembersReadBack, with_points, object_data, keys_of}
+use Rattle.city_doc.proofs.Prelude.{list_all-append, tokens_of, tokens_of_members, MembersReadBack, with_points, keys_of}
 use Rattle.city_doc.proofs.Prelude.{nat_cmp, slice_cmp, entries, CityValue, tree_of, Members, members_before, members_from, Data}
-use Rattle.city_doc.proofs.Prelude.{object_points, objects_data, closing_members, Frame, ReadsBack, transform_data}
+use Rattle.city_doc.proofs.Prelude.{objects_data, closing_members, Frame, ReadsBack, transform_data}
 use Rattle.city_doc.proofs.Prelude.{vertices_data}
 use Rattle.std.proofs.Common.{length, ◌<◌, ◌^◌, take, ◌||◌, ◌&&◌, cond, codes, suc, zero, ◌-◌}
 use Rattle.std.proofs.lemmas.List.{take-append-drop}

@@ -1,11 +1,11 @@
 -- An object that is written part by part: kept members before each of its own, and those after the last.
 use Rattle.city_doc.proofs.Prelude.{◌≡◌, ℕ, zero, suc, List, [], ◌∷◌, ◌++◌, Option, Some, None, true, refl, sym, ap}
-use Rattle.city_doc.proofs.Prelude.{◌∙◌, subst, rules, Result, on_ok_weaker, Token, begin_object, end_object, key, Data}
+use Rattle.city_doc.proofs.Prelude.{◌∙◌, subst, rules, Result, on_ok_weaker, Token, begin_object, Data}
 use Rattle.city_doc.proofs.Prelude.{object, Members, no_members, get_member, CityValue, kept_at_object}
 use Rattle.city_doc.proofs.Prelude.{kept_at_geometry, kept_at_transform, kept_at_top, AreOrdered, Frame, Body, Geometry}
 use Rattle.city_doc.proofs.Prelude.{Object, Point, pool_of, without_repeats, with_points, transform_data, numbered_tree}
-use Rattle.city_doc.proofs.Prelude.{tree_of, object_data, geometry_data, members_before, members_from, tokens_of}
-use Rattle.city_doc.proofs.Prelude.{tokens_of_members, tokens_of_own, closing_members, ReadsBack, MembersReadBack}
+use Rattle.city_doc.proofs.Prelude.{tree_of, object_data, geometry_data, members_from, tokens_of}
+use Rattle.city_doc.proofs.Prelude.{closing_members, ReadsBack, MembersReadBack}
 use Rattle.std.proofs.Common.{◌-◌, OnOk, Ok, Err}
 use Rattle.city_doc.proofs.tree.Among.{puts, AreAbove, IsLeft, begun, own_written, value_written, end_written}
 use Rattle.city_doc.proofs.tree.Among.{AllReadBack, ordered_from, none_from, own_read}

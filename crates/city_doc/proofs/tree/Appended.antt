@@ -1,6 +1,6 @@
 -- Texts of tokens, put together.
 use Rattle.city_doc.proofs.Prelude.{◌≡◌, ℕ, Bool, true, false, List, [], ◌∷◌, ◌++◌, refl, sym, ap, ◌∙◌, subst, Token, Members}
-use Rattle.city_doc.proofs.Prelude.{no_members, member, Data, tokens_of, tokens_of_members, key, end_object, begin_object, append_assoc}
+use Rattle.city_doc.proofs.Prelude.{no_members, member, tokens_of, tokens_of_members, end_object, begin_object, append_assoc}
 use Rattle.city_doc.proofs.Prelude.{closing_members, object}
 use Rattle.std.proofs.Common.{fold, ◌||◌, ◌&&◌, cond}
 use Rattle.std.specs.Str.{IsUtf8}
@@ -8,7 +8,7 @@ use Rattle.std.proofs.lemmas.Str.{IsUtf8-append, IsUtf8-nil}
 use Rattle.std.proofs.lemmas.Grind.{fold-append}
 use Rattle.json.specs.Json as json
 use Rattle.json.specs.Lex.{tokens}
-use Rattle.json.specs.Print.{print, print_from, ends, token_text, ArePrintableOrBad}
+use Rattle.json.specs.Print.{print, print_from, ends, ArePrintableOrBad}
 use Rattle.json.specs.Tree.{json_tokens, items_tokens, members_tokens}
 use Rattle.json.proofs.Numbered.{ArePrintableOrBad-tokens}
 use Rattle.json.proofs.Printed.Tokens.{print_from-append, ends_push}

@@ -187,10 +187,7 @@ fn append_head(bytes: Vec<u8>, kept: &mut KeptMembers<'_>) -> Result<Vec<u8>, Ou
 }
 
 /// The texts of the pieces, with commas between them.
-fn append_pieces(
-    mut bytes: Vec<u8>,
-    texts: Vec<Option<Vec<u8>>>,
-) -> Result<Vec<u8>, OutOfMemory>
+fn append_pieces(mut bytes: Vec<u8>, texts: Vec<Option<Vec<u8>>>) -> Result<Vec<u8>, OutOfMemory>
     ensures text { IfOk result (λ b. b.items
         ≡ bytes.items ++ joined_by_commas false texts.items (λ text. text.items)) }
     ensures all { OnOk result (list_all is_some texts.items ≡ true) }

@@ -1,4 +1,4 @@
-use Rattle.city_doc.proofs.Prelude.{◌++◌, ◌∷◌, [], refl, sym, ap, ◌∙◌, key, object_points}
+use Rattle.city_doc.proofs.Prelude.{◌++◌, ◌∷◌, [], refl, ap, ◌∙◌, key, object_points}
 use Rattle.std.proofs.Common.{take, ◌-◌}
 use Rattle.city_doc.proofs.object.WrittenObjects.{object_written, take_first}
 use Rattle.city_doc.proofs.pool.Walks.{walk_first}

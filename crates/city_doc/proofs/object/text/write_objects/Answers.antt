@@ -1,5 +1,5 @@
 use Rattle.city_doc.proofs.Prelude.{◌≡◌, ◌∙◌, ap, entries, entries_ascend, with_points}
-use Rattle.std.proofs.Common.{take, length}
+use Rattle.std.proofs.Common.{take}
 use Rattle.std.specs.FinMap.{len-entries}
 use Rattle.std.proofs.Math.Seq.{take-length}
 use Rattle.city_doc.proofs.document.EntriesRead.{written_in_turn}
