@@ -26,8 +26,8 @@ use crate::threads::run_threads;
 use crate::watcher::{Watcher, watchers_of};
 use city_board::Viewer;
 use city_board::board::board;
-use city_desk::{Output, RunFault, output_bytes, read_texts_by};
-use city_doc::{FIXED_SEED, pieces_for};
+use city_desk::{Output, RunFault, output_bytes_by, read_texts_by};
+use city_doc::{FIXED_SEED, Pieces, pieces_for};
 use city_model::OutOfMemory;
 use city_model::city::City;
 use city_model::copied::Copied;
@@ -162,7 +162,8 @@ fn run<R: Threads + Wait + Sync, G: Gate + Sync, O: Origin + Send>(
     let shared = Shared::new(alloc, state, workers)?;
     let watchers = run_threads(rt, alloc, &shared, gate, workers, watchers)?;
     let finished = shared.into_turns().end()?;
-    let (output, city) = gather(rt, alloc, seed, finished, watchers, viewers, room)?;
+    let pieces = pieces_for(workers.saturating_add(viewers));
+    let (output, city) = gather(rt, alloc, seed, finished, watchers, viewers, room, pieces)?;
     Ok((output, city))
 }
 
@@ -218,7 +219,7 @@ fn new_shelf<'r, R: Wait>(
 }
 
 /// Shows what isn't shown yet, has each viewer look once more, and writes the report and the model.
-fn gather<S: Shelf, Q: Wait>(
+fn gather<S: Shelf, Q: Threads + Wait + Sync>(
     rt: &Q,
     alloc: Global,
     seed: u64,
@@ -226,6 +227,7 @@ fn gather<S: Shelf, Q: Wait>(
     watchers: Vec<Watcher>,
     viewers: usize,
     room: usize,
+    pieces: Pieces,
 ) -> Result<(Output, City), CrewFault>
     ensures ends { IfOk result (λ r. r.0.ends ≡ finished.ends) }
     ensures left { IfOk result (λ r. r.1 ≡ finished.city) }
@@ -241,7 +243,7 @@ fn gather<S: Shelf, Q: Wait>(
     } = finished;
     shelf.show(rt)?;
     let seen = last_looks(alloc, watchers, viewers, ends.as_slice())?;
-    let (bytes, report) = output_bytes(alloc, seed, &city, ends.as_slice(), room)?;
+    let (bytes, report) = output_bytes_by(rt, alloc, seed, &city, ends.as_slice(), room, pieces)?;
     let output = Output {
         ends,
         bytes,

@@ -1,9 +1,9 @@
-//! The verb `document`: a document read, at once and in pieces.
+//! The verb `document`: a document read and written, at once and in pieces.
 use crate::fault_lines::end_fault;
 use crate::pieces::{pieces_of, words_of};
 use crate::written::Written;
 use city_desk::RunFault;
-use city_doc::{ReadFault, read_city, read_city_by, write_city};
+use city_doc::{FIXED_SEED, ReadFault, append_city_by, read_city, read_city_by, write_city};
 use city_model::OutOfMemory;
 use city_model::city::City;
 use city_model::copied::Copied;
@@ -11,8 +11,8 @@ use city_model::is_lawful::is_lawful;
 use std::alloc::Global;
 use std::thread::Threads;
 
-/// Answers the canonical text of a document, or why it is refused. Then it is read in each of these pieces; the answer
-/// follows where it is another.
+/// Answers the canonical text of a document, or why it is refused. Then it is read, and its city written, in each of
+/// these pieces; the answer follows where it is another.
 pub fn play_document<T: Threads + Sync>(
     rt: &T,
     alloc: Global,
@@ -26,12 +26,35 @@ pub fn play_document<T: Threads + Sync>(
     for word in words_of(pieces, document).split_whitespace() {
         let mut now = Written::new(alloc);
         let city = read_city_by(rt, alloc, document, pieces_of(word));
+        if let Ok(city) = &city {
+            add_unlike(rt, alloc, word, city, answer);
+        }
         add_read(alloc, city, &mut now);
         if now.as_slice() != read.as_slice() {
             answer.add("in pieces: ");
             answer.add_line(word);
             answer.add_written(&now);
         }
+    }
+}
+
+/// Adds the text of a city that is written in such pieces, where it is another than at once.
+fn add_unlike<T: Threads + Sync>(
+    rt: &T,
+    alloc: Global,
+    word: &str,
+    city: &City,
+    answer: &mut Written,
+) {
+    let pieces = pieces_of(word);
+    let written = append_city_by(rt, alloc, FIXED_SEED, Vec::new(alloc), city, pieces);
+    let (Ok(text), Ok(written)) = (write_city(alloc, city), written) else {
+        return answer.run_out();
+    };
+    if text.as_slice() != written.as_slice() {
+        answer.add("written in pieces: ");
+        answer.add_line(word);
+        answer.add_lines(written.as_slice());
     }
 }
 
