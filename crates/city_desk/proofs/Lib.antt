@@ -1,2 +1,3 @@
+pub mod JsonOutputs
 pub mod Prelude
 pub mod TextFaults

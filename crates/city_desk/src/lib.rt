@@ -14,6 +14,6 @@ mod texts;
 
 pub use city_scheduler::{Desk, Finished, ListShelf, NullShelf, OpeningCity, Shelf, Turn};
 pub use fault::RunFault;
-pub use output::{Output, output_bytes};
+pub use output::{Output, output_bytes, output_bytes_by};
 pub use serial_run::{run_read, run_serial, run_serial_to_city};
 pub use texts::{read_texts, read_texts_by};

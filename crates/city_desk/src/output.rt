@@ -4,12 +4,13 @@ ghost use Rattle.city_doc.specs.Outputs.{IsJsonOutput};
 ghost use Rattle.city_doc.specs.document.Canonical.{city_text};
 ghost use Rattle.city_doc.specs.report.Reports.{report_text};
 
-use city_doc::{append_city, seeded_report};
+use city_doc::{Pieces, append_city, append_city_by, seeded_report, seeded_report_by};
 use city_model::OutOfMemory;
 use city_model::city::City;
 use city_model::end::End;
 use city_model::sequence::Sequence;
 use std::alloc::Global;
+use std::thread::Threads;
 
 /// What a run answers.
 #[derive(Drop)]
@@ -43,6 +44,28 @@ pub fn output_bytes(
     let length = report.len();
     let _ = report.reserve(room);
     let mut bytes = append_city(alloc, seed, report, city)?;
+    bytes.push(b'\n')?;
+    Ok((bytes, length))
+}
+
+/// The same bytes as by `output_bytes`, of which so many threads write pieces.
+pub fn output_bytes_by<R: Threads + Sync>(
+    rt: &R,
+    alloc: Global,
+    seed: u64,
+    city: &City,
+    ends: &[End],
+    room: usize,
+    pieces: Pieces,
+) -> Result<(Vec<u8>, usize), OutOfMemory>
+    ensures bytes { IfOk result (λ r. r.0.items ≡ report_text ends.now ++ city_text city.now ++ 10 ∷ []) }
+    ensures report { IfOk result (λ r. r.1 ≡ length (report_text ends.now)) }
+    ensures lines { IfOk result (λ r. IsJsonOutput r.1 r.0.items) }
+{
+    let mut report = seeded_report_by(rt, alloc, seed, ends, pieces)?;
+    let length = report.len();
+    let _ = report.reserve(room);
+    let mut bytes = append_city_by(rt, alloc, seed, report, city, pieces)?;
     bytes.push(b'\n')?;
     Ok((bytes, length))
 }
