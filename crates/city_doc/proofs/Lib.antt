@@ -1,5 +1,5 @@
+pub mod EachPiece
 mod FaultLists
 pub mod Laws
 pub mod OneValue
-pub mod EachPiece
 pub mod Prelude

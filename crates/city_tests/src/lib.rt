@@ -26,6 +26,8 @@ mod looks;
 #[cfg(test)]
 mod meeting;
 #[cfg(test)]
+mod pieces;
+#[cfg(test)]
 mod refused;
 #[cfg(test)]
 mod refusing;

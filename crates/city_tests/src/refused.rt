@@ -7,10 +7,14 @@ ghost use Rattle.std.specs.Prelude.{◌≡◌, IfSome};
 use crate::board::{commit_next, counted, opened_to_one, shown, turn};
 use crate::core_calls::is_done;
 use crate::replay::is_replayed;
-use crate::runs::{CHILD_OF_TWO, CUBE, ORPHAN, PLANNERS, Run, TWO_READERS, UNDELETED, opened};
+use crate::runs::{
+    CHILD_OF_TWO, CUBE, ORPHAN, PLANNERS, ROADS, Run, TWO_READERS, UNDELETED, opened,
+};
 use city_crew::{Note, OpenGate, Poster, Viewer, run_crew};
 use city_desk::{Desk, ListShelf, Output, RunFault, Shelf, output_bytes, run_serial};
-use city_doc::{FIXED_SEED, Pieces, ReadFault, read_city_by, write_city};
+use city_doc::{
+    FIXED_SEED, Pieces, ReadFault, append_city_by, read_city, read_city_by, write_city,
+};
 use city_locks::{LockTable, Mode};
 use city_model::city::City;
 use city_model::end::{End, Outcome};
@@ -259,12 +263,6 @@ fn a_run_of_two_workers_is_refused_or_leaves_a_serial_history(rt: HostRuntime) {
     assert!(&rt; is_serial_or_short(rt.alloc(), &TWO_READERS, ran));
 }
 
-/// Roads, and land of points that each piece of the text names.
-const ROADS: &str = model!(
-    r#"{"a":{"type":"Road"},"b":{"type":"Road"},"c":{"geometry":[{"boundaries":[[[0,1,2]]],"lod":"1","type":"MultiSurface"}],"type":"LandUse"},"d":{"type":"Road"},"e":{"attributes":{"n":[1]},"type":"Road"},"f":{"geometry":[{"boundaries":[[[2,3,0]]],"lod":"1","type":"MultiSurface"}],"type":"LandUse"}}"#,
-    "[[0,0,0],[1,0,0],[0,1,0],[0,0,1]]"
-);
-
 /// Whether a city has this text, which is written at the second try at the latest.
 fn is_written(alloc: Global, city: &City, text: &str) -> bool {
     let written = write_city(alloc, city).or(write_city(alloc, city));
@@ -284,4 +282,27 @@ fn is_read_or_short<R: Threads + Sync>(rt: &R, alloc: Global, document: &str) ->
 fn a_document_in_pieces_is_read_or_memory_ran_out(rt: HostRuntime) {
     let read = is_read_or_short(&rt, rt.alloc(), ROADS);
     assert!(&rt; read);
+}
+
+/// Whether a city that is written in pieces has this text, or memory ran out.
+fn is_written_or_short<R: Threads + Sync>(
+    rt: &R,
+    alloc: Global,
+    document: &str,
+    pieces: Pieces,
+) -> bool {
+    let Ok(city) = read_city(alloc, document.as_bytes()) else {
+        return true;
+    };
+    match append_city_by(rt, alloc, FIXED_SEED, Vec::new(alloc), &city, pieces) {
+        Ok(written) => written.as_slice() == document.as_bytes(),
+        Err(_) => true,
+    }
+}
+
+#[test]
+fn a_city_in_pieces_is_written_or_memory_ran_out(rt: HostRuntime) {
+    let pieces = Pieces { count: 3, least: 1 };
+    let written = is_written_or_short(&rt, rt.alloc(), ROADS, pieces);
+    assert!(&rt; written);
 }

@@ -102,3 +102,9 @@ pub const CUBE: Run = Run {
     ),
     scripts: r#"[{"name":"a","commands":[{"read":"c"},"commit"]}]"#,
 };
+
+/// Roads, and land of points that each piece of the text names.
+pub const ROADS: &str = model!(
+    r#"{"a":{"type":"Road"},"b":{"type":"Road"},"c":{"geometry":[{"boundaries":[[[0,1,2]]],"lod":"1","type":"MultiSurface"}],"type":"LandUse"},"d":{"type":"Road"},"e":{"attributes":{"n":[1]},"type":"Road"},"f":{"geometry":[{"boundaries":[[[2,3,0]]],"lod":"1","type":"MultiSurface"}],"type":"LandUse"}}"#,
+    "[[0,0,0],[1,0,0],[0,1,0],[0,0,1]]"
+);

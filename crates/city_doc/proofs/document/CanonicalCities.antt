@@ -1,5 +1,6 @@
 -- What holds of the canonical text of a city that was written.
-use Rattle.city_doc.proofs.Prelude.{◌≡◌, ◌≤◌, ap, depth, max_depth, print-outline, tree_of, IsTextOfCity, CityValue}
+use Rattle.city_doc.proofs.Prelude.{◌≡◌, ◌≤◌, ap, depth, max_depth, print-outline, tree_of}
+use Rattle.city_doc.proofs.Prelude.{IsTextOfCity, CityValue}
 use Rattle.city_doc.proofs.Prelude.{ReadsBack, IsKeptCity, IsInRange, pool_of, tokens_of}
 use Rattle.std.specs.Str.{IsUtf8}
 use Rattle.json.specs.Lex.{tokens}

@@ -1,7 +1,10 @@
 -- A city of which several workers wrote pieces.
-use Rattle.city_doc.proofs.Prelude.{◌≡◌, ℕ, List, [], ◌∷◌, ◌++◌, Option, true, false, is_some, list_all, refl, sym, ap, ◌∙◌, subst, append_assoc, entries}
-use Rattle.city_doc.proofs.Prelude.{entries_ascend, CityValue, Frame, Members, Point, pool_of, city_points, tree_of, tokens_of}
-use Rattle.city_doc.proofs.Prelude.{transform_data, vertices_data, AreOrdered, kept_at_top, kept_at_transform, members_from, IsInRange}
+use Rattle.city_doc.proofs.Prelude.{◌≡◌, ℕ, List, [], ◌∷◌, ◌++◌, Option, true, false, is_some, list_all, refl, sym, ap}
+use Rattle.city_doc.proofs.Prelude.{◌∙◌, subst, append_assoc, entries}
+use Rattle.city_doc.proofs.Prelude.{entries_ascend, CityValue, Frame, Members, Point, pool_of, city_points}
+use Rattle.city_doc.proofs.Prelude.{tree_of, tokens_of}
+use Rattle.city_doc.proofs.Prelude.{transform_data, vertices_data, AreOrdered, kept_at_top, kept_at_transform}
+use Rattle.city_doc.proofs.Prelude.{members_from, IsInRange}
 use Rattle.city_doc.proofs.Prelude.{MembersReadBack, ReadsBack, with_points, objects_data, end_object}
 use Rattle.std.proofs.Common.{codes, length, ◌<◌, ◌^◌}
 use Rattle.std.specs.Str.{IsUtf8}
@@ -40,7 +43,8 @@ all_pooled f len city os first pool points none added same all each =
 -- the objects as they are written
 pub objects_written : {A : Type 0} (f : A → List ℕ) (len : ℕ) (city : CityValue) (os : List (Option A)) (points : List Point)
     → points ≡ pool_of city → length points < 2 ^ 63 → list_all is_some os ≡ true
-    → EachPiece len (entries city.1) os (λ es a. IsWrittenIfKnown points es (f a)) → IsWritten points (entries city.1) (joined_by_commas false os f)
+    → EachPiece len (entries city.1) os (λ es a. IsWrittenIfKnown points es (f a))
+    → IsWritten points (entries city.1) (joined_by_commas false os f)
 objects_written f len city os points pooled small all each =
     let there : are_in points (entry_points (entries city.1)) ≡ true = rw pooled (points_in_pool (city_points city)) in
     let made = all_made (λ es a. IsWrittenIfKnown points es (f a)) len (entries city.1) os all each in

@@ -1,8 +1,12 @@
 -- Pieces of the objects of a city, written and put together.
-use Rattle.city_doc.proofs.Prelude.{◌≡◌, ℕ, Bool, true, false, List, [], ◌∷◌, ◌++◌, Option, Some, None, refl, sym, ap, ◌∙◌, subst}
-use Rattle.city_doc.proofs.Prelude.{append_assoc, drop, Token, key, begin_object, end_object, Entries, Point, are_kept_objects, and_parts}
-use Rattle.city_doc.proofs.Prelude.{list_all-append, tokens_of, tokens_of_members, MembersReadBack, with_points, keys_of}
-use Rattle.city_doc.proofs.Prelude.{nat_cmp, slice_cmp, entries, CityValue, tree_of, Members, members_before, members_from, Data}
+use Rattle.city_doc.proofs.Prelude.{◌≡◌, ℕ, Bool, true, false, List, [], ◌∷◌, ◌++◌, Option, Some, None, refl, sym, ap}
+use Rattle.city_doc.proofs.Prelude.{◌∙◌, subst}
+use Rattle.city_doc.proofs.Prelude.{append_assoc, drop, Token, key, begin_object, end_object, Entries, Point}
+use Rattle.city_doc.proofs.Prelude.{are_kept_objects, and_parts}
+use Rattle.city_doc.proofs.Prelude.{list_all-append, tokens_of, tokens_of_members, MembersReadBack, with_points}
+use Rattle.city_doc.proofs.Prelude.{keys_of}
+use Rattle.city_doc.proofs.Prelude.{nat_cmp, slice_cmp, entries, CityValue, tree_of, Members, members_before}
+use Rattle.city_doc.proofs.Prelude.{members_from, Data}
 use Rattle.city_doc.proofs.Prelude.{objects_data, closing_members, Frame, ReadsBack, transform_data}
 use Rattle.city_doc.proofs.Prelude.{vertices_data}
 use Rattle.std.proofs.Common.{length, ◌<◌, ◌^◌, take, ◌||◌, ◌&&◌, cond, codes, suc, zero, ◌-◌}
@@ -25,7 +29,8 @@ use Rattle.city_doc.proofs.document.PutMembers.{IsPut, put_written, put_reads}
 use Rattle.city_doc.proofs.tree.Among.{string_reads}
 use Rattle.city_doc.proofs.pool.NumberedPoints.{are_in}
 use Rattle.city_doc.proofs.pool.PointsAgain.{points_known, points_parted}
-use Rattle.city_doc.proofs.tree.Appended.{after, printed, members_after, utf8_comma, printable-append, printed-append, after_begin}
+use Rattle.city_doc.proofs.tree.Appended.{after, printed, members_after, utf8_comma, printable-append, printed-append}
+use Rattle.city_doc.proofs.tree.Appended.{after_begin}
 use Rattle.city_doc.proofs.tree.Appended.{before_end, members-closed}
 
 module _ (pool : List Point) where

@@ -1,5 +1,6 @@
 -- Objects that are written one after the other, each with the points that it adds to a pool.
-use Rattle.city_doc.proofs.Prelude.{◌≡◌, ap, ℕ, suc, zero, ◌<◌, arith, List, ◌∷◌, ◌++◌, Less, nat_cmp, ◌∙◌, append_assoc, [], slice_cmp}
+use Rattle.city_doc.proofs.Prelude.{◌≡◌, ap, ℕ, suc, zero, ◌<◌, arith, List, ◌∷◌, ◌++◌, Less, nat_cmp, ◌∙◌}
+use Rattle.city_doc.proofs.Prelude.{append_assoc, [], slice_cmp}
 use Rattle.city_doc.proofs.Prelude.{AllByRecursion, keys_of, Token, key, Entries, AllAbove, AreOrdered, Object, Point}
 use Rattle.city_doc.proofs.Prelude.{object_data, object_points, with_points, tokens_of, tokens_of_members}
 use Rattle.std.specs.List.Sorted.{IsStrictlySortedBy}

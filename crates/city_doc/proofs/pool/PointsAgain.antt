@@ -1,6 +1,8 @@
 -- Points that are added piece by piece, those of each piece once.
-use Rattle.city_doc.proofs.Prelude.{◌≡◌, ℕ, Bool, true, not, List, [], ◌∷◌, ◌++◌, Option, Some, None, refl, sym, ap, ◌∙◌, arith, drop}
-use Rattle.city_doc.proofs.Prelude.{filter, and_parts, Entries, Point, same_point, without_repeats, with_points}
+use Rattle.city_doc.proofs.Prelude.{◌≡◌, ℕ, Bool, true, not, List, [], ◌∷◌, ◌++◌, Option, Some, None, refl, sym, ap}
+use Rattle.city_doc.proofs.Prelude.{◌∙◌, arith, drop}
+use Rattle.city_doc.proofs.Prelude.{filter, and_parts, Entries, Point, same_point, without_repeats}
+use Rattle.city_doc.proofs.Prelude.{with_points}
 use Rattle.city_doc.proofs.Prelude.{object_points}
 use Rattle.std.proofs.Common.{take}
 use Rattle.std.proofs.lemmas.Grind.{flat_map-append}

@@ -1,5 +1,6 @@
 -- Reports of pieces of the ends, one after the other.
-use Rattle.city_doc.proofs.Prelude.{◌≡◌, ℕ, List, [], ◌∷◌, ◌++◌, Option, Some, None, refl, sym, ap, ◌∙◌, subst, append_assoc, drop}
+use Rattle.city_doc.proofs.Prelude.{◌≡◌, ℕ, List, [], ◌∷◌, ◌++◌, Option, Some, None, refl, sym, ap, ◌∙◌, subst}
+use Rattle.city_doc.proofs.Prelude.{append_assoc, drop}
 use Rattle.city_doc.proofs.Prelude.{AllByRecursion}
 use Rattle.std.proofs.Common.{take}
 use Rattle.std.proofs.lemmas.Grind.{flat_map-append}

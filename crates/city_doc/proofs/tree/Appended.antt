@@ -1,6 +1,8 @@
 -- Texts of tokens, put together.
-use Rattle.city_doc.proofs.Prelude.{◌≡◌, ℕ, Bool, true, false, List, [], ◌∷◌, ◌++◌, refl, sym, ap, ◌∙◌, subst, Token, Members}
-use Rattle.city_doc.proofs.Prelude.{no_members, member, tokens_of, tokens_of_members, end_object, begin_object, append_assoc}
+use Rattle.city_doc.proofs.Prelude.{◌≡◌, ℕ, Bool, true, false, List, [], ◌∷◌, ◌++◌, refl, sym, ap, ◌∙◌, subst, Token}
+use Rattle.city_doc.proofs.Prelude.{Members}
+use Rattle.city_doc.proofs.Prelude.{no_members, member, tokens_of, tokens_of_members, end_object}
+use Rattle.city_doc.proofs.Prelude.{begin_object, append_assoc}
 use Rattle.city_doc.proofs.Prelude.{closing_members, object}
 use Rattle.std.proofs.Common.{fold, ◌||◌, ◌&&◌, cond}
 use Rattle.std.specs.Str.{IsUtf8}

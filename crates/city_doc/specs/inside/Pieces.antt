@@ -1,5 +1,6 @@
 -- Lists that several workers take in pieces.
-use Rattle.std.specs.Prelude.{◌≡◌, ◌++◌, ◌∷◌, [], ◌||◌, ◌&&◌, ℕ, List, Bool, true, false, cond, Option, Some, None, IfSome, take, drop}
+use Rattle.std.specs.Prelude.{◌≡◌, ◌++◌, ◌∷◌, [], ◌||◌, ◌&&◌, ℕ, List, Bool, true, false, cond, Option, Some, None}
+use Rattle.std.specs.Prelude.{IfSome, take, drop}
 
 -- what is made of each piece is there, and the pieces are all that there is
 abbrev pub EachPiece : {X A : Type 0} → ℕ → List X → List (Option A) → (List X → A → Type 0) → Type 0

@@ -1,5 +1,6 @@
 //! Writes a city of which several workers write pieces.
-ghost use Rattle.std.specs.Prelude.{◌≡◌, ◌++◌, ◌∷◌, [], ◌*◌, ◌<◌, ◌^◌, IfOk, IfSome, OnOk, codes, drop, false, is_some, take, true};
+ghost use Rattle.std.specs.Prelude.{◌≡◌, ◌++◌, ◌∷◌, [], ◌*◌, ◌<◌, ◌^◌, IfOk, IfSome, OnOk};
+ghost use Rattle.std.specs.Prelude.{codes, drop, false, is_some, take, true};
 ghost use Rattle.std.specs.Fork.{slice_chunk};
 ghost use Rattle.std.specs.FinMap.{entries};
 ghost use Rattle.std.specs.List.{IsDistinct, list_all};

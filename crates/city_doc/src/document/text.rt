@@ -43,7 +43,7 @@ fn write_transform(frame: &Frame, out: &mut Writer) -> Result<(), OutOfMemory>
     kept.write_last(out)
 }
 
-/// Writes the members of a city behind its objects, and the brace that closes it. The kept ones before them are written.
+/// Writes the members of a city behind its objects, and the brace that closes it.
 pub fn write_rest(
     frame: &Frame,
     kept: &mut KeptMembers<'_>,

@@ -1,4 +1,5 @@
-use Rattle.city_doc.proofs.Prelude.{◌≡◌, ◌<◌, List, ◌++◌, length, Point, are_kept_objects, with_points, tokens_of_members}
+use Rattle.city_doc.proofs.Prelude.{◌≡◌, ◌<◌, List, ◌++◌, length, Point, are_kept_objects, with_points}
+use Rattle.city_doc.proofs.Prelude.{tokens_of_members}
 use Rattle.city_doc.proofs.Prelude.{MembersReadBack}
 use Rattle.std.proofs.Common.{◌^◌, take}
 use Rattle.city_doc.specs.inside.object.InTurn.{in_turn, entry_points}

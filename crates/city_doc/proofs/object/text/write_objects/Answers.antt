@@ -14,7 +14,8 @@ returns c =
     let all = entries c.args.city.now.1 in
     let ascend = entries_ascend c.args.city.now.1 in
     let whole : take c.len.result c.iter.result ≡ all =
-    ap (λ es. take c.len.result es) c.iter.ensures ∙ ap (λ n. take n all) (c.len.ensures ∙ len-entries c.args.city.now.1) ∙ take-length all in
+    ap (λ es. take c.len.result es) c.iter.ensures
+    ∙ ap (λ n. take n all) (c.len.ensures ∙ len-entries c.args.city.now.1) ∙ take-length all in
     let done = rw whole at c.in_ok-write_first.ensures in
     record {
       pool = on_ok c.end_object.result c.end_object.ensures.ok (λ e. done.pool);

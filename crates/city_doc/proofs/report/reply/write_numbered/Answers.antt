@@ -14,5 +14,11 @@ returns-clause-tokens c =
     let put : IsPut no_members own (found_data o) =
     record { is = ap (λ ps. numbered_object ps o) (sym pooled); ordered = tt; apart = search rules } in
     on_ok c.end_object.result c.end_object.ensures.ok (λ e.
-    rw (e, c.in_ok-write_vertices.ensures.tokens, c.as_slice.ensures, c.in_ok-key-2.ensures.ok, c.in_ok-write_object.ensures.tokens [])
+    rw (
+      e,
+      c.in_ok-write_vertices.ensures.tokens,
+      c.as_slice.ensures,
+      c.in_ok-key-2.ensures.ok,
+      c.in_ok-write_object.ensures.tokens [],
+    )
     (rw (c.in_ok-key.ensures.ok, c.in_ok-begin_object.ensures.ok) (put_written 0 _ put)))
