@@ -26,8 +26,6 @@ mod looks;
 #[cfg(test)]
 mod meeting;
 #[cfg(test)]
-mod pieces;
-#[cfg(test)]
 mod refused;
 #[cfg(test)]
 mod refusing;
