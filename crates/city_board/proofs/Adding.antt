@@ -5,7 +5,7 @@ use Rattle.std.proofs.Common.{◌+◌, ◌==◌}
 use Rattle.std.proofs.lemmas.Bool.Decides.{nat_tests}
 use prog.Atomic.{either}
 use Rattle.logbook.specs.Pages.{no_nib, step, Moves, Goes}
-use Rattle.city_board.specs.inside.HistoryRule.{HasLength, Adds}
+use Rattle.city_board.specs.internal.HistoryRule.{HasLength, Adds}
 use Rattle.city_board.proofs.Prefixes.{prefix_whole}
 
 abbrev pub hidden : List Change → List Change

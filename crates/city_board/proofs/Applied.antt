@@ -3,7 +3,7 @@ use Rattle.city_board.proofs.Prelude.{◌≡◌, ℕ, List, [], ◌∷◌, false
 use Rattle.city_board.proofs.Prelude.{object_at, changed, has_id, Change, after_change, changed_apart, changed_there}
 use Rattle.city_board.proofs.Prelude.{same_id_back, same_map, at_after}
 use Rattle.city_model.proofs.Objects.{same_objects}
-use Rattle.city_board.specs.inside.Versions.{city_with}
+use Rattle.city_board.specs.internal.Versions.{city_with}
 
 -- writes give the same where maps differ at written ids alone
 same_after : (c : Change) (m n : CityMap) (q : List ℕ) → (has_id (keys_of c) q ≡ false → m q ≡ n q)

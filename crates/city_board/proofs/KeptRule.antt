@@ -5,7 +5,7 @@ use mathlib.Core.Option.{some}
 use lib.ListN.{get_elem?}
 use Rattle.left_right.specs.Register.{Admits, Turns, TurnsAt, Forks, Merges}
 use Rattle.atomic_table.proofs.Lists.{at_set, at_snoc}
-use Rattle.city_board.specs.inside.BoardRule.{MeetsRule, Sees, newcomer}
+use Rattle.city_board.specs.internal.BoardRule.{MeetsRule, Sees, newcomer}
 use Rattle.city_board.proofs.LaterVersions.{no_older_itself, no_older_on}
 
 newcomer_alone : (seat : ℕ) (k : Known) → get_elem? (newcomer ∷ []) seat ≡ some k → k.met ≡ true → ⊥

@@ -2,8 +2,8 @@
 use Rattle.city_board.proofs.Prelude.{◌≡◌, List, [], ◌∷◌, ◌++◌, fold, refl, arith, CityValue, object_at, IsLawful}
 use Rattle.city_board.proofs.Prelude.{at_after, shown_more, IsLater, known_from, HistoryValue, edited, IsFaithful}
 use Rattle.city_board.proofs.Prelude.{IsNextEdit, Known, Edit, Version}
-use Rattle.city_board.specs.inside.BoardRule.{IsNoOlder}
-use Rattle.city_board.specs.inside.Versions.{LeadTo}
+use Rattle.city_board.specs.internal.BoardRule.{IsNoOlder}
+use Rattle.city_board.specs.internal.Versions.{LeadTo}
 use Rattle.city_board.proofs.Prefixes.{prefix_self, prefix_trans}
 
 -- ---- no older

@@ -18,5 +18,5 @@ pub use Rattle.city_board.specs.HistoryValue.{HistoryValue, history_of}
 pub use Rattle.city_board.specs.declared.rule.Known.{Known}
 pub use Rattle.city_board.specs.declared.version.Edit.{Edit}
 pub use Rattle.city_board.specs.declared.version.Version.{Version}
-pub use Rattle.city_board.specs.inside.BoardRule.{HoldsEdits, IsLater, known_from}
-pub use Rattle.city_board.specs.inside.Versions.{IsFaithful, IsNextEdit, edited}
+pub use Rattle.city_board.specs.internal.BoardRule.{HoldsEdits, IsLater, known_from}
+pub use Rattle.city_board.specs.internal.Versions.{IsFaithful, IsNextEdit, edited}

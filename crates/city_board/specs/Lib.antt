@@ -1,4 +1,4 @@
 pub mod BoardValues
 pub mod HistoryValue
 pub mod Limits
-pub mod inside
+pub mod internal

@@ -3,7 +3,7 @@ ghost use Rattle.std.specs.Prelude.{◌≡◌, ℕ, List, true, is_some, MatchRe
 ghost use Rattle.std.specs.Map.{keys_of};
 ghost use Rattle.city_model.specs.CityMap.{object_at, changed, has_id};
 ghost use Rattle.city_model.specs.Runs.{after_change};
-ghost use Rattle.city_board.specs.inside.Versions.{city_with};
+ghost use Rattle.city_board.specs.internal.Versions.{city_with};
 
 use crate::places::make_places;
 use city_model::change::Change;

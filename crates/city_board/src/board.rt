@@ -3,7 +3,7 @@ ghost use Rattle.std.specs.Prelude.{◌≡◌, ◌<◌, ◌≤◌, [], All, IfOk
 ghost use Rattle.left_right.specs.Sides.{view};
 ghost use Rattle.city_model.specs.CityMap.{object_at};
 ghost use Rattle.city_model.specs.Relations.{IsLawful};
-ghost use Rattle.city_board.specs.inside.BoardRule.{known_from};
+ghost use Rattle.city_board.specs.internal.BoardRule.{known_from};
 ghost use Rattle.city_board.specs.BoardValues.{new_poster, viewer_of};
 ghost use Rattle.city_board.specs.Limits.{max_viewers};
 

@@ -13,7 +13,7 @@ pub struct HistoryRule;
 impl Rule<Change, u64> for HistoryRule {
     ghost use Rattle.std.specs.Prelude.{[]};
     ghost use base.Fml.{ftrue};
-    ghost use Rattle.city_board.specs.inside.HistoryRule.{HasLength};
+    ghost use Rattle.city_board.specs.internal.HistoryRule.{HasLength};
 
     ghost holds = { λ cells changes. HasLength cells changes };
 
@@ -41,7 +41,7 @@ impl Gain<Change, u64> for NoGain {
 pub struct AddsChange;
 
 impl Play<Change, u64> for AddsChange {
-    ghost use Rattle.city_board.specs.inside.HistoryRule.{Adds};
+    ghost use Rattle.city_board.specs.internal.HistoryRule.{Adds};
 
     ghost then = { Adds };
 }
@@ -63,7 +63,7 @@ pub struct Head {
 impl Model for Head {
     ghost use Rattle.std.specs.Prelude.{◌≡◌};
     ghost use Rattle.logbook.specs.Pages.{Book};
-    ghost use Rattle.city_board.specs.inside.HistoryRule.{head_of};
+    ghost use Rattle.city_board.specs.internal.HistoryRule.{head_of};
 
     ghost Value = { Book };
 
@@ -82,7 +82,7 @@ pub struct History {
 impl Model for History {
     ghost use Rattle.std.specs.Prelude.{◌≡◌, length};
     ghost use Rattle.std.specs.Coded.{codes};
-    ghost use Rattle.city_model.specs.inside.DataCode.{coded_members};
+    ghost use Rattle.city_model.specs.internal.DataCode.{coded_members};
     ghost use Rattle.city_board.specs.HistoryValue.{HistoryValue, history_of};
 
     ghost Value = { HistoryValue };
@@ -161,7 +161,7 @@ pub struct Addition {
 impl Model for Addition {
     ghost use Rattle.std.specs.Prelude.{◌≡◌, [], ◌∷◌, ◌++◌, length, None};
     ghost use Rattle.std.specs.Coded.{codes};
-    ghost use Rattle.city_model.specs.inside.DataCode.{coded_members};
+    ghost use Rattle.city_model.specs.internal.DataCode.{coded_members};
     ghost use Rattle.city_board.specs.HistoryValue.{HistoryValue, history_of};
 
     ghost Value = { HistoryValue };

@@ -22,11 +22,11 @@ impl Model for Look {
     ghost use Rattle.std.specs.Prelude.{◌≡◌};
     ghost use Rattle.std.specs.Coded.{codes};
     ghost use Rattle.left_right.specs.Sides.{view as view_of};
-    ghost use Rattle.city_model.specs.inside.DataCode.{coded_members};
-    ghost use Rattle.city_txn.specs.inside.Codes.{coded_objects};
-    ghost use Rattle.city_board.specs.inside.BoardRule.{known_from};
+    ghost use Rattle.city_model.specs.internal.DataCode.{coded_members};
+    ghost use Rattle.city_txn.specs.internal.Codes.{coded_objects};
+    ghost use Rattle.city_board.specs.internal.BoardRule.{known_from};
     ghost use Rattle.city_board.specs.BoardValues.{ViewerValue};
-    ghost use Rattle.city_board.specs.inside.Versions.{IsFaithful};
+    ghost use Rattle.city_board.specs.internal.Versions.{IsFaithful};
 
     ghost Value = { ViewerValue };
 
@@ -39,9 +39,9 @@ impl Model for Look {
 
 impl Look {
     ghost use Rattle.left_right.specs.Sides.{view as view_of};
-    ghost use Rattle.city_board.specs.inside.BoardRule.{known_from};
+    ghost use Rattle.city_board.specs.internal.BoardRule.{known_from};
     ghost use Rattle.city_board.specs.BoardValues.{viewer_of};
-    ghost use Rattle.city_board.specs.inside.Versions.{IsFaithful};
+    ghost use Rattle.city_board.specs.internal.Versions.{IsFaithful};
 
     /// A look at the version that is read, whose changes these are. Doesn't allocate.
     pub(crate) fn new(reading: BoardReading, seen: History) -> Look

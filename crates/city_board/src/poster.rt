@@ -5,7 +5,7 @@ ghost use Rattle.left_right.specs.Sides.{view};
 ghost use Rattle.city_model.specs.CityMap.{object_at};
 ghost use Rattle.city_model.specs.Relations.{IsLawful};
 ghost use Rattle.city_model.specs.Runs.{after_changes};
-ghost use Rattle.city_board.specs.inside.BoardRule.{HoldsEdits};
+ghost use Rattle.city_board.specs.internal.BoardRule.{HoldsEdits};
 ghost use Rattle.city_board.specs.HistoryValue.{history_of};
 
 use crate::history::{Head, History};
@@ -42,10 +42,10 @@ impl<R: Wait + Drop> Model for Poster<R> {
     ghost use Rattle.std.specs.Prelude.{◌≡◌, ◌++◌, drop, IfSome};
     ghost use mathlib.Core.List.{IsPrefix};
     ghost use Rattle.std.specs.Coded.{codes};
-    ghost use Rattle.city_model.specs.inside.DataCode.{coded_members};
-    ghost use Rattle.city_txn.specs.inside.Codes.{coded_objects};
+    ghost use Rattle.city_model.specs.internal.DataCode.{coded_members};
+    ghost use Rattle.city_txn.specs.internal.Codes.{coded_objects};
     ghost use Rattle.left_right.specs.Sides.{view as view_of};
-    ghost use Rattle.city_board.specs.inside.BoardRule.{HoldsEdits};
+    ghost use Rattle.city_board.specs.internal.BoardRule.{HoldsEdits};
     ghost use Rattle.city_board.specs.BoardValues.{PosterValue};
 
     ghost Value = { PosterValue };

@@ -17,7 +17,7 @@ pub struct Known {
 pub struct BoardRule;
 
 impl Protocol<Version, Known> for BoardRule {
-    ghost use Rattle.city_board.specs.inside.BoardRule.{MeetsRule, newcomer};
+    ghost use Rattle.city_board.specs.internal.BoardRule.{MeetsRule, newcomer};
 
     ghost holds = { MeetsRule };
 
@@ -28,7 +28,7 @@ impl Protocol<Version, Known> for BoardRule {
 pub struct SeesVersion;
 
 impl Outcome<Version, Known> for SeesVersion {
-    ghost use Rattle.city_board.specs.inside.BoardRule.{Sees};
+    ghost use Rattle.city_board.specs.internal.BoardRule.{Sees};
 
     ghost then = { Sees };
 }
@@ -46,7 +46,7 @@ impl Split<Known> for TellsAll {
 pub struct BelievesAll;
 
 impl Join<Known> for BelievesAll {
-    ghost use Rattle.city_board.specs.inside.BoardRule.{newcomer};
+    ghost use Rattle.city_board.specs.internal.BoardRule.{newcomer};
 
     ghost both = { λ known told. told };
 

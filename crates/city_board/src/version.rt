@@ -28,7 +28,7 @@ pub struct Edit {
 impl Absorb<Edit> for Version {
     type State = Version;
 
-    ghost use Rattle.city_board.specs.inside.Versions.{edited};
+    ghost use Rattle.city_board.specs.internal.Versions.{edited};
 
     ghost state = { λ version. version };
 

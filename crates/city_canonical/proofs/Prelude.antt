@@ -32,7 +32,7 @@ pub use Rattle.city_doc.specs.Pool.{geometry_points, object_points, pool_of, sha
 pub use Rattle.city_doc.specs.document.Canonical.{transform_data, tree_of}
 pub use Rattle.city_doc.specs.document.Faults.{DocumentFault}
 pub use Rattle.city_doc.specs.document.Ranges.{IsInRange}
-pub use Rattle.city_doc.specs.inside.tree.PartTokens.{listed}
+pub use Rattle.city_doc.specs.internal.tree.PartTokens.{listed}
 pub use Rattle.city_doc.specs.object.Canonical.{object_data}
 pub use Rattle.city_doc.specs.shape.Canonical.{boundaries_data}
 pub use Rattle.city_doc.specs.shape.Vertices.{vertex_data}

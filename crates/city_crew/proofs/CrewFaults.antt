@@ -3,7 +3,7 @@ use Rattle.city_crew.proofs.Prelude.{arith, ◌≡◌, ℕ, List}
 use Rattle.city_desk.specs.declared.fault.RunFault.{RunFault}
 use Rattle.city_desk.specs.RunFaults.{IsRunFault}
 use Rattle.city_crew.specs.declared.fault.CrewFault.{CrewFault}
-use Rattle.city_crew.specs.inside.CrewFaults.{fault_of_crew}
+use Rattle.city_crew.specs.internal.CrewFaults.{fault_of_crew}
 
 pub crew_refused : (document scripts : List ℕ) (f : CrewFault) (r : RunFault) → r ≡ fault_of_crew f
     → IsRunFault document scripts r

@@ -13,9 +13,9 @@ use Rattle.city_crew.specs.contracts.crew_shelf.CrewShelf as CrewShelf
 use Rattle.city_crew.specs.declared.origin.Origin as Origins
 use Rattle.city_crew.specs.contracts.state.State as State
 use Rattle.city_crew.specs.contracts.state.State.TheInside as StateInside
-use Rattle.city_crew.specs.contracts.watcher.Watcher as Watcher
+use Rattle.city_crew.specs.contracts.viewer_thread.ViewerThread as ViewerThread
 
-pub watcher_sends : IsSend Watcher.the_row
+pub watcher_sends : IsSend ViewerThread.the_row
 watcher_sends = search (viewer_sends, values.crosses, sendable) depth 60 fits 20000
 
 shelf_sends : (R : RattleType) → IsSend R → IsSend (CrewShelf.the_row R)

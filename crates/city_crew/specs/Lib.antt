@@ -1,4 +1,4 @@
 pub mod Limits
 pub mod Rising
 pub mod Seen
-pub mod inside
+pub mod internal

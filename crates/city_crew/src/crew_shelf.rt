@@ -18,7 +18,7 @@ impl<R: Wait + Drop> Shelf for CrewShelf<R> {
     type Note = ();
 
     ghost use Rattle.std.specs.Prelude.{[]};
-    ghost use Rattle.city_crew.specs.inside.CrewShelves.{taken_by, base_of, published_by};
+    ghost use Rattle.city_crew.specs.internal.CrewShelves.{taken_by, base_of, published_by};
 
     ghost list = { taken_by };
 

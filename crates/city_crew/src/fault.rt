@@ -29,7 +29,7 @@ impl From<OutOfMemory> for CrewFault {
 
 impl From<BoardFault> for CrewFault {
     ghost use Rattle.std.specs.Prelude.{◌≡◌};
-    ghost use Rattle.city_crew.specs.inside.CrewFaults.{fault_of_board};
+    ghost use Rattle.city_crew.specs.internal.CrewFaults.{fault_of_board};
 
     ghost from_gives = { λ f r. r ≡ fault_of_board f };
 
@@ -43,7 +43,7 @@ impl From<BoardFault> for CrewFault {
 
 impl From<CrewFault> for RunFault {
     ghost use Rattle.std.specs.Prelude.{◌≡◌};
-    ghost use Rattle.city_crew.specs.inside.CrewFaults.{fault_of_crew};
+    ghost use Rattle.city_crew.specs.internal.CrewFaults.{fault_of_crew};
 
     ghost from_gives = { λ f r. r ≡ fault_of_crew f };
 

@@ -4,7 +4,7 @@ ghost use Rattle.city_model.specs.SerialEnds.{commits_in};
 ghost use Rattle.city_crew.specs.Seen.{AreSeen};
 
 use crate::fault::CrewFault;
-use crate::watcher::Watcher;
+use crate::viewer_thread::ViewerThread;
 use city_model::end::{End, Outcome};
 use std::alloc::Global;
 
@@ -13,7 +13,7 @@ use std::alloc::Global;
 /// It answers `Mixed` if a watcher is missing, or if one saw fewer changes at last than there were commits, or more.
 pub fn last_looks(
     alloc: Global,
-    watchers: Vec<Watcher>,
+    watchers: Vec<ViewerThread>,
     count: usize,
     ends: &[End],
 ) -> Result<Vec<Vec<u64>>, CrewFault>
@@ -23,7 +23,7 @@ pub fn last_looks(
     let mut seen = Vec::new(alloc);
     for watcher in watchers {
         let (watcher, _) = watcher.look_once();
-        let Watcher {
+        let ViewerThread {
             number: _,
             viewer: _viewer,
             counts,

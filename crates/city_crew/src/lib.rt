@@ -2,15 +2,15 @@
 //!
 //! - `run`: the run; `fault`: why it may have no output; `gate`: where a caller may hold its workers and viewers
 //! - `state`, `origin`: what lies under the lock, and the type that says what its run began with
-//! - `shared`, `work`, `ages`, `sleepers`, `threads`: what the workers share, what a worker does, whose script is
+//! - `shared`, `work`, `begin_order`, `sleepers`, `threads`: what the workers share, what a worker does, whose script is
 //!   oldest, who sleeps, the threads
-//! - `watcher`, `last_looks`: viewers in a run, and what they saw
+//! - `viewer_thread`, `last_looks`: viewers in a run, and what they saw
 //! - `crew_shelf`: the shelf of a run
 //!
 //! The board that viewers look at is that of city_board.
 #![tactic(auto)]
 
-mod ages;
+mod begin_order;
 mod crew_shelf;
 mod fault;
 mod gate;
@@ -21,7 +21,7 @@ mod shared;
 mod sleepers;
 mod state;
 mod threads;
-mod watcher;
+mod viewer_thread;
 mod work;
 
 pub use city_board::{Look, MAX_VIEWERS, Note, Poster, Viewer, board};

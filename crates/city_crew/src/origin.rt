@@ -14,7 +14,7 @@ pub trait Origin {
 
 impl Origin for Brand {
     ghost use Rattle.std.specs.Prelude.{[]};
-    ghost use Rattle.city_scheduler.specs.inside.NoCity.{no_city};
+    ghost use Rattle.city_scheduler.specs.internal.NoCity.{no_city};
 
     ghost city = { no_city };
 

@@ -9,11 +9,11 @@ ghost use Rattle.city_doc.specs.report.Reports.{report_text};
 ghost use Rattle.city_desk.specs.RunFaults.{IsRunFault};
 ghost use Rattle.city_desk.specs.TextRuns.{IsRun};
 ghost use Rattle.city_desk.specs.TextRuns.{IsReadFrom};
-ghost use Rattle.city_crew.specs.inside.CrewShelves.{taken_by, base_of};
+ghost use Rattle.city_crew.specs.internal.CrewShelves.{taken_by, base_of};
 ghost use Rattle.city_crew.specs.Limits.{max_workers, max_viewers};
 ghost use Rattle.city_crew.specs.Seen.{AreSeen};
 
-use crate::ages::Ages;
+use crate::begin_order::BeginOrder;
 use crate::crew_shelf::CrewShelf;
 use crate::fault::CrewFault;
 use crate::gate::Gate;
@@ -23,7 +23,7 @@ use crate::shared::Shared;
 use crate::sleepers::Sleepers;
 use crate::state::State;
 use crate::threads::run_threads;
-use crate::watcher::{Watcher, watchers_of};
+use crate::viewer_thread::{ViewerThread, watchers_of};
 use city_board::Viewer;
 use city_board::board::board;
 use city_desk::{Output, RunFault, output_bytes_by, read_texts_by};
@@ -181,7 +181,7 @@ fn open<'r, R: Wait, O: Origin>(
     requires scripts { scripts ≡ O.scripts }
     requires viewers { viewers ≤ max_viewers }
 {
-    let ages = Ages::new(alloc, workers)?;
+    let ages = BeginOrder::new(alloc, workers)?;
     let sleepers = Sleepers::new(alloc, workers)?;
     let lengths = lengths_of(alloc, scripts.as_slice())?;
     let (shelf, seated) = new_shelf(rt, alloc, &city, viewers)?;
@@ -224,7 +224,7 @@ fn gather<S: Shelf, Q: Threads + Wait + Sync>(
     alloc: Global,
     seed: u64,
     finished: Finished<S>,
-    watchers: Vec<Watcher>,
+    watchers: Vec<ViewerThread>,
     viewers: usize,
     room: usize,
     pieces: Pieces,

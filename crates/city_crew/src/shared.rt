@@ -9,7 +9,7 @@ use std::sync::{Condvar, Mutex};
 pub struct Shared<T: Turns> {
     pub turns: Mutex<T>,
     /// Notified where turns ended a script or killed it, once for all that were made under one lock.
-    pub moved: Condvar,
+    pub woken: Condvar,
     /// Where each worker sleeps until its script is the oldest.
     beds: Vec<Condvar>,
 }
@@ -23,7 +23,7 @@ impl<T: Turns> Shared<T> {
         }
         Ok(Shared {
             turns: Mutex::new(turns),
-            moved: Condvar::new(),
+            woken: Condvar::new(),
             beds,
         })
     }
@@ -32,7 +32,7 @@ impl<T: Turns> Shared<T> {
     pub fn into_turns(self) -> T {
         let Shared {
             turns,
-            moved: _moved,
+            woken: _woken,
             beds: _beds,
         } = self;
         turns.into_inner()
@@ -40,12 +40,12 @@ impl<T: Turns> Shared<T> {
 
     /// Where a worker sleeps until its script is the oldest.
     pub fn bed(&self, worker: usize) -> &Condvar {
-        self.beds.get(worker).unwrap_or(&self.moved)
+        self.beds.get(worker).unwrap_or(&self.woken)
     }
 
     /// Wakes those that wait for a move, and this worker.
     pub fn wake(&self, worker: Option<usize>) {
-        self.moved.notify_all();
+        self.woken.notify_all();
         if let Some(worker) = worker {
             self.bed(worker).notify_all();
         }

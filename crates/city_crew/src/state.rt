@@ -1,10 +1,10 @@
 //! What lies under the lock of a run.
 ghost use Rattle.std.specs.Prelude.{◌≡◌, IfOk, IfErr};
-ghost use Rattle.city_crew.specs.inside.CrewFaults.{HaveEnded};
-ghost use Rattle.city_crew.specs.inside.CrewRuns.{IsResult};
+ghost use Rattle.city_crew.specs.internal.CrewFaults.{HaveEnded};
+ghost use Rattle.city_crew.specs.internal.CrewRuns.{IsResult};
 ghost use Rattle.city_crew.specs.declared.fault.CrewFault.{CrewFault};
 
-use crate::ages::Ages;
+use crate::begin_order::BeginOrder;
 use crate::crew_shelf::CrewShelf;
 use crate::fault::CrewFault;
 use crate::origin::Origin;
@@ -26,8 +26,8 @@ const SHORT: usize = 64;
 pub struct State<R: Wait + Drop, O: Origin> {
     desk: Desk<CrewShelf<R>>,
     /// How many turns ended a script or killed it.
-    moves: u64,
-    ages: Ages,
+    wakeups: u64,
+    ages: BeginOrder,
     sleepers: Sleepers,
     /// How many commands each script has.
     lengths: Vec<usize>,
@@ -38,8 +38,8 @@ pub struct State<R: Wait + Drop, O: Origin> {
 impl<R: Wait + Drop, O: Origin> Model for State<R, O> {
     ghost use Rattle.std.specs.Prelude.{◌≡◌};
     ghost use Rattle.std.specs.Coded.{codes};
-    ghost use Rattle.city_model.specs.inside.DataCode.{coded_members};
-    ghost use Rattle.city_txn.specs.inside.Codes.{coded_objects};
+    ghost use Rattle.city_model.specs.internal.DataCode.{coded_members};
+    ghost use Rattle.city_txn.specs.internal.Codes.{coded_objects};
     ghost use Rattle.city_scheduler.specs.DeskState.{DeskState};
 
     ghost Value = { DeskState };
@@ -56,7 +56,7 @@ impl<R: Wait + Drop, O: Origin> State<R, O> {
     /// shelf.
     pub fn new(
         desk: Desk<CrewShelf<R>>,
-        ages: Ages,
+        ages: BeginOrder,
         sleepers: Sleepers,
         lengths: Vec<usize>,
         viewers: usize,
@@ -67,7 +67,7 @@ impl<R: Wait + Drop, O: Origin> State<R, O> {
     {
         State {
             desk,
-            moves: 0,
+            wakeups: 0,
             ages,
             sleepers,
             lengths,
@@ -83,7 +83,7 @@ impl<R: Wait + Drop, O: Origin> State<R, O> {
     {
         let State {
             desk,
-            moves: _,
+            wakeups: _,
             ages: _ages,
             sleepers: _sleepers,
             lengths: _lengths,
@@ -117,18 +117,18 @@ impl<R: Wait + Drop, O: Origin> Turns for State<R, O> {
         let turn = self.desk.turn(script);
         match turn {
             Turn::Began => self.ages.begin(script),
-            Turn::Died => self.moves = self.moves.wrapping_add(1),
+            Turn::Died => self.wakeups = self.wakeups.wrapping_add(1),
             Turn::Ended => {
                 self.ages.end(script);
-                self.moves = self.moves.wrapping_add(1);
+                self.wakeups = self.wakeups.wrapping_add(1);
             }
             _ => {}
         }
         turn
     }
 
-    fn moves(&self) -> u64 {
-        self.moves
+    fn wakeups(&self) -> u64 {
+        self.wakeups
     }
 
     fn is_oldest(&self, script: usize) -> bool {

@@ -2,7 +2,7 @@
 use crate::fault::CrewFault;
 use crate::gate::Gate;
 use crate::shared::Shared;
-use crate::watcher::Watch;
+use crate::viewer_thread::Watch;
 use crate::work::{Turns, take_first, work, work_from};
 use std::alloc::Global;
 use std::sync::Wait;

@@ -19,7 +19,7 @@ pub trait Turns: Drop {
     fn turn(&mut self, script: usize) -> Turn;
 
     /// How many turns ended a script or killed it.
-    fn moves(&self) -> u64;
+    fn wakeups(&self) -> u64;
 
     /// Whether no other script that has begun and not ended began before this one.
     fn is_oldest(&self, script: usize) -> bool;
@@ -127,20 +127,20 @@ fn turns_at_once<R: Wait, T: Turns>(
     many: bool,
 ) -> Option<Task> {
     let mut turns = shared.turns.lock(rt);
-    let moves = turns.moves();
+    let wakeups = turns.wakeups();
     let (next, rest) = if many {
         make_many(rt, &mut *turns, task)
     } else {
         make_one(rt, &mut *turns, task)
     };
-    if turns.moves() != moves {
+    if turns.wakeups() != wakeups {
         shared.wake(turns.to_be_woken());
     }
     let task = next?;
     match rest {
         Rest::Gate => next,
         Rest::UntilMoved => {
-            wait_for_a_move(rt, shared, turns);
+            wait_for_a_wakeup(rt, shared, turns);
             next
         }
         Rest::UntilOldest => Some(wait_for_the_older(rt, shared, turns, worker, task)),
@@ -229,11 +229,11 @@ fn turn_once<T: Turns>(turns: &mut T, task: &mut Task) -> Turn {
 }
 
 /// Waits until another turn has ended a script or killed it.
-fn wait_for_a_move<R: Wait, T: Turns>(rt: &R, shared: &Shared<T>, turns: MutexGuard<'_, T>) {
-    let seen = turns.moves();
+fn wait_for_a_wakeup<R: Wait, T: Turns>(rt: &R, shared: &Shared<T>, turns: MutexGuard<'_, T>) {
+    let seen = turns.wakeups();
     let _turns = shared
-        .moved
-        .wait_while(rt, turns, |now| now.moves() == seen);
+        .woken
+        .wait_while(rt, turns, |now| now.wakeups() == seen);
 }
 
 /// Waits until all scripts that began before this one have ended, or those before one that is exchanged for it. Returns

@@ -3,7 +3,7 @@ use Rattle.city_decimals.proofs.Prelude.{arith, ◌≡◌, ℕ, ◌-◌, ◌<◌
 use Rattle.city_decimals.proofs.Prelude.{refl, sym, ap, ◌∙◌, append_assoc, Token, Json, null, boolean, number, string}
 use Rattle.city_decimals.proofs.Prelude.{array, object, Items, no_items, item, Members, Parse, parse_map, value}
 use Rattle.city_decimals.proofs.Prelude.{after_end_array, json_tokens, items_tokens, changed, items_changed, written}
-use Rattle.city_decimals.proofs.Prelude.{Way, Encode, Decode, suc, false, cond, only, decoded, decoded_members}
+use Rattle.city_decimals.proofs.Prelude.{Direction, Encode, Decode, suc, false, cond, only, decoded, decoded_members}
 use Rattle.city_decimals.proofs.Prelude.{number_in}
 use Rattle.std.proofs.Common.{zero}
 use Rattle.std.specs.Borrow.{Bor}
@@ -12,7 +12,7 @@ use Rattle.json.specs.Json.{items}
 use Rattle.json.specs.Reads.{token_of}
 use Rattle.json.specs.declared.token.Token.TheVariants.{BeginArray, Number}
 use Rattle.json.specs.declared.token.Token as read
-use Rattle.city_decimals.specs.inside.Ways.{attributes_changed}
+use Rattle.city_decimals.specs.internal.Directions.{attributes_changed}
 use Rattle.city_decimals.proofs.Insides.{no_single}
 use Rattle.city_decimals.proofs.Starts.{first, first_token}
 
@@ -24,13 +24,13 @@ no_bracket t other e = grind arith
 no_number : (t : read.Token) → ((x : Bor (List ℕ)) → t ≡ Number x → ⊥) → (s : List ℕ) → token_of t ≡ Token.number s → ⊥
 no_number t other s e = grind arith
 
-object_changed : (way : Way) (ms : Members) → attributes_changed way (object ms) ≡ changed way (object ms)
+object_changed : (way : Direction) (ms : Members) → attributes_changed way (object ms) ≡ changed way (object ms)
 object_changed Encode ms = refl
 object_changed Decode ms =
     ap (λ b. cond b (only (decoded (object ms))) (decoded (object ms)))
     (no_single (number_in ms) (decoded_members false ms))
 
-other_changed : (way : Way) (t : Token) (j : Json) → t ≡ first j → (t ≡ Token.begin_array → ⊥)
+other_changed : (way : Direction) (t : Token) (j : Json) → t ≡ first j → (t ≡ Token.begin_array → ⊥)
     → ((s : List ℕ) → t ≡ Token.number s → ⊥) → attributes_changed way j ≡ changed way j
 other_changed way t null is no_array no_number = grind arith
 other_changed way t (boolean b) is no_array no_number = grind arith
@@ -39,7 +39,7 @@ other_changed way t (string s) is no_array no_number = grind arith
 other_changed way t (array js) is no_array no_number = absurd (no_array is)
 other_changed way t (object ms) is no_array no_number = object_changed way ms
 
-pub attributes_other : (way : Way) (d : ℕ) (t : read.Token) (ts : List Token) (j : Json) (r : List Token)
+pub attributes_other : (way : Direction) (d : ℕ) (t : read.Token) (ts : List Token) (j : Json) (r : List Token)
     → (t ≡ BeginArray → ⊥) → ((x : Bor (List ℕ)) → t ≡ Number x → ⊥) → value d (token_of t ∷ ts) ≡ Some (j, r)
     → attributes_changed way j ≡ changed way j
 attributes_other way d t ts j r one two is =
@@ -47,14 +47,14 @@ attributes_other way d t ts j r one two is =
 
 -- ---- arrays
 
-none_changed : (way : Way) → attributes_changed way (array no_items) ≡ array no_items
+none_changed : (way : Direction) → attributes_changed way (array no_items) ≡ array no_items
 none_changed way = grind arith
 
-several_changed : (way : Way) (j i : Json) (js : Items) → attributes_changed way (array (item j (item i js)))
+several_changed : (way : Direction) (j i : Json) (js : Items) → attributes_changed way (array (item j (item i js)))
     ≡ array (item (changed way j) (items_changed way (item i js)))
 several_changed way j i js = grind arith
 
-module _ (p : Parse Json) (way : Way) where
+module _ (p : Parse Json) (way : Direction) where
   abbrev pub tokens_under : Items → List Token
   tokens_under js = json_tokens (attributes_changed way (array js))
 

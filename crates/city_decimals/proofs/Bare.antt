@@ -6,7 +6,7 @@ use Rattle.city_decimals.proofs.Prelude.{is_fraction, is_single, is_text, is_shi
 use Rattle.city_decimals.proofs.Prelude.{items_text}
 use Rattle.std.proofs.Common.{◌||◌}
 use Rattle.json.specs.Word.{after_number}
-use Rattle.city_decimals.specs.inside.Forms.{is_bare, BeginsBare}
+use Rattle.city_decimals.specs.internal.Forms.{is_bare, BeginsBare}
 use Rattle.city_decimals.proofs.Insides.{shield_decoded}
 
 -- ---- a value without shields

@@ -1,16 +1,16 @@
 -- A text that is changed, as the public contracts speak of it.
-use Rattle.city_decimals.proofs.Prelude.{arith, ◌≡◌, ℕ, List, [], ◌++◌, IsUtf8, IsDecodedLine, IsChanged, Way, Decode}
+use Rattle.city_decimals.proofs.Prelude.{arith, ◌≡◌, ℕ, List, [], ◌++◌, IsUtf8, IsDecodedLine, IsChanged, Direction, Decode}
 
 pub changed_decoded : (limit : ℕ) (text out : List ℕ) → IsChanged limit Decode text out → IsDecodedLine text out
 changed_decoded limit text out h = (limit, h.j, h.value, h.out_is)
 
 -- the changed text behind what was in the buffer
-abbrev pub IsBehind : ℕ → Way → List ℕ → List ℕ → List ℕ → Type 0
+abbrev pub IsBehind : ℕ → Direction → List ℕ → List ℕ → List ℕ → Type 0
 IsBehind limit way text before items =
     (out : List ℕ) × IsChanged limit way text out × IsUtf8 out × (items ≡ before ++ out)
 
 -- what the buffer holds that was empty
-pub alone : (limit : ℕ) (way : Way) (text before items : List ℕ) → before ≡ []
+pub alone : (limit : ℕ) (way : Direction) (text before items : List ℕ) → before ≡ []
     → IsBehind limit way text before items
     → IsChanged limit way text items × IsUtf8 items
 alone limit way text before items none h = grind arith

@@ -7,7 +7,7 @@ use Rattle.city_decimals.proofs.Prelude.{Moves, value_text, members_text, comma_
 use Rattle.city_decimals.proofs.Prelude.{AreMembersCopied, IsFrameCopied, frame_changed, Encode, Decode}
 use Rattle.json.specs.Print.{escape_byte}
 use Rattle.json.specs.Word.{after_number}
-use Rattle.city_decimals.specs.inside.Compact.{triple, IsNumberCopied, IsTripleCopied}
+use Rattle.city_decimals.specs.internal.Compact.{triple, IsNumberCopied, IsTripleCopied}
 use Rattle.city_decimals.proofs.PlainNumbers.{plain_is_number, plain_is_whole}
 use Rattle.city_decimals.proofs.Copied.{moves_on, moves_as, untagged_none}
 

@@ -4,7 +4,7 @@ use Rattle.city_decimals.proofs.Prelude.{append_assoc, append-nil, IsUtf8, null,
 use Rattle.city_decimals.proofs.Prelude.{Items, no_items, item, Members, no_members, member, value, if_last}
 use Rattle.city_decimals.proofs.Prelude.{document_to, print, quoted, items_tokens, members_tokens, depth}
 use Rattle.city_decimals.proofs.Prelude.{option_and_then, HasNumbers, items_text, members_text, IsUntagged}
-use Rattle.city_decimals.proofs.Prelude.{top_changed, IsChanged, members_changed, Way}
+use Rattle.city_decimals.proofs.Prelude.{top_changed, IsChanged, members_changed, Direction}
 use Rattle.std.proofs.Common.{List, Bool, true}
 use Rattle.json.specs.Token.{Token}
 use Rattle.json.specs.Json.{Json}
@@ -12,7 +12,7 @@ use Rattle.json.specs.Print.{print_from}
 use Rattle.json.proofs.Printed.Tokens.{tokens-print}
 use Rattle.json.proofs.Printed.Trees.{value-json_tokens, ArePrintable-json_tokens}
 use Rattle.json.specs.Tree.{json_tokens}
-use Rattle.city_decimals.specs.inside.Compact.{value_text, comma_if, IsTopCopied}
+use Rattle.city_decimals.specs.internal.Compact.{value_text, comma_if, IsTopCopied}
 
 regroup_item : (q a b c : List ℕ) → q ++ (a ++ (b ++ c)) ≡ (q ++ (a ++ b)) ++ c
 regroup_item q a b c = simp append_assoc
@@ -82,11 +82,11 @@ top_is : (h : Members → Members) (limit : ℕ) (text out : List ℕ) (t : IsTo
 top_is h limit text out t =
     grind (arith, text_printed (object t.ms), read_again limit (object t.ms) t.numbers t.shallow)
 
-made_is : (way : Way) (ms : Members) → IsUntagged ms
+made_is : (way : Direction) (ms : Members) → IsUntagged ms
     → value_text (object (members_changed way true ms)) ≡ print (json_tokens (top_changed way (object ms)))
 made_is way ms h = search (arith, text_printed)
 
-pub top_made : (way : Way) (limit : ℕ) (text out : List ℕ) → IsTopCopied (members_changed way true) limit text out
+pub top_made : (way : Direction) (limit : ℕ) (text out : List ℕ) → IsTopCopied (members_changed way true) limit text out
     → IsUtf8 text → IsChanged limit way text out
 top_made way limit text out t utf8 =
     grind (arith, top_is (members_changed way true) limit text out t, made_is way t.ms t.untagged)

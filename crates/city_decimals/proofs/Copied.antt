@@ -13,8 +13,8 @@ use Rattle.json.specs.Print.{escape_byte}
 use Rattle.json.specs.Text.{content, plain}
 use Rattle.json.specs.Word.{after_number}
 use Rattle.json.proofs.Printed.Strings.{content-escape}
-use Rattle.city_decimals.specs.inside.Compact.{IsMemberCopied, IsKeyPassed}
-use Rattle.city_decimals.specs.inside.Forms.{is_bare, BeginsBare}
+use Rattle.city_decimals.specs.internal.Compact.{IsMemberCopied, IsKeyPassed}
+use Rattle.city_decimals.specs.internal.Forms.{is_bare, BeginsBare}
 use Rattle.city_decimals.proofs.Bare.{begins_bare}
 
 pub moves_on : (a b d : State) (xs ys us vs : List ℕ) → Moves a b xs ys → Moves b d us vs

@@ -6,7 +6,7 @@ use Rattle.std.proofs.lemmas.List.{take-append-drop, drop-take, drop-drop, take-
 use Rattle.std.proofs.lemmas.Grind.{flat_map-append}
 use Rattle.json.specs.Print.{escape_byte}
 use Rattle.json.proofs.Printed.Strings.{escape_byte_plain}
-use Rattle.city_decimals.specs.inside.Copies.{IsEscaped}
+use Rattle.city_decimals.specs.internal.Copies.{IsEscaped}
 
 pub take_plus : (a n : ℕ) (xs : List ℕ) → take (a + n) xs ≡ take a xs ++ take n (drop a xs)
 take_plus a n xs =

@@ -8,7 +8,7 @@ use Rattle.city_decimals.proofs.Prelude.{out_of_form, decoded}
 use Rattle.std.proofs.Common.{◌||◌}
 use Rattle.std.specs.Prelude.{not}
 use Rattle.std.proofs.lemmas.List.{length-append}
-use Rattle.city_decimals.specs.inside.Inner.{front, inner}
+use Rattle.city_decimals.specs.internal.Inner.{front, inner}
 use Rattle.city_decimals.proofs.Bools.{and_right}
 
 -- an object with a scale encodes no number

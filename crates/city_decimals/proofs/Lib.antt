@@ -6,6 +6,7 @@ pub mod CompactForms
 pub mod CompactTexts
 pub mod Copied
 pub mod Copies
+pub mod Directions
 pub mod Edits
 pub mod Forms
 pub mod Insides
@@ -21,5 +22,4 @@ pub mod RoundTrip
 pub mod Starts
 pub mod Streams
 pub mod Texts
-pub mod Ways
 pub mod Wholes

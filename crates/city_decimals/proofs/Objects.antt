@@ -2,7 +2,7 @@
 use Rattle.city_decimals.proofs.Prelude.{◌≡◌, ℕ, ◌-◌, List, [], ◌∷◌, ◌++◌, Bool, false, Option, Some, None, refl, sym}
 use Rattle.city_decimals.proofs.Prelude.{ap, ◌∙◌, arith, append_assoc, Token, Json, Members, member, Parse, read_key}
 use Rattle.city_decimals.proofs.Prelude.{json_tokens, members_tokens, Some_inj, is_tag, number_under, number_in}
-use Rattle.city_decimals.proofs.Prelude.{number_or, decoded_members, decoded_object, members_changed, object_made, Way}
+use Rattle.city_decimals.proofs.Prelude.{number_or, decoded_members, decoded_object, members_changed, object_made, Direction}
 use Rattle.city_decimals.proofs.Prelude.{Encode, Decode, written}
 use Rattle.json.specs.Json.{members}
 
@@ -17,7 +17,7 @@ object_written top out (Some q) h =
     ∙ sym (append_assoc out (Token.begin_object ∷ []) (members_tokens (decoded_members top q.0))))
 
 -- the same, whichever way; only decoded members can be a number
-pub object_put : (way : Way) (top : Bool) (out : List Token) (o : Option (Members × List Token))
+pub object_put : (way : Direction) (top : Bool) (out : List Token) (o : Option (Members × List Token))
     → (way ≡ Decode → (ms : Members) (r : List Token) → o ≡ Some (ms, r) → number_in ms ≡ None)
     → written (λ ms. json_tokens (object_made way top ms)) out o
     ≡ written (λ ms. members_tokens (members_changed way top ms)) (out ++ Token.begin_object ∷ []) o

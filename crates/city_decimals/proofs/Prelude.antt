@@ -42,16 +42,16 @@ pub use Rattle.city_decimals.specs.Whole.{is_integral}
 pub use Rattle.city_decimals.specs.declared.fault.DecimalsFault.{DecimalsFault}
 pub use Rattle.city_decimals.specs.declared.shapes.Form.{Form}
 pub use Rattle.city_decimals.specs.declared.shapes.Form.TheVariants.{Plain, Shielded}
-pub use Rattle.city_decimals.specs.declared.way.Way.{Way}
-pub use Rattle.city_decimals.specs.declared.way.Way.TheVariants.{Decode, Encode}
-pub use Rattle.city_decimals.specs.inside.Changes.{IsChanged, top_changed}
-pub use Rattle.city_decimals.specs.inside.Compact.{AreItemsCopied, AreMembersCopied, IsCopied, IsFrameCopied}
-pub use Rattle.city_decimals.specs.inside.Compact.{IsItemCopied, IsUntagged, State, comma_if, items_text, members_text}
-pub use Rattle.city_decimals.specs.inside.Compact.{value_text}
-pub use Rattle.city_decimals.specs.inside.Copies.{IsPlainByte, Moves}
-pub use Rattle.city_decimals.specs.inside.Forms.{tokens_after}
-pub use Rattle.city_decimals.specs.inside.Objects.{decoded_object}
-pub use Rattle.city_decimals.specs.inside.PlainNumbers.{IsPlain}
-pub use Rattle.city_decimals.specs.inside.Streams.{written}
-pub use Rattle.city_decimals.specs.inside.Ways.{changed, frame_changed, items_changed, member_changed, members_changed}
-pub use Rattle.city_decimals.specs.inside.Ways.{object_made}
+pub use Rattle.city_decimals.specs.declared.direction.Direction.{Direction}
+pub use Rattle.city_decimals.specs.declared.direction.Direction.TheVariants.{Decode, Encode}
+pub use Rattle.city_decimals.specs.internal.Changes.{IsChanged, top_changed}
+pub use Rattle.city_decimals.specs.internal.Compact.{AreItemsCopied, AreMembersCopied, IsCopied, IsFrameCopied}
+pub use Rattle.city_decimals.specs.internal.Compact.{IsItemCopied, IsUntagged, State, comma_if, items_text, members_text}
+pub use Rattle.city_decimals.specs.internal.Compact.{value_text}
+pub use Rattle.city_decimals.specs.internal.Copies.{IsPlainByte, Moves}
+pub use Rattle.city_decimals.specs.internal.Forms.{tokens_after}
+pub use Rattle.city_decimals.specs.internal.Objects.{decoded_object}
+pub use Rattle.city_decimals.specs.internal.PlainNumbers.{IsPlain}
+pub use Rattle.city_decimals.specs.internal.Streams.{written}
+pub use Rattle.city_decimals.specs.internal.Directions.{changed, frame_changed, items_changed, member_changed, members_changed}
+pub use Rattle.city_decimals.specs.internal.Directions.{object_made}

@@ -2,19 +2,19 @@
 ghost use Rattle.std.specs.Prelude.{◌≡◌, ◌<◌, ◌-◌, ◌++◌, ◌∷◌, [], ℕ, List, true, false, IfSome, IfOk};
 ghost use Rattle.std.specs.Prelude.{IfErr};
 ghost use Rattle.std.specs.Str.{IsUtf8};
-ghost use Rattle.city_decimals.specs.inside.Compact.{IsCopied, IsItemCopied, AreItemsCopied, IsMemberCopied};
-ghost use Rattle.city_decimals.specs.inside.Compact.{AreMembersCopied, IsFrameCopied, IsTopCopied, State};
-ghost use Rattle.city_decimals.specs.inside.Copies.{Moves};
-ghost use Rattle.city_decimals.specs.inside.Ways.{changed, items_changed, members_changed, member_changed};
-ghost use Rattle.city_decimals.specs.inside.Ways.{frame_changed};
-ghost use Rattle.city_decimals.specs.declared.way.Way.TheVariants.{Decode};
+ghost use Rattle.city_decimals.specs.internal.Compact.{IsCopied, IsItemCopied, AreItemsCopied, IsMemberCopied};
+ghost use Rattle.city_decimals.specs.internal.Compact.{AreMembersCopied, IsFrameCopied, IsTopCopied, State};
+ghost use Rattle.city_decimals.specs.internal.Copies.{Moves};
+ghost use Rattle.city_decimals.specs.internal.Directions.{changed, items_changed, members_changed, member_changed};
+ghost use Rattle.city_decimals.specs.internal.Directions.{frame_changed};
+ghost use Rattle.city_decimals.specs.declared.direction.Direction.TheVariants.{Decode};
 
 mod decoding;
 mod encoding;
 mod leaves;
 
 use crate::copier::Copier;
-use crate::way::Way;
+use crate::direction::Direction;
 use decoding::{copy_encoded_number, is_encoded_number};
 use encoding::{copy_into_frame, encode_number};
 use leaves::{copy_name, copy_string, is_framed, is_tag, may_be_shielded};
@@ -32,7 +32,7 @@ const FRAME_END: &[u8] = b",\"scale\":[1,1,1],\"translate\":[0,0,0]}";
 /// The buffer, with the changed text behind what it holds, where the text is compact and of a form that is known
 /// here; else as it was. Arrays and objects may nest `depth` deep.
 pub(crate) fn copy_compact(
-    way: Way,
+    way: Direction,
     bytes: &[u8],
     depth: usize,
     out: Vec<u8>,
@@ -49,7 +49,7 @@ pub(crate) fn copy_compact(
 }
 
 /// Copies the object that a whole text is, changed.
-fn copy_top(copier: &mut Copier<'_>, depth: usize, way: Way) -> Option<()>
+fn copy_top(copier: &mut Copier<'_>, depth: usize, way: Direction) -> Option<()>
     ensures before { copier.new.0 ≡ copier.old.0 }
     ensures copied { IfSome result (λ _. (m : State) × (0 < depth) × Moves copier.old m (123 ∷ []) (123 ∷ [])
         × AreMembersCopied (members_changed way true) false (depth - 1) m copier.new) }
@@ -63,7 +63,7 @@ fn copy_top(copier: &mut Copier<'_>, depth: usize, way: Way) -> Option<()>
 /// Copies the next value, changed. Arrays and objects may nest `depth` deep.
 #[cycle(copy)]
 #[inline(always)]
-fn copy_value(copier: &mut Copier<'_>, depth: usize, way: Way) -> Option<()>
+fn copy_value(copier: &mut Copier<'_>, depth: usize, way: Direction) -> Option<()>
     ensures before { copier.new.0 ≡ copier.old.0 }
     ensures copied { IfSome result (λ _. IsCopied (changed way) depth copier.old copier.new) }
 {
@@ -78,20 +78,20 @@ fn copy_value(copier: &mut Copier<'_>, depth: usize, way: Way) -> Option<()>
 
 /// Copies a number, changed.
 #[inline(always)]
-fn copy_number(copier: &mut Copier<'_>, depth: usize, way: Way) -> Option<()>
+fn copy_number(copier: &mut Copier<'_>, depth: usize, way: Direction) -> Option<()>
     ensures before { copier.new.0 ≡ copier.old.0 }
     ensures copied { IfSome result (λ _. IsCopied (changed way) depth copier.old copier.new) }
 {
     match way {
-        Way::Encode => encode_number(copier),
-        Way::Decode => copier.pass_number(),
+        Direction::Encode => encode_number(copier),
+        Direction::Decode => copier.pass_number(),
     }
 }
 
 /// Copies an array, changed.
 #[cycle(copy)]
 #[inline(always)]
-fn copy_array(copier: &mut Copier<'_>, depth: usize, way: Way) -> Option<()>
+fn copy_array(copier: &mut Copier<'_>, depth: usize, way: Direction) -> Option<()>
     ensures before { copier.new.0 ≡ copier.old.0 }
     ensures copied { IfSome result (λ _. IsCopied (changed way) depth copier.old copier.new) }
 {
@@ -104,7 +104,7 @@ fn copy_array(copier: &mut Copier<'_>, depth: usize, way: Way) -> Option<()>
 /// Copies the items up to the bracket, changed.
 #[cycle(copy)]
 #[inline(never)]
-fn copy_items(copier: &mut Copier<'_>, depth: usize, way: Way) -> Option<()>
+fn copy_items(copier: &mut Copier<'_>, depth: usize, way: Direction) -> Option<()>
     ensures before { copier.new.0 ≡ copier.old.0 }
     ensures copied { IfSome result (λ _. AreItemsCopied (items_changed way) false depth copier.old copier.new) }
 {
@@ -122,7 +122,7 @@ fn copy_items(copier: &mut Copier<'_>, depth: usize, way: Way) -> Option<()>
 /// Copies a comma, where something stands before, and an item, changed.
 #[cycle(copy)]
 #[inline(always)]
-fn copy_item(copier: &mut Copier<'_>, later: bool, depth: usize, way: Way) -> Option<()>
+fn copy_item(copier: &mut Copier<'_>, later: bool, depth: usize, way: Direction) -> Option<()>
     ensures before { copier.new.0 ≡ copier.old.0 }
     ensures copied { IfSome result (λ _. IsItemCopied (changed way) later depth copier.old copier.new) }
 {
@@ -133,7 +133,7 @@ fn copy_item(copier: &mut Copier<'_>, later: bool, depth: usize, way: Way) -> Op
 /// Copies an object, changed, or the number that it encodes.
 #[cycle(copy)]
 #[inline(always)]
-fn copy_object(copier: &mut Copier<'_>, depth: usize, way: Way) -> Option<()>
+fn copy_object(copier: &mut Copier<'_>, depth: usize, way: Direction) -> Option<()>
     ensures before { copier.new.0 ≡ copier.old.0 }
     ensures copied { IfSome result (λ _. IsCopied (changed way) depth copier.old copier.new) }
 {
@@ -149,7 +149,7 @@ fn copy_object(copier: &mut Copier<'_>, depth: usize, way: Way) -> Option<()>
 /// Copies the members up to the brace, changed.
 #[cycle(copy)]
 #[inline(never)]
-fn copy_members(copier: &mut Copier<'_>, depth: usize, top: bool, way: Way) -> Option<()>
+fn copy_members(copier: &mut Copier<'_>, depth: usize, top: bool, way: Direction) -> Option<()>
     ensures before { copier.new.0 ≡ copier.old.0 }
     ensures copied { IfSome result
         (λ _. AreMembersCopied (members_changed way top) false depth copier.old copier.new) }
@@ -171,7 +171,7 @@ fn copy_member(
     later: bool,
     depth: usize,
     top: bool,
-    way: Way,
+    way: Direction,
 ) -> Option<()>
     ensures before { copier.new.0 ≡ copier.old.0 }
     ensures copied { IfSome result (λ _. IsMemberCopied (member_changed way top) later depth copier.old copier.new) }
@@ -192,13 +192,13 @@ fn copy_member(
 /// Copies a transform, encoded, into its frame, or out of it, decoded.
 #[cycle(copy)]
 #[inline(never)]
-fn copy_frame(copier: &mut Copier<'_>, depth: usize, way: Way) -> Option<()>
+fn copy_frame(copier: &mut Copier<'_>, depth: usize, way: Direction) -> Option<()>
     ensures before { copier.new.0 ≡ copier.old.0 }
     ensures copied { IfSome result (λ _. IsFrameCopied (frame_changed way) depth copier.old copier.new) }
 {
     match way {
-        Way::Encode => copy_into_frame(copier, depth),
-        Way::Decode => copy_out_of_frame(copier, depth),
+        Direction::Encode => copy_into_frame(copier, depth),
+        Direction::Decode => copy_out_of_frame(copier, depth),
     }
 }
 
@@ -216,6 +216,6 @@ fn copy_out_of_frame(copier: &mut Copier<'_>, depth: usize) -> Option<()>
     if !copier.take(b'{') {
         return None;
     }
-    copy_members(copier, depth - 2, false, Way::Decode)?;
+    copy_members(copier, depth - 2, false, Direction::Decode)?;
     copier.skip(FRAME_END)
 }

@@ -4,9 +4,9 @@ ghost use Rattle.std.specs.Prelude.{drop, IfOk, IfErr, IfSome};
 ghost use Rattle.std.specs.Bool.{OnTrue};
 ghost use Rattle.std.specs.Str.{IsUtf8};
 ghost use Rattle.json.specs.Print.{IsNumber, escape};
-ghost use Rattle.city_decimals.specs.inside.Copies.{Moves, IsEscaped, IsPlainByte};
-ghost use Rattle.city_decimals.specs.inside.Compact.{comma_if, IsKeyPassed};
-ghost use Rattle.city_decimals.specs.inside.PlainNumbers.{IsPlain};
+ghost use Rattle.city_decimals.specs.internal.Copies.{Moves, IsEscaped, IsPlainByte};
+ghost use Rattle.city_decimals.specs.internal.Compact.{comma_if, IsKeyPassed};
+ghost use Rattle.city_decimals.specs.internal.PlainNumbers.{IsPlain};
 
 use crate::numbers::{is_number, plain_len};
 use crate::text::{is_text, text_of};
@@ -30,7 +30,7 @@ impl<'a> Model for Copier<'a> {
 
     ghost Value = { List ℕ × List ℕ × List ℕ };
 
-    ghost use Rattle.city_decimals.specs.inside.Copies.{copier_view, IsCopier};
+    ghost use Rattle.city_decimals.specs.internal.Copies.{copier_view, IsCopier};
 
     ghost view = { copier_view };
 

@@ -8,9 +8,9 @@ mod inner;
 mod member;
 mod tree;
 
-use crate::change::change_onto;
+use crate::direction::Direction;
 use crate::fault::DecimalsFault;
-use crate::way::Way;
+use crate::transcode::transcode_onto;
 pub(crate) use first::decode_first_member;
 use json::{MAX_DEPTH, Scratch};
 pub(crate) use member::decode_member_tree;
@@ -25,5 +25,5 @@ pub fn decode(alloc: Global, bytes: &[u8]) -> Result<Vec<u8>, DecimalsFault>
 {
     let mut scratch = Scratch::new(alloc);
     let out = Vec::with_capacity(alloc, bytes.len())?;
-    change_onto(alloc, Way::Decode, bytes, MAX_DEPTH, &mut scratch, out)
+    transcode_onto(alloc, Direction::Decode, bytes, MAX_DEPTH, &mut scratch, out)
 }

@@ -13,9 +13,9 @@ mod member;
 mod number;
 mod tree;
 
-use crate::change::change_onto;
+use crate::direction::Direction;
 use crate::fault::DecimalsFault;
-use crate::way::Way;
+use crate::transcode::transcode_onto;
 use json::{MAX_DEPTH, Scratch};
 pub(crate) use member::encode_member_tree;
 pub(crate) use number::encode_number;
@@ -43,5 +43,5 @@ pub fn encode(alloc: Global, bytes: &[u8]) -> Result<Vec<u8>, DecimalsFault>
 {
     let mut scratch = Scratch::new(alloc);
     let out = Vec::with_capacity(alloc, bytes.len())?;
-    change_onto(alloc, Way::Encode, bytes, MAX_DEPTH, &mut scratch, out)
+    transcode_onto(alloc, Direction::Encode, bytes, MAX_DEPTH, &mut scratch, out)
 }

@@ -8,10 +8,10 @@
 //! - a `transform` at the top is framed: the identity stands there, with the transform under `#`
 #![tactic(auto)]
 
-mod change;
 mod compact;
 mod copier;
 mod decoding;
+mod direction;
 mod encoding;
 mod fault;
 mod laws;
@@ -19,7 +19,7 @@ mod lines;
 mod numbers;
 mod shapes;
 mod text;
-mod way;
+mod transcode;
 
 pub use decoding::decode;
 pub use encoding::encode;

@@ -1,12 +1,12 @@
 //! Decodes a text line by line, as a report and a model stand in it.
 ghost use Rattle.std.specs.Prelude.{◌≡◌, IfOk, IfErr};
 ghost use Rattle.city_decimals.specs.Lines.{AreDecodedLines, AreDecodedBehind, IsLinesFault, HasJsonLines};
-ghost use Rattle.city_decimals.specs.inside.Newlines.{IsFirstNewline};
+ghost use Rattle.city_decimals.specs.internal.Newlines.{IsFirstNewline};
 ghost use Rattle.city_decimals.specs.declared.fault.DecimalsFault.TheVariants.{OutOfMemory};
 
-use crate::change::change_onto;
+use crate::direction::Direction;
 use crate::fault::DecimalsFault;
-use crate::way::Way;
+use crate::transcode::transcode_onto;
 use json::Scratch;
 use memchr::memchr;
 use std::alloc::Global;
@@ -39,7 +39,7 @@ pub fn decode_lines_onto(
     out.reserve(bytes.len())?;
     let mut rest = bytes;
     while let Some(at) = first_newline(rest) {
-        out = change_onto(alloc, Way::Decode, &rest[..at], depth, &mut scratch, out)?;
+        out = transcode_onto(alloc, Direction::Decode, &rest[..at], depth, &mut scratch, out)?;
         out.extend_from_slice(b"\n")?;
         rest = &rest[at + 1..];
     }

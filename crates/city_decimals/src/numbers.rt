@@ -6,7 +6,7 @@ ghost use Rattle.std.specs.Str.{bytes_eq};
 ghost use Rattle.json.specs.Print.{IsNumber};
 ghost use Rattle.serde_json.specs.Read.{number_from};
 ghost use Rattle.city_decimals.specs.Numbers.{is_written_so, is_whole, is_number};
-ghost use Rattle.city_decimals.specs.inside.PlainNumbers.{IsPlain};
+ghost use Rattle.city_decimals.specs.internal.PlainNumbers.{IsPlain};
 
 use fast_float::Numeral;
 

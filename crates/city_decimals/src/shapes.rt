@@ -5,7 +5,7 @@ ghost use Rattle.json.specs.Value.{value_view};
 ghost use Rattle.city_decimals.specs.Shapes.{is_tag, is_triple, is_number_at, is_frame, is_transform};
 ghost use Rattle.city_decimals.specs.Shapes.{is_attributes, is_text_or_array, is_text, is_single, is_fraction};
 ghost use Rattle.city_decimals.specs.Shapes.{is_shielded, form_of, has_shield};
-ghost use Rattle.city_decimals.specs.inside.Forms.{can_have_form};
+ghost use Rattle.city_decimals.specs.internal.Forms.{can_have_form};
 
 use crate::numbers::is_whole;
 use json::Value;

@@ -25,7 +25,7 @@ impl Model for Details {
     ghost use Rattle.serde_json.specs.Data.{Members};
     ghost use Rattle.serde_json.specs.View.{members_view};
     ghost use Rattle.serde_json.specs.Written.{members_have_float};
-    ghost use Rattle.city_model.specs.inside.DataCode.{coded_members};
+    ghost use Rattle.city_model.specs.internal.DataCode.{coded_members};
 
     ghost Value = { Members };
 

@@ -8,7 +8,7 @@ use Rattle.city_diagnostics.proofs.Prelude.{OutOfMemory, Relations, TooLong, Unk
 use Rattle.city_doc.specs.declared.fault.ScriptFault.{ScriptFault}
 use Rattle.city_doc.specs.script.AllFaults.{rank_of as script_rank_of}
 use Rattle.city_diagnostics.specs.ScriptLines.{TellsScript, script_name_of}
-use Rattle.city_diagnostics.specs.inside.Heads.{with_words, with_head, with_named, with_script_named}
+use Rattle.city_diagnostics.specs.internal.Heads.{with_words, with_head, with_named, with_script_named}
 
 -- a name that no fault's head has
 record IsOther (k : List ℕ) : Type 0 where

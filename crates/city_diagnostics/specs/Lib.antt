@@ -1,4 +1,4 @@
 pub mod Lines
 pub mod ModelLines
 pub mod ScriptLines
-pub mod inside
+pub mod internal

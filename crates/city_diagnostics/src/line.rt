@@ -6,8 +6,8 @@ ghost use Rattle.city_doc.specs.script.AllFaults.{rank_of as script_rank_of};
 ghost use Rattle.city_diagnostics.specs.Lines.{IsLineOf, IsLineOfMembers};
 ghost use Rattle.city_diagnostics.specs.ModelLines.{Tells, name_of};
 ghost use Rattle.city_diagnostics.specs.ScriptLines.{TellsScript, script_name_of};
-ghost use Rattle.city_diagnostics.specs.inside.Heads.{with_named, with_head, with_words};
-ghost use Rattle.city_diagnostics.specs.inside.Heads.{with_script_named, with_place};
+ghost use Rattle.city_diagnostics.specs.internal.Heads.{with_named, with_head, with_words};
+ghost use Rattle.city_diagnostics.specs.internal.Heads.{with_script_named, with_place};
 
 use city_details::{Details, Diagnostic};
 use city_doc::{ReadFault, ScriptFault};

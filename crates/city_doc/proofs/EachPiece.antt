@@ -7,7 +7,7 @@ use Rattle.std.proofs.lemmas.Grind.{div_ceil_times}
 use native.Mathlib.Nat.{zero-mul}
 use Rattle.std.proofs.lemmas.List.{drop-drop}
 use Rattle.std.specs.Fork.{slice_chunk}
-use Rattle.city_doc.specs.inside.Pieces.{EachPiece}
+use Rattle.city_doc.specs.internal.Pieces.{EachPiece}
 
 -- something is made of each piece, and the pieces are all that there is
 abbrev pub EachMade : {X A : Type 0} → ℕ → List X → List (Option A) → (List X → A → Type 0) → Type 0

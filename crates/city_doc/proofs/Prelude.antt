@@ -66,7 +66,7 @@ pub use Rattle.city_tokens.specs.document.Cities.{IsAdmitted, IsTextOfCity, city
 pub use Rattle.city_tokens.specs.document.Cities.{is_city_json, objects_of, points_in}
 pub use Rattle.city_tokens.specs.document.Frames.{frame_of, more_of, triple_at, without_top_members}
 pub use Rattle.city_tokens.specs.document.FramesOfRest.{frame_of_rest}
-pub use Rattle.city_tokens.specs.inside.ScriptItems.{script_of_item}
+pub use Rattle.city_tokens.specs.internal.ScriptItems.{script_of_item}
 pub use Rattle.city_tokens.specs.object.Bodies.{body_of, object_of, type_of, without_object_members}
 pub use Rattle.city_tokens.specs.script.Commands.{command_of}
 pub use Rattle.city_tokens.specs.script.Scripts.{ScriptParts, commands_in, parts_in, parts_of, vertex_count, word_ends}
@@ -90,17 +90,17 @@ pub use Rattle.city_doc.specs.document.Least.{Has}
 pub use Rattle.city_doc.specs.document.Ranges.{IsInRange}
 pub use Rattle.city_doc.specs.document.Top.{all_objects, are_all_objects, are_objects, are_vertices, has_triple}
 pub use Rattle.city_doc.specs.document.Top.{is_transform, wrong_member}
-pub use Rattle.city_doc.specs.inside.Pool.{with_points}
-pub use Rattle.city_doc.specs.inside.document.Forms.{AreReadable, HasForm}
-pub use Rattle.city_doc.specs.inside.document.KeptMembers.{IsKeptCity, are_kept_objects}
-pub use Rattle.city_doc.specs.inside.document.LenientCities.{IsReadOf, first_body, lenient_entries_of}
-pub use Rattle.city_doc.specs.inside.document.Searches.{first_with}
-pub use Rattle.city_doc.specs.inside.script.Forms.{parts_views}
-pub use Rattle.city_doc.specs.inside.script.Searches.{bad_script, first_at, first_command, first_in, index_if, index_in}
-pub use Rattle.city_doc.specs.inside.tree.PartTokens.{closing_items, closing_members, listed, tokens_of_members}
-pub use Rattle.city_doc.specs.inside.tree.PartTokens.{tokens_of_own}
-pub use Rattle.city_doc.specs.inside.tree.Parted.{members_before, members_from}
-pub use Rattle.city_doc.specs.inside.tree.ReadsBack.{ItemsReadBack, MembersReadBack, ReadsBack}
+pub use Rattle.city_doc.specs.internal.Pool.{with_points}
+pub use Rattle.city_doc.specs.internal.document.Forms.{AreReadable, HasForm}
+pub use Rattle.city_doc.specs.internal.document.KeptMembers.{IsKeptCity, are_kept_objects}
+pub use Rattle.city_doc.specs.internal.document.LenientCities.{IsReadOf, first_body, lenient_entries_of}
+pub use Rattle.city_doc.specs.internal.document.Searches.{first_with}
+pub use Rattle.city_doc.specs.internal.script.Forms.{parts_views}
+pub use Rattle.city_doc.specs.internal.script.Searches.{bad_script, first_at, first_command, first_in, index_if, index_in}
+pub use Rattle.city_doc.specs.internal.tree.PartTokens.{closing_items, closing_members, listed, tokens_of_members}
+pub use Rattle.city_doc.specs.internal.tree.PartTokens.{tokens_of_own}
+pub use Rattle.city_doc.specs.internal.tree.Parted.{members_before, members_from}
+pub use Rattle.city_doc.specs.internal.tree.ReadsBack.{ItemsReadBack, MembersReadBack, ReadsBack}
 pub use Rattle.city_doc.specs.object.Canonical.{object_data, objects_data, with_objects}
 pub use Rattle.city_doc.specs.object.Faults.{first_unsupported, has_bad_list, has_bad_vertex, is_bad_geometry}
 pub use Rattle.city_doc.specs.object.Faults.{is_unknown_type}

@@ -3,7 +3,7 @@ pub mod FaultTexts
 pub mod Outputs
 pub mod Pool
 pub mod document
-pub mod inside
+pub mod internal
 pub mod object
 pub mod report
 pub mod script

@@ -59,7 +59,7 @@ impl<'a> Model for PointNumbers<'a> {
 
     ghost Value = { List Point };
 
-    ghost use Rattle.city_doc.specs.inside.KnownNumbers.{known_or};
+    ghost use Rattle.city_doc.specs.internal.KnownNumbers.{known_or};
 
     ghost view = { λ a. known_or a.met a.known };
 }

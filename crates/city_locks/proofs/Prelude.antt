@@ -17,4 +17,4 @@ pub use Rattle.city_locks.specs.WaitDie.{IsInConflict, IsWaitDie}
 pub use Rattle.city_locks.specs.declared.answer.Answer.{Answer}
 pub use Rattle.city_locks.specs.declared.answer.Answer.TheVariants.{Die, Granted, Wait}
 pub use Rattle.city_locks.specs.declared.holders.Holder.{Holder}
-pub use Rattle.city_locks.specs.inside.Listing.{ids_of}
+pub use Rattle.city_locks.specs.internal.Listing.{ids_of}

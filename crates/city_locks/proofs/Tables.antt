@@ -7,7 +7,7 @@ use Rattle.std.proofs.Common.{nat_cmp}
 use Rattle.std.specs.Prelude.{if◌then◌else◌}
 use Rattle.std.specs.BTreeMap.{BTreeMap, get}
 use Rattle.city_locks.specs.Locks.{HoldOnce}
-use Rattle.city_locks.specs.inside.Listing.{IsListed}
+use Rattle.city_locks.specs.internal.Listing.{IsListed}
 use Rattle.city_locks.proofs.Among.{mode_with, mode_without, without_absent, without_twice, lawful_with, lawful_without}
 use Rattle.city_locks.proofs.Among.{own_answers}
 use Rattle.city_locks.proofs.Once.{once_with, once_without}

@@ -3,4 +3,4 @@ pub mod Holders
 pub mod Locks
 pub mod Mode
 pub mod WaitDie
-pub mod inside
+pub mod internal

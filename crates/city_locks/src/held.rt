@@ -18,7 +18,7 @@ use std::collections::BTreeMap;
 
 /// How an asker of an id stands.
 #[derive(Clone, Copy)]
-pub struct Standing {
+pub struct LockRequest {
     /// The answer to it.
     pub answer: Answer,
     /// The mode in which it holds the id.
@@ -28,18 +28,18 @@ pub struct Standing {
 }
 
 /// How an asker of the id stands. The id is looked up once.
-pub fn standing_at(held: &BTreeMap<Id, Holders>, stamp: u64, id: &Id, mode: Mode) -> Standing
+pub fn request_at(held: &BTreeMap<Id, Holders>, stamp: u64, id: &Id, mode: Mode) -> LockRequest
     ensures answer { result.answer ≡ answer_of held.now.entries stamp id.now mode }
     ensures own { result.own ≡ mode_of held.now.entries stamp id.now }
     ensures is_held { result.is_held ≡ is_some (get (slice_cmp nat_cmp) held.now id.now) }
 {
     match held.get(id) {
-        Some(holders) => Standing {
+        Some(holders) => LockRequest {
             answer: holders.answer(stamp, mode),
             own: holders.mode(stamp),
             is_held: true,
         },
-        None => Standing {
+        None => LockRequest {
             answer: Answer::Granted,
             own: None,
             is_held: false,
@@ -157,14 +157,14 @@ fn release_each(held: &mut BTreeMap<Id, Holders>, stamp: u64, ids: &[Id])
 fn release(held: &mut BTreeMap<Id, Holders>, stamp: u64, id: &Id)
     ensures { (q : List ℕ) → holders_of held.new.entries q ≡ cond (same_id id.now q) (without (holders_of held.old.entries id.now) stamp) (holders_of held.old.entries q) }
 {
-    if leave(held, stamp, id) {
+    if remove_holder(held, stamp, id) {
         let _ = held.remove(id);
     }
 }
 
 /// Removes the stamp from the holders of the id, and says whether that leaves
 /// the id without holders.
-fn leave(held: &mut BTreeMap<Id, Holders>, stamp: u64, id: &Id) -> bool
+fn remove_holder(held: &mut BTreeMap<Id, Holders>, stamp: u64, id: &Id) -> bool
     ensures empty { result ≡ true → holders_of held.new.entries id.now ≡ [] }
     ensures after { (q : List ℕ) → holders_of held.new.entries q ≡ cond (same_id id.now q) (without (holders_of held.old.entries id.now) stamp) (holders_of held.old.entries q) }
 {

@@ -8,13 +8,13 @@ ghost use Rattle.city_locks.specs.Mode.{stronger};
 ghost use Rattle.city_locks.specs.Holders.{with_holder, without};
 ghost use Rattle.city_model.specs.CityMap.{same_id, has_id};
 ghost use Rattle.city_locks.specs.Locks.{holders_of, answer_of, mode_of, Lawful, HoldOnce};
-ghost use Rattle.city_locks.specs.inside.Listing.{ids_of, IsListed};
+ghost use Rattle.city_locks.specs.internal.Listing.{ids_of, IsListed};
 ghost use Rattle.city_locks.specs.WaitDie.{IsWaitDie, IsInConflict};
 
 use crate::answer::Answer;
 use crate::by_stamp::push;
 use crate::held;
-use crate::held::Standing;
+use crate::held::LockRequest;
 use crate::holders::Holders;
 use city_model::OutOfMemory;
 use city_model::copied::Copied;
@@ -43,7 +43,7 @@ impl Model for LockTable {
 
     ghost Value = { Locks };
 
-    ghost use Rattle.city_locks.specs.inside.Table.{IsTable};
+    ghost use Rattle.city_locks.specs.internal.Table.{IsTable};
 
     ghost view = { λ a. a.holders.entries };
 
@@ -83,9 +83,9 @@ impl LockTable {
         ensures lawful { Lawful self.new }
         ensures once { HoldOnce self.new }
     {
-        let there = held::standing_at(&self.holders, stamp, id, mode);
+        let there = held::request_at(&self.holders, stamp, id, mode);
         if let Answer::Granted = there.answer {
-            take(
+            acquire(
                 &mut self.holders,
                 &mut self.locked,
                 self.alloc,
@@ -106,7 +106,7 @@ impl LockTable {
         ensures lawful { Lawful self.new }
         ensures once { HoldOnce self.new }
     {
-        give_back(&mut self.holders, &mut self.locked, stamp);
+        release(&mut self.holders, &mut self.locked, stamp);
     }
 
     /// The mode in which the stamp holds the id, if it does.
@@ -133,14 +133,14 @@ impl LockTable {
 ///
 /// If memory runs out, all holders stay as they are. The id may then be listed and not held: a
 /// release passes over it.
-fn take(
+fn acquire(
     holders: &mut BTreeMap<Id, Holders>,
     locked: &mut BTreeMap<u64, Sequence<Id>>,
     alloc: Global,
     stamp: u64,
     id: &Id,
     mode: Mode,
-    there: Standing,
+    there: LockRequest,
 ) -> Result<(), OutOfMemory>
     requires listed { IsListed holders.old.entries locked.old }
     requires own { there.own ≡ mode_of holders.old.entries stamp id.now }
@@ -182,7 +182,7 @@ fn list_unheld(
 }
 
 /// Removes the stamp from the holders of each id that is listed at it, and drops its list.
-fn give_back(
+fn release(
     holders: &mut BTreeMap<Id, Holders>,
     locked: &mut BTreeMap<u64, Sequence<Id>>,
     stamp: u64,

@@ -2,7 +2,7 @@
 use Rattle.city_model.proofs.Prelude.{arith, ◌≡◌, ℕ, List, [], ◌∷◌, Bool, true, false, ap, sym, subst, ◌∙◌, if◌then◌else◌}
 use Rattle.city_model.proofs.Prelude.{length, Option, refl, is_some, Command, Reply, Exclusive, CityMap, has_id, Action}
 use Rattle.city_model.proofs.Prelude.{Refuses, Edits, Marks, GoesBack, action, Effect, Answers, applied, effect}
-use Rattle.city_model.proofs.Prelude.{left, step, locks_of, Marked, View, unmarked, marks_from, IsSoundView, IsSound, Held}
+use Rattle.city_model.proofs.Prelude.{left, step, locks_of, Marked, Snapshot, unmarked, marks_from, IsSoundView, IsSound, Held}
 use Rattle.city_model.proofs.Prelude.{covers, AllHeld, Answered, IsTraceUnderLocks, locks_id_exclusively, Lock}
 use Rattle.city_model.proofs.Prelude.{answered, locks_id, AgreeOn, Mode, Trace}
 use Rattle.city_model.specs.Actions as actions
@@ -26,7 +26,7 @@ module _ (held : Held) (other : CityMap) where
   AreCarried [] = Unit {0}
   AreCarried (k ∷ ks) = IsCarried k.1 × AreCarried ks
 
-  abbrev pub IsCarriedView : View → Type 0
+  abbrev pub IsCarriedView : Snapshot → Type 0
   IsCarriedView v = IsCarried v.map × AreCarried v.marks
 
   -- ---- going back
@@ -39,7 +39,7 @@ module _ (held : Held) (other : CityMap) where
   are_from name [] is = tt
   are_from name (k ∷ ks) is = grind (arith, are_from name ks is.1)
 
-  is_back : (name : List ℕ) (v : View) (ks : List Marked) → IsCarriedView v → AreCarried ks
+  is_back : (name : List ℕ) (v : Snapshot) (ks : List Marked) → IsCarriedView v → AreCarried ks
       → IsCarriedView (left v (back name v ks))
   is_back name v [] is are = is
   is_back name v (k ∷ ks) is are = (are.0, are)
@@ -54,12 +54,12 @@ module _ (held : Held) (other : CityMap) where
   carried_effect (Answers reply u) = Answers reply (carried held other u)
   carried_effect e = e
 
-  back_carried : (name : List ℕ) (v : View) (ks : List Marked)
+  back_carried : (name : List ℕ) (v : Snapshot) (ks : List Marked)
       → back name (carried held other v) (carried_marks held other ks) ≡ carried_effect (back name v ks)
   back_carried name v [] = refl
   back_carried name v (k ∷ ks) = refl
 
-  applied_carried : (v : View) (a : Action) → applied (carried held other v) (carried_action a) ≡ carried_effect (applied v a)
+  applied_carried : (v : Snapshot) (a : Action) → applied (carried held other v) (carried_action a) ≡ carried_effect (applied v a)
   applied_carried v (Refuses cause) = refl
   applied_carried v (Edits reply ids k) = refl
   applied_carried v (Marks name) = refl
@@ -84,7 +84,7 @@ module _ (held : Held) (other : CityMap) where
 
   -- ---- one command
 
-  module _ (v : View) (c : Command) (s : IsSoundView v) (t : IsSoundView (carried held other v)) (is : IsCarriedView v)
+  module _ (v : Snapshot) (c : Command) (s : IsSoundView v) (t : IsSoundView (carried held other v)) (is : IsCarriedView v)
       (all : AllHeld held (locks_of v.map c)) where
     on : AgreeOn (locks_of v.map c) v.map (carried_map held other v.map)
     on q h = grind (arith, is.0 q, held_named held (locks_of v.map c) q all h)
@@ -115,7 +115,7 @@ module _ (held : Held) (other : CityMap) where
     is_carried_left (GoesBack name) now = is_back name v (marks_from name v.marks) is (are_from name v.marks is.1)
     is_carried_left a now = grind arith
 
-    module _ (reply : Reply) (u : View) (answers : effect v c ≡ Answers reply u) where
+    module _ (reply : Reply) (u : Snapshot) (answers : effect v c ≡ Answers reply u) where
       answer_carried : effect (carried held other v) c ≡ Answers reply (carried held other u)
       answer_carried = effect_carried ∙ ap carried_effect answers
 
@@ -124,7 +124,7 @@ module _ (held : Held) (other : CityMap) where
           rw (answered_next v c reply u answers) (is_carried_left (action v.map c) is_carried_after)
 
   -- a history under locks holds from the view that is carried, and leads to the carried one
-  pub history_carried : (v : View) (ds : List Answered) (w : View) → IsSoundView v → IsSoundView (carried held other v)
+  pub history_carried : (v : Snapshot) (ds : List Answered) (w : Snapshot) → IsSoundView v → IsSoundView (carried held other v)
       → IsCarriedView v
       → IsTraceUnderLocks held v ds w → IsTraceUnderLocks held (carried held other v) ds (carried held other w)
   history_carried v [] w s t is f = ap (carried held other) f
@@ -141,7 +141,7 @@ module _ (held : Held) (other : CityMap) where
 
 -- with its locks held, a history that begins without marks holds from each other sound map that agrees where
 -- anything is held
-pub history_kept : (held : Held) (m other : CityMap) (ds : List Answered) (w : View) → IsSound m → IsSound other
+pub history_kept : (held : Held) (m other : CityMap) (ds : List Answered) (w : Snapshot) → IsSound m → IsSound other
     → ((q : List ℕ) → is_some (held q) ≡ true → m q ≡ other q)
     → IsTraceUnderLocks held (unmarked m) ds w → IsTraceUnderLocks held (unmarked other) ds (carried held other w)
 history_kept held m other ds w s t agree f =
@@ -171,13 +171,13 @@ named_held ls = all_held (named_in ls) ls (λ q h. grind arith) (λ q h. grind a
 
 -- ---- the commands with what they are answered
 
-trace_long : (v : View) (cs : List Command) (rs : List Reply) (w : View) → Trace v cs rs w → length cs ≡ length rs
+trace_long : (v : Snapshot) (cs : List Command) (rs : List Reply) (w : Snapshot) → Trace v cs rs w → length cs ≡ length rs
 trace_long v [] [] w f = refl
 trace_long v (c ∷ cs) (r ∷ rs) w f =
     goes_on_case _ (effect v c) (λ reply u is g. let rest = trace_long u cs rs w g.1 in omega arith) f
 trace_long v cs rs w f = absurd f
 
-trace_follows : (v : View) (cs : List Command) (rs : List Reply) (w : View) → Trace v cs rs w
+trace_follows : (v : Snapshot) (cs : List Command) (rs : List Reply) (w : Snapshot) → Trace v cs rs w
     → IsTraceUnderLocks (named_by v cs) v (answered cs rs) w
 trace_follows v [] [] w f = f
 trace_follows v (c ∷ cs) (r ∷ rs) w f =
@@ -193,7 +193,7 @@ trace_follows v (c ∷ cs) (r ∷ rs) w f =
     )
 trace_follows v cs rs w f = absurd f
 
-read_off : (held : Held) (v : View) (cs : List Command) (rs : List Reply) (w : View) → length cs ≡ length rs
+read_off : (held : Held) (v : Snapshot) (cs : List Command) (rs : List Reply) (w : Snapshot) → length cs ≡ length rs
     → IsTraceUnderLocks held v (answered cs rs) w → Trace v cs rs w
 read_off held v [] [] w e f = f
 read_off held v (c ∷ cs) (r ∷ rs) w e f =

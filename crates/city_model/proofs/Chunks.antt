@@ -9,7 +9,7 @@ use Rattle.std.specs.declared.alloc.Global.{Global}
 use Rattle.std.specs.List.{slice_set}
 use Rattle.std.proofs.lemmas.Grind.{flat_map-append}
 use Rattle.std.proofs.lemmas.List.{drop_all, set-get_or, set_split}
-use Rattle.city_model.specs.inside.ChunkSearch.{HasIdAt}
+use Rattle.city_model.specs.internal.ChunkSearch.{HasIdAt}
 use Rattle.city_model.proofs.IdLists.{without_middle}
 
 -- parts that are alike make the same list

@@ -7,7 +7,7 @@ use Rattle.std.specs.Ordering.{int_cmp, int_eq, ordering_then}
 use Rattle.std.proofs.lemmas.Bool.{not-false}
 use Rattle.std.proofs.lemmas.Cmp.{int_cmp_total, on_total, then_total}
 use Rattle.city_model.specs.Shells.{same_edge, runs_both_ways}
-use Rattle.city_model.specs.inside.RisingEdges.{rises}
+use Rattle.city_model.specs.internal.RisingEdges.{rises}
 use Rattle.city_model.proofs.SortedEdges.{all_counted, counted_all, times-filter_kept, times-filter_left}
 use Rattle.city_model.proofs.SortedEdges.{times_permutation, sorted_same}
 use Rattle.city_model.proofs.IdLists.{same_truth}

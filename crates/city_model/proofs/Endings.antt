@@ -1,6 +1,6 @@
 -- Where the first command that ends a script stands, and what it is answered.
 use Rattle.city_model.proofs.Prelude.{◌≡◌, ℕ, ◌-◌, ◌≤◌, arith, ◌==◌, List, false, refl, Command, Commit, Abort, Orphan}
-use Rattle.city_model.proofs.Prelude.{Committed, Aborted, Refused, View, effect, IsReply, Does, HasNoOrphan}
+use Rattle.city_model.proofs.Prelude.{Committed, Aborted, Refused, Snapshot, effect, IsReply, Does, HasNoOrphan}
 use Rattle.city_model.proofs.Prelude.{IsLeastOrphan, is_end}
 use Rattle.std.proofs.Common.{inr}
 use Rattle.city_model.proofs.GoingOn.{effect_is, answered_no_ending}
@@ -10,17 +10,17 @@ zero_rest n m k h e = grind (arith, h, e)
 
 -- ---- the replies that end a script
 
-not_committed : {X : Type 0} (v : View) (c : Command) → is_end c ≡ false → IsReply v (effect v c) Committed → X
+not_committed : {X : Type 0} (v : Snapshot) (c : Command) → is_end c ≡ false → IsReply v (effect v c) Committed → X
 not_committed v c on h = let is = effect_is v c on in grind (arith, answered_no_ending v c _ _ is)
 
 -- only a Commit of a map without orphan is answered so
-pub committed_at : (v : View) (c : Command) (w : View) → Does v c Committed w → (c ≡ Commit) × HasNoOrphan v.map
+pub committed_at : (v : Snapshot) (c : Command) (w : Snapshot) → Does v c Committed w → (c ≡ Commit) × HasNoOrphan v.map
 committed_at v Commit w h = (refl, grind arith)
 committed_at v Abort w h = absurd (grind arith)
 committed_at v c w h = not_committed v c refl h.0
 
-pub commit_refused : (v : View) (id : List ℕ) → IsLeastOrphan v.map id → Does v Commit (Refused (Orphan id)) v
+pub commit_refused : (v : Snapshot) (id : List ℕ) → IsLeastOrphan v.map id → Does v Commit (Refused (Orphan id)) v
 commit_refused v id least = (inr (id, refl, least), refl)
 
-pub aborts : (v : View) → Does v Abort Aborted v
+pub aborts : (v : Snapshot) → Does v Abort Aborted v
 aborts v = (refl, refl)

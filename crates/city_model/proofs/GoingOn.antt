@@ -1,23 +1,23 @@
 -- A command that doesn't end its script is answered, and goes on.
-use Rattle.city_model.proofs.Prelude.{arith, ◌≡◌, Bool, true, false, Command, Reply, Committed, Aborted, View, Action}
+use Rattle.city_model.proofs.Prelude.{arith, ◌≡◌, Bool, true, false, Command, Reply, Committed, Aborted, Snapshot, Action}
 use Rattle.city_model.proofs.Prelude.{Effect, Answers, applied, effect, action, answer, left, step, GoesOn, is_end}
 use Rattle.city_model.specs.Meaning.{reply_of}
 use Rattle.city_model.proofs.ActionKinds.{IsKindOf, kind_of}
 
-pub goes_on_case : {X : Type 0} (P : Reply → View → Type 0) (e : Effect)
-    → ((reply : Reply) (u : View) → e ≡ Answers reply u → P reply u → X) → GoesOn e P → X
+pub goes_on_case : {X : Type 0} (P : Reply → Snapshot → Type 0) (e : Effect)
+    → ((reply : Reply) (u : Snapshot) → e ≡ Answers reply u → P reply u → X) → GoesOn e P → X
 goes_on_case P e f g = grind arith
 
 -- what holds then of the reply and of what is seen gives something else of them
-pub goes_on_to : (P Q : Reply → View → Type 0) (e : Effect)
-    → ((reply : Reply) (u : View) → e ≡ Answers reply u → P reply u → Q reply u) → GoesOn e P → GoesOn e Q
+pub goes_on_to : (P Q : Reply → Snapshot → Type 0) (e : Effect)
+    → ((reply : Reply) (u : Snapshot) → e ≡ Answers reply u → P reply u → Q reply u) → GoesOn e P → GoesOn e Q
 goes_on_to P Q e f g = grind arith
 
-pub answered_reply : (v : View) (c : Command) (reply : Reply) (u : View) → effect v c ≡ Answers reply u
+pub answered_reply : (v : Snapshot) (c : Command) (reply : Reply) (u : Snapshot) → effect v c ≡ Answers reply u
     → reply ≡ answer v c
 answered_reply v c reply u is = grind arith
 
-pub answered_next : (v : View) (c : Command) (reply : Reply) (u : View) → effect v c ≡ Answers reply u → u ≡ step v c
+pub answered_next : (v : Snapshot) (c : Command) (reply : Reply) (u : Snapshot) → effect v c ≡ Answers reply u → u ≡ step v c
 answered_next v c reply u is = grind arith
 
 -- ---- an action of the command
@@ -28,22 +28,22 @@ is_ending Committed = true
 is_ending Aborted = true
 is_ending reply = false
 
-applied_goes_on : (v : View) (c : Command) (a : Action) → IsKindOf c a → is_end c ≡ false
+applied_goes_on : (v : Snapshot) (c : Command) (a : Action) → IsKindOf c a → is_end c ≡ false
     → applied v a ≡ Answers (reply_of (applied v a)) (left v (applied v a))
 applied_goes_on v c a k on = grind arith
 
-applied_no_end : (v : View) (c : Command) (a : Action) (reply : Reply) (u : View) → IsKindOf c a
+applied_no_end : (v : Snapshot) (c : Command) (a : Action) (reply : Reply) (u : Snapshot) → IsKindOf c a
     → applied v a ≡ Answers reply u → (is_end c ≡ false) × (is_ending reply ≡ false)
 applied_no_end v c a reply u k is = grind arith
 
-pub effect_is : (v : View) (c : Command) → is_end c ≡ false → effect v c ≡ Answers (answer v c) (step v c)
+pub effect_is : (v : Snapshot) (c : Command) → is_end c ≡ false → effect v c ≡ Answers (answer v c) (step v c)
 effect_is v c on = applied_goes_on v c (action v.map c) (kind_of v.map c) on
 
 -- a command that is answered doesn't end its script
-pub answered_no_end : (v : View) (c : Command) (reply : Reply) (u : View) → effect v c ≡ Answers reply u
+pub answered_no_end : (v : Snapshot) (c : Command) (reply : Reply) (u : Snapshot) → effect v c ≡ Answers reply u
     → is_end c ≡ false
 answered_no_end v c reply u is = (applied_no_end v c (action v.map c) reply u (kind_of v.map c) is).0
 
-pub answered_no_ending : (v : View) (c : Command) (reply : Reply) (u : View) → effect v c ≡ Answers reply u
+pub answered_no_ending : (v : Snapshot) (c : Command) (reply : Reply) (u : Snapshot) → effect v c ≡ Answers reply u
     → is_ending reply ≡ false
 answered_no_ending v c reply u is = (applied_no_end v c (action v.map c) reply u (kind_of v.map c) is).1

@@ -1,6 +1,6 @@
 -- The commands of an open script over a view, what they hold, and one more of them.
 use Rattle.city_model.proofs.Prelude.{arith, ◌≡◌, ℕ, List, [], ◌∷◌, ◌++◌, true, false, sym, subst, is_some, false≢true}
-use Rattle.city_model.proofs.Prelude.{Command, Reply, Mode, Exclusive, Answers, effect, locks_of, View, IsSoundView}
+use Rattle.city_model.proofs.Prelude.{Command, Reply, Mode, Exclusive, Answers, effect, locks_of, Snapshot, IsSoundView}
 use Rattle.city_model.proofs.Prelude.{Held, Lock, covers, AllHeld, Answered, IsTraceUnderLocks, locks_id}
 use Rattle.city_model.proofs.Prelude.{locks_id_exclusively}
 use Rattle.city_model.proofs.Ids.{same_id_true}
@@ -33,10 +33,10 @@ more_held held more [] h a = tt
 more_held held more (l ∷ ls) h a = (h l.0 l.1 a.0, more_held held more ls h a.1)
 
 -- what stands after a command that was answered so
-abbrev pub Next : Held → Reply → List Answered → View → Reply → View → Type 0
+abbrev pub Next : Held → Reply → List Answered → Snapshot → Reply → Snapshot → Type 0
 Next held r ds w reply u = (reply ≡ r) × IsTraceUnderLocks held u ds w
 
-pub follows_more : (held more : Held) (v : View) (ds : List Answered) (w : View) (c : Command) (r : Reply) (k : View)
+pub follows_more : (held more : Held) (v : Snapshot) (ds : List Answered) (w : Snapshot) (c : Command) (r : Reply) (k : Snapshot)
     → HoldsMore held more → IsTraceUnderLocks held v ds w → AllHeld more (locks_of w.map c) → effect w c ≡ Answers r k
     → IsTraceUnderLocks more v (ds ++ (c, r) ∷ []) k
 follows_more held more v [] w c r k h f a e = grind arith
@@ -46,7 +46,7 @@ follows_more held more v (d ∷ ds) w c r k h f a e = (
 )
 
 -- the same history with more locks
-pub follows_held : (held more : Held) (v : View) (ds : List Answered) (w : View) → HoldsMore held more
+pub follows_held : (held more : Held) (v : Snapshot) (ds : List Answered) (w : Snapshot) → HoldsMore held more
     → IsTraceUnderLocks held v ds w → IsTraceUnderLocks more v ds w
 follows_held held more v [] w h f = f
 follows_held held more v (d ∷ ds) w h f = (
@@ -55,12 +55,12 @@ follows_held held more v (d ∷ ds) w h f = (
 )
 
 -- the same with more locks, from and to equal views
-pub follows_same : (held more : Held) (v other : View) (ds : List Answered) (w k : View) → HoldsMore held more
+pub follows_same : (held more : Held) (v other : Snapshot) (ds : List Answered) (w k : Snapshot) → HoldsMore held more
     → v ≡ other → w ≡ k → IsTraceUnderLocks held v ds w → IsTraceUnderLocks more other ds k
 follows_same held more v other ds w k h e g f = search (arith, follows_held)
 
 -- where a history leads is sound
-pub follows_sound : (held : Held) (v : View) (ds : List Answered) (w : View) → IsSoundView v
+pub follows_sound : (held : Held) (v : Snapshot) (ds : List Answered) (w : Snapshot) → IsSoundView v
     → IsTraceUnderLocks held v ds w → IsSoundView w
 follows_sound held v [] w s f = subst IsSoundView (sym f) s
 follows_sound held v (d ∷ ds) w s f =

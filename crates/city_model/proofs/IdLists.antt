@@ -82,7 +82,7 @@ pub distinct_more : (ids : List (List ℕ)) (id : List ℕ) → AreDistinct ids 
 distinct_more [] id d h = (refl, tt)
 distinct_more (x ∷ xs) id d h = grind (arith, list_any-append, same_id_back, distinct_more xs id)
 
--- ---- lists of ids in byte order: none recurs, and what halving finds is there
+-- ---- lists of ids in byte order: none recurs, and what a binary search finds is there
 
 is_less : (o : Ordering) → is_lt o ≡ true → o ≡ Less
 is_less o h = grind arith

@@ -3,7 +3,7 @@ use Rattle.city_model.proofs.Prelude.{arith, ◌≡◌, List, [], ◌∷◌, Boo
 use Rattle.city_model.proofs.Prelude.{Surface}
 use Rattle.std.specs.Prelude.{◌||◌}
 use Rattle.city_model.specs.Shells.{joined, surfaces_of}
-use Rattle.city_model.specs.inside.BorrowedBounds.{Boundaries, Surfaces, Shells, Solids, boundaries_of}
+use Rattle.city_model.specs.internal.BorrowedBounds.{Boundaries, Surfaces, Shells, Solids, boundaries_of}
 
 -- some item of the lists passes the test exactly where some list has one that does
 list_any-joined : {T : Type 0} (p : T → Bool) (xss : List (List T))

@@ -10,7 +10,7 @@ use Rattle.city_model.specs.Attributes.{attributes, attributes_in, put_each, wit
 use Rattle.city_model.specs.Attributes.{members_or_none}
 use Rattle.city_model.specs.Kept.{has_no_member}
 use Rattle.city_model.specs.Members.{without, without_each, AreOrdered}
-use Rattle.city_model.specs.inside.KeptIn.{with_own}
+use Rattle.city_model.specs.internal.KeptIn.{with_own}
 use Rattle.std.proofs.lemmas.Cmp.{tied_itself}
 use Rattle.city_model.proofs.Ids.{same_id_itself}
 use Rattle.city_model.proofs.AttributeLaws.{put-without}

@@ -1,6 +1,6 @@
 -- What a script leaves of a sound map is sound, and of a lawful map lawful.
 use Rattle.city_model.proofs.Prelude.{◌≡◌, ◌<◌, ℕ, suc, ◌+◌, List, [], ◌∷◌, length, take, true, false, refl, sym, subst}
-use Rattle.city_model.proofs.Prelude.{arith, false≢true, Command, Reply, End, Outcome, CityMap, View, unmarked}
+use Rattle.city_model.proofs.Prelude.{arith, false≢true, Command, Reply, End, Outcome, CityMap, Snapshot, unmarked}
 use Rattle.city_model.proofs.Prelude.{IsSoundView, Effect, Answers, GoesOn, effect, is_refusal, HasNoOrphan, IsSound, IsLawful}
 use Rattle.city_model.proofs.Prelude.{Scripted, Trace, EndsFrom, IsScriptResult, view_at_end, map_left, left_by}
 use Rattle.city_model.proofs.Prelude.{model_after, IsSerialHistoryFrom, IsSerialHistory, is_end, ends_once, step}
@@ -14,22 +14,22 @@ use Rattle.city_model.proofs.MarksKept.{sound_effect}
 
 -- ---- a trace
 
-pub trace_sound : (v : View) (cs : List Command) (rs : List Reply) (w : View) → IsSoundView v → Trace v cs rs w
+pub trace_sound : (v : Snapshot) (cs : List Command) (rs : List Reply) (w : Snapshot) → IsSoundView v → Trace v cs rs w
     → IsSoundView w
 trace_sound v [] [] w s f = subst IsSoundView (sym f) s
 trace_sound v (c ∷ cs) (r ∷ rs) w s f =
     goes_on_case _ (effect v c) (λ reply u is g. trace_sound u cs rs w (sound_effect v c reply u is s) g.1) f
 trace_sound v cs rs w s f = absurd f
 
-abbrev IsTraced : View → List Command → Type 0
-IsTraced v cs = (replies : List Reply) × (w : View) × Trace v cs replies w
+abbrev IsTraced : Snapshot → List Command → Type 0
+IsTraced v cs = (replies : List Reply) × (w : Snapshot) × Trace v cs replies w
 
-traced_further : (v : View) (c : Command) (cs : List Command) → is_end c ≡ false → IsTraced (step v c) cs
+traced_further : (v : Snapshot) (c : Command) (cs : List Command) → is_end c ≡ false → IsTraced (step v c) cs
     → IsTraced v (c ∷ cs)
 traced_further v c cs on t = (answer v c ∷ t.0, t.1, grind (arith, effect_is))
 
 -- the commands of a script before its last are all answered
-pub trace_there : (v : View) (cs : List Command) (k : ℕ) → ends_once cs ≡ true → k < length cs → IsTraced v (take k cs)
+pub trace_there : (v : Snapshot) (cs : List Command) (k : ℕ) → ends_once cs ≡ true → k < length cs → IsTraced v (take k cs)
 trace_there v [] k e less = absurd (false≢true e)
 trace_there v (c ∷ cs) zero e less = ([], v, refl)
 trace_there v (c ∷ cs) (suc k) e less =
@@ -37,26 +37,26 @@ trace_there v (c ∷ cs) (suc k) e less =
 
 -- ---- a script to its end
 
-sound_to : (v : View) (e : Effect) (others : View → View) → IsSoundView v
-    → ((reply : Reply) (u : View) → e ≡ Answers reply u → IsSoundView (others u)) → IsSoundView (goes_to v e others)
+sound_to : (v : Snapshot) (e : Effect) (others : Snapshot → Snapshot) → IsSoundView v
+    → ((reply : Reply) (u : Snapshot) → e ≡ Answers reply u → IsSoundView (others u)) → IsSoundView (goes_to v e others)
 sound_to v (Answers reply u) others s f =
     bool_cases (is_refusal reply) (λ h. rw h s) (λ h. rw h (f reply u refl))
 sound_to v e others s f = s
 
-sound_at_end : (v : View) (cs : List Command) → IsSoundView v → IsSoundView (view_at_end v cs)
+sound_at_end : (v : Snapshot) (cs : List Command) → IsSoundView v → IsSoundView (view_at_end v cs)
 sound_at_end v [] s = s
 sound_at_end v (c ∷ cs) s = sound_to v _ _ s (λ reply u is. sound_at_end u cs (sound_effect v c reply u is s))
 
 -- how it ends after a command that was answered so
-abbrev pub EndsFurther : Reply → ℕ → List Command → List Reply → Outcome → Reply → View → Type 0
+abbrev pub EndsFurther : Reply → ℕ → List Command → List Reply → Outcome → Reply → Snapshot → Type 0
 EndsFurther r i cs rs outcome reply u = (reply ≡ r) × (is_refusal reply ≡ false) × EndsFrom u (i + 1) cs rs outcome
 
-no_orphan_to : (v : View) (e : Effect) (r : Reply) (i : ℕ) (cs : List Command) (rs : List Reply)
-    → ((u : View) → EndsFrom u (i + 1) cs rs Outcome.Committed → HasNoOrphan (view_at_end u cs).map)
+no_orphan_to : (v : Snapshot) (e : Effect) (r : Reply) (i : ℕ) (cs : List Command) (rs : List Reply)
+    → ((u : Snapshot) → EndsFrom u (i + 1) cs rs Outcome.Committed → HasNoOrphan (view_at_end u cs).map)
     → GoesOn e (EndsFurther r i cs rs Outcome.Committed) → HasNoOrphan (goes_to v e (λ u. view_at_end u cs)).map
 no_orphan_to v e r i cs rs f g = grind arith
 
-no_orphan_from : (v : View) (i : ℕ) (cs : List Command) (rs : List Reply) → EndsFrom v i cs rs Outcome.Committed
+no_orphan_from : (v : Snapshot) (i : ℕ) (cs : List Command) (rs : List Reply) → EndsFrom v i cs rs Outcome.Committed
     → HasNoOrphan (view_at_end v cs).map
 no_orphan_from v i [] rs h = absurd h
 no_orphan_from v i (c ∷ cs) [] h = grind (arith, committed_at v c v h)

@@ -6,10 +6,10 @@ use Rattle.city_model.proofs.Prelude.{is_orphan, AreDistinct, same_family, HasNo
 use Rattle.city_model.proofs.Prelude.{are_distinct, parent_fits, body_fault}
 use Rattle.std.proofs.Common.{◌⊎◌}
 use Rattle.std.specs.Prelude.{is_none}
-use Rattle.city_model.specs.inside.Faultless.{IsFaultless}
+use Rattle.city_model.specs.internal.Faultless.{IsFaultless}
 use Rattle.city_model.specs.Misrelated.{IsMisrelatedAt, IsLeastMisrelated}
 use Rattle.city_model.specs.Relations.{IsInOrder, IsRelated}
-use Rattle.city_model.specs.inside.RelationTests.{is_in_order}
+use Rattle.city_model.specs.internal.RelationTests.{is_in_order}
 use Rattle.city_model.proofs.FirstEntry.{first_that, least_in, none_in, all_in, in_all}
 use Rattle.city_model.proofs.Ids.{same_id_true, same_id_itself}
 

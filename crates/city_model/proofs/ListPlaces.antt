@@ -8,7 +8,7 @@ use Rattle.std.proofs.lemmas.List.{set_split, set-get_or, drop_more, drop_all, t
 use Rattle.serde_json.specs.Data.{Data, Members, put}
 use Rattle.serde_json.specs.Find.{get_member}
 use Rattle.city_model.specs.Members.{without, AllAbove, AreOrdered}
-use Rattle.city_model.specs.inside.MemberLists.{joined, all_joined, reaches, AllBelow, IsPlace}
+use Rattle.city_model.specs.internal.MemberLists.{joined, all_joined, reaches, AllBelow, IsPlace}
 use Rattle.city_model.proofs.MemberLists.{joined-assoc, ordered_left, ordered_right, below_joined, below_first}
 use Rattle.city_model.proofs.MemberLists.{below_second, not_reached, above_rest, get_member-joined_above}
 use Rattle.city_model.proofs.MemberLists.{get_member-joined_below, put-joined_above, put-joined_below}

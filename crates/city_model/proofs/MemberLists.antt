@@ -13,7 +13,7 @@ use Rattle.serde_json.specs.View.{view}
 use Rattle.serde_json.specs.declared.value.Value.{Value}
 use Rattle.serde_json.specs.Find.{get_member}
 use Rattle.city_model.specs.Members.{without, AllAbove, AreOrdered}
-use Rattle.city_model.specs.inside.MemberLists.{Entries, entries_view, joined, reaches, AllBelow}
+use Rattle.city_model.specs.internal.MemberLists.{Entries, entries_view, joined, reaches, AllBelow}
 
 -- ---- one list behind another
 

@@ -6,7 +6,7 @@ use Rattle.city_model.specs.Actions.{expect_at, read_reply}
 use Rattle.city_model.specs.Attributes.{has_attributes}
 use Rattle.city_model.specs.declared.command.Command.TheVariants.{Expect}
 use Rattle.city_model.specs.declared.command.Reply.TheVariants.{Expected}
-use Rattle.city_model.specs.inside.Plans.{AreWritesOf}
+use Rattle.city_model.specs.internal.Plans.{AreWritesOf}
 
 none_written : (m : CityMap) (c : Command) (r : Reply) (ws : Change) → action m c ≡ Edits r [] m → ws ≡ []
     → AreWritesOf m c r ws

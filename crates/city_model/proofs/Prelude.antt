@@ -35,7 +35,7 @@ pub use Rattle.city_model.specs.CityMap.{parents_of, same_id}
 pub use Rattle.city_model.specs.FrameLaw.{AgreeOn}
 pub use Rattle.city_model.specs.Integral.{members_integral}
 pub use Rattle.city_model.specs.Least.{IsLeast}
-pub use Rattle.city_model.specs.Marks.{IsSoundView, Marked, View, marks_from, unmarked}
+pub use Rattle.city_model.specs.Marks.{IsSoundView, Marked, Snapshot, marks_from, unmarked}
 pub use Rattle.city_model.specs.Meaning.{Answers, Does, Effect, GoesOn, IsReply, answer, applied, effect, exclusively}
 pub use Rattle.city_model.specs.Meaning.{is_refusal, left, locks_of, step}
 pub use Rattle.city_model.specs.Relations.{AreDistinct, HasNoOrphan, IsLawful, IsLeastOrphan, IsOrphanAt, IsSound}
@@ -68,8 +68,8 @@ pub use Rattle.city_model.specs.declared.object.Shape.{Shape}
 pub use Rattle.city_model.specs.declared.object_type.ObjectType.{ObjectType}
 pub use Rattle.city_model.specs.declared.object_type.ObjectType.TheVariants.{Bridge, Building, BuildingPart, LandUse}
 pub use Rattle.city_model.specs.declared.object_type.ObjectType.TheVariants.{Road}
-pub use Rattle.city_model.specs.inside.Plans.{unlinked}
-pub use Rattle.city_model.specs.inside.RelationTests.{are_distinct, are_increasing, are_increasing_from, is_misrelated}
-pub use Rattle.city_model.specs.inside.RelationTests.{parent_fits}
-pub use Rattle.city_model.specs.inside.RingFaults.{is_faulty}
-pub use Rattle.city_model.specs.inside.RisingEdges.{rising}
+pub use Rattle.city_model.specs.internal.Plans.{unlinked}
+pub use Rattle.city_model.specs.internal.RelationTests.{are_distinct, are_increasing, are_increasing_from, is_misrelated}
+pub use Rattle.city_model.specs.internal.RelationTests.{parent_fits}
+pub use Rattle.city_model.specs.internal.RingFaults.{is_faulty}
+pub use Rattle.city_model.specs.internal.RisingEdges.{rising}

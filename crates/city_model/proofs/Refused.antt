@@ -1,6 +1,6 @@
 -- Replies that refuse, and what a refused command leaves.
 use Rattle.city_model.proofs.Prelude.{arith, ◌≡◌, true, false, List, ℕ, Command, Cause, Reply, Refused, CityMap}
-use Rattle.city_model.proofs.Prelude.{Action, Edits, action, View, Answers, Does, applied, left, effect, is_refusal}
+use Rattle.city_model.proofs.Prelude.{Action, Edits, action, Snapshot, Answers, Does, applied, left, effect, is_refusal}
 use Rattle.city_model.proofs.Prelude.{answer, step}
 use Rattle.city_model.specs.Meaning.{reply_of}
 use Rattle.city_model.proofs.ActionKinds.{IsKindOf, kind_of}
@@ -15,14 +15,14 @@ pub done_unrefused : (m : CityMap) (c : Command) (reply : Reply) (ids : List (Li
     → action m c ≡ Edits reply ids n → is_refusal reply ≡ false
 done_unrefused m c reply ids n is = edited c (action m c) reply ids n (kind_of m c) is
 
-applied_stays : (v : View) (c : Command) (a : Action) → IsKindOf c a → is_refusal (reply_of (applied v a)) ≡ true
+applied_stays : (v : Snapshot) (c : Command) (a : Action) → IsKindOf c a → is_refusal (reply_of (applied v a)) ≡ true
     → left v (applied v a) ≡ v
 applied_stays v c a k h = grind arith
 
 -- a refused command changes nothing
-pub refused_stays : (v : View) (c : Command) → is_refusal (answer v c) ≡ true → step v c ≡ v
+pub refused_stays : (v : Snapshot) (c : Command) → is_refusal (answer v c) ≡ true → step v c ≡ v
 refused_stays v c h = applied_stays v c (action v.map c) (kind_of v.map c) h
 
-pub refused_does : (v : View) (c : Command) (cause : Cause) (u : View) → effect v c ≡ Answers (Refused cause) u
+pub refused_does : (v : Snapshot) (c : Command) (cause : Cause) (u : Snapshot) → effect v c ≡ Answers (Refused cause) u
     → Does v c (Refused cause) v
 refused_does v c cause u is = grind (arith, answered_next v c (Refused cause) u is, refused_stays v c)

@@ -1,7 +1,7 @@
 -- A script whose first commands stand: its result where the next one ends it, and one more reply.
 use Rattle.city_model.proofs.Prelude.{is_refusal, ◌≡◌, ℕ, ◌+◌, false, true, List, [], ◌∷◌, ◌++◌, length, Some, ap, sym}
 use Rattle.city_model.proofs.Prelude.{◌∙◌, arith, slice_get, if◌then◌else◌, list_any, Command, Commit, Reply, Outcome}
-use Rattle.city_model.proofs.Prelude.{View, EndsAt, EndsFrom, view_at_end, is_end, ends_once, Held, answered}
+use Rattle.city_model.proofs.Prelude.{Snapshot, EndsAt, EndsFrom, view_at_end, is_end, ends_once, Held, answered}
 use Rattle.city_model.proofs.Prelude.{IsTraceUnderLocks, Effect, GoesOn, effect, or_parts, subst}
 use Rattle.city_model.specs.Runs.{goes_to}
 use Rattle.city_model.specs.Scripts.{is_empty_list}
@@ -27,13 +27,13 @@ answered_more (d ∷ cs) [] c r h = grind arith
 answered_more (d ∷ cs) (s ∷ rs) c r h = grind (arith, answered_more cs rs c r)
 
 -- the result of a script whose first commands stand so, and whose next command ends it so
-ends_more : (held : Held) (e : Effect) (w : View) (i : ℕ) (cs : List Command) (r : Reply) (rs : List Reply) (o : Outcome)
+ends_more : (held : Held) (e : Effect) (w : Snapshot) (i : ℕ) (cs : List Command) (r : Reply) (rs : List Reply) (o : Outcome)
     → is_refusal r ≡ false
-    → ((u : View) → IsTraceUnderLocks held u (answered cs rs) w → EndsFrom u (i + 1) cs rs o)
+    → ((u : Snapshot) → IsTraceUnderLocks held u (answered cs rs) w → EndsFrom u (i + 1) cs rs o)
     → GoesOn e (Next held r (answered cs rs) w) → GoesOn e (EndsFurther r i cs rs o)
 ends_more held e w i cs r rs o h f g = grind arith
 
-pub result_from : (held : Held) (v w : View) (i : ℕ) (cs : List Command) (rs : List Reply) (c : Command) (o : Outcome)
+pub result_from : (held : Held) (v w : Snapshot) (i : ℕ) (cs : List Command) (rs : List Reply) (c : Command) (o : Outcome)
     → IsTraceUnderLocks held v (answered cs rs) w → list_any is_refusal rs ≡ false → slice_get cs (length rs) ≡ Some c
     → EndsAt w c (i + length rs) o → EndsFrom v i cs rs o
 result_from held v w i [] rs c o f u h k = absurd (cc)
@@ -44,13 +44,13 @@ result_from held v w i (d ∷ cs) (r ∷ rs) c o f u h k =
     (λ x g. result_from held x w (i + 1) cs rs c o g parts.1 h (subst (λ n. EndsAt w c n o) (omega arith) k)) f.1
 
 -- a script whose next command is Commit leaves what its first commands lead to
-at_end_more : (held : Held) (v : View) (e : Effect) (w : View) (cs : List Command) (r : Reply) (rs : List Reply)
+at_end_more : (held : Held) (v : Snapshot) (e : Effect) (w : Snapshot) (cs : List Command) (r : Reply) (rs : List Reply)
     → is_refusal r ≡ false
-    → ((u : View) → IsTraceUnderLocks held u (answered cs rs) w → view_at_end u cs ≡ w)
+    → ((u : Snapshot) → IsTraceUnderLocks held u (answered cs rs) w → view_at_end u cs ≡ w)
     → GoesOn e (Next held r (answered cs rs) w) → goes_to v e (λ u. view_at_end u cs) ≡ w
 at_end_more held v e w cs r rs h f g = grind arith
 
-pub committed_from : (held : Held) (v w : View) (cs : List Command) (rs : List Reply)
+pub committed_from : (held : Held) (v w : Snapshot) (cs : List Command) (rs : List Reply)
     → IsTraceUnderLocks held v (answered cs rs) w → list_any is_refusal rs ≡ false
     → slice_get cs (length rs) ≡ Some Commit → view_at_end v cs ≡ w
 committed_from held v w [] rs f u h = absurd (cc)

@@ -1,7 +1,7 @@
 -- A script has one result at a map, and scripts run in their order have one list of ends, but for want of memory.
 use Rattle.city_model.proofs.Prelude.{true, ◌≡◌, ℕ, ◌+◌, List, [], ◌∷◌, length, false, refl, sym, ◌∙◌, arith}
 use Rattle.city_model.proofs.Prelude.{nat_list_cmp_total, Command, Cause, Reply, Committed, Aborted, Refused, End, Outcome, CityMap}
-use Rattle.city_model.proofs.Prelude.{IsLeast, View, unmarked, Effect, effect, IsReply, GoesOn, IsOrphanAt, Scripted}
+use Rattle.city_model.proofs.Prelude.{IsLeast, Snapshot, unmarked, Effect, effect, IsReply, GoesOn, IsOrphanAt, Scripted}
 use Rattle.city_model.proofs.Prelude.{EndsAt, EndsFrom, IsScriptResult, left_by, IsEndOf, IsSerialHistoryFrom}
 use Rattle.city_model.proofs.Prelude.{IsSerialHistory}
 use Rattle.city_model.proofs.Ids.{same_id_true}
@@ -20,25 +20,25 @@ least_is_unique P a b h k = grind (arith, same_id_true a b, nat_list_cmp_total.a
 commit_reply_is_unique : (m : CityMap) (r s : Reply) → IsCommitReply m r → IsCommitReply m s → r ≡ s
 commit_reply_is_unique m r s h k = grind (arith, least_is_unique (IsOrphanAt m))
 
-reply_is_unique : (v : View) (e : Effect) (r s : Reply) → IsReply v e r → IsReply v e s → r ≡ s
+reply_is_unique : (v : Snapshot) (e : Effect) (r s : Reply) → IsReply v e r → IsReply v e s → r ≡ s
 reply_is_unique v Commits r s h k = commit_reply_is_unique v.map r s h k
 reply_is_unique v e r s h k = h ∙ sym k
 
-end_is_unique : (v : View) (c : Command) (i : ℕ) (o p : Outcome) → is_no_memory o ≡ false → is_no_memory p ≡ false
+end_is_unique : (v : Snapshot) (c : Command) (i : ℕ) (o p : Outcome) → is_no_memory o ≡ false → is_no_memory p ≡ false
     → EndsAt v c i o → EndsAt v c i p → o ≡ p
 end_is_unique v c i o p n l h k = search (arith, reply_is_unique)
 
 -- a reply that ends the script isn't one that it goes on with
-reply_goes_on : (v : View) (c : Command) (q : Reply) (P : Reply → View → Type 0) → is_ending q ≡ true
+reply_goes_on : (v : Snapshot) (c : Command) (q : Reply) (P : Reply → Snapshot → Type 0) → is_ending q ≡ true
     → IsReply v (effect v c) q → GoesOn (effect v c) P → ⊥
 reply_goes_on v c q P ending h g = goes_on_case P (effect v c) (λ reply u is f.
     let same : q ≡ reply = rw is at h in grind (arith, answered_no_ending v c reply u is, same, ending)) g
 
-refused_or_goes_on : (v : View) (e : Effect) (cause : Cause) (r : Reply) (j : ℕ) (cs : List Command) (rs : List Reply)
+refused_or_goes_on : (v : Snapshot) (e : Effect) (cause : Cause) (r : Reply) (j : ℕ) (cs : List Command) (rs : List Reply)
     (p : Outcome) → IsReply v e (Refused cause) → GoesOn e (EndsFurther r j cs rs p) → ⊥
 refused_or_goes_on v e cause r j cs rs p h g = grind arith
 
-ends_or_goes_on : (v : View) (c : Command) (i j : ℕ) (o p : Outcome) (r : Reply) (cs : List Command) (rs : List Reply)
+ends_or_goes_on : (v : Snapshot) (c : Command) (i j : ℕ) (o p : Outcome) (r : Reply) (cs : List Command) (rs : List Reply)
     → is_no_memory o ≡ false → EndsAt v c i o → GoesOn (effect v c) (EndsFurther r j cs rs p) → ⊥
 ends_or_goes_on v c i j Outcome.Committed p r cs rs n h g = reply_goes_on v c Committed _ refl h.0 g
 ends_or_goes_on v c i j Outcome.Aborted p r cs rs n h g = reply_goes_on v c Aborted _ refl h.0 g
@@ -49,11 +49,11 @@ ends_or_goes_on v c i j o p r cs rs n h g = grind arith
 -- ---- one script
 
 further_same : (e : Effect) (i : ℕ) (cs : List Command) (r s : Reply) (rs ss : List Reply) (o p : Outcome)
-    → ((u : View) → EndsFrom u (i + 1) cs rs o → EndsFrom u (i + 1) cs ss p → (rs ≡ ss) × (o ≡ p))
+    → ((u : Snapshot) → EndsFrom u (i + 1) cs rs o → EndsFrom u (i + 1) cs ss p → (rs ≡ ss) × (o ≡ p))
     → GoesOn e (EndsFurther r i cs rs o) → GoesOn e (EndsFurther s i cs ss p) → ((r ∷ rs) ≡ (s ∷ ss)) × (o ≡ p)
 further_same e i cs r s rs ss o p f h k = grind arith
 
-result_from : (v : View) (i : ℕ) (cs : List Command) (rs ss : List Reply) (o p : Outcome) → is_no_memory o ≡ false
+result_from : (v : Snapshot) (i : ℕ) (cs : List Command) (rs ss : List Reply) (o p : Outcome) → is_no_memory o ≡ false
     → is_no_memory p ≡ false → EndsFrom v i cs rs o → EndsFrom v i cs ss p → (rs ≡ ss) × (o ≡ p)
 result_from v i [] rs ss o p n l h k = absurd h
 result_from v i (c ∷ cs) [] [] o p n l h k = (refl, end_is_unique v c i o p n l h k)

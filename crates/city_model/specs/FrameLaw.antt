@@ -3,7 +3,7 @@ use Rattle.std.specs.Prelude.{◌≡◌, ℕ, List, true, false}
 use Rattle.city_model.specs.declared.command.Command.{Command}
 use Rattle.city_model.specs.declared.command.Reply.{Reply}
 use Rattle.city_model.specs.CityMap.{CityMap}
-use Rattle.city_model.specs.Marks.{View, unmarked}
+use Rattle.city_model.specs.Marks.{Snapshot, unmarked}
 use Rattle.city_model.specs.Meaning.{Answers, effect, locks_of}
 use Rattle.city_model.specs.Relations.{IsSound}
 use Rattle.city_model.specs.Standing.{Lock, locks_id, locks_id_exclusively}
@@ -16,8 +16,8 @@ AgreeOn ls m n = (id : List ℕ) → locks_id ls id ≡ true → m id ≡ n id
 -- locks exclusively the two maps have the same object before, and the same one after; each other id keeps its object
 pub record IsFramed (m n : CityMap) (c : Command) : Type 0 where
   pub reply : Reply
-  pub left : View
-  pub left_there : View
+  pub left : Snapshot
+  pub left_there : Snapshot
   pub here : effect (unmarked m) c ≡ Answers reply left
   pub there : effect (unmarked n) c ≡ Answers reply left_there
   pub locks : locks_of m c ≡ locks_of n c

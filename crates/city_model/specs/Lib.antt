@@ -21,4 +21,4 @@ pub mod Standing
 pub mod TraceLaw
 pub mod Types
 pub mod Writing
-pub mod inside
+pub mod internal

@@ -8,16 +8,16 @@ abbrev pub Marked : Type 0
 Marked = List ℕ × CityMap
 
 -- the map, and the marks, newest first
-pub record View : Type 0 where
+pub record Snapshot : Type 0 where
   pub map : CityMap
   pub marks : List Marked
 
 -- the map without marks
-abbrev pub unmarked : CityMap → View
+abbrev pub unmarked : CityMap → Snapshot
 unmarked m = record { map = m; marks = [] }
 
 -- another map with the same marks
-abbrev pub with_map : View → CityMap → View
+abbrev pub with_map : Snapshot → CityMap → Snapshot
 with_map v m = record { map = m; marks = v.marks }
 
 -- the newest mark of the name and those before it
@@ -30,5 +30,5 @@ abbrev pub AreSound : List Marked → Type 0
 AreSound [] = Unit {0}
 AreSound (k ∷ ks) = IsSound k.1 × AreSound ks
 
-abbrev pub IsSoundView : View → Type 0
+abbrev pub IsSoundView : Snapshot → Type 0
 IsSoundView v = IsSound v.map × AreSound v.marks

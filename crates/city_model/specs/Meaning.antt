@@ -12,7 +12,7 @@ use Rattle.city_model.specs.declared.mode.Mode.{Mode}
 use Rattle.city_model.specs.declared.mode.Mode.TheVariants.{Shared, Exclusive}
 use Rattle.city_model.specs.CityMap.{CityMap}
 use Rattle.city_model.specs.Marks as views
-use Rattle.city_model.specs.Marks.{View, with_map, marks_from}
+use Rattle.city_model.specs.Marks.{Snapshot, with_map, marks_from}
 use Rattle.city_model.specs.Relations.{HasNoOrphan, IsLeastOrphan}
 use Rattle.city_model.specs.Actions as actions
 use Rattle.city_model.specs.Actions.{Action, Refuses, Edits, GoesBack, action}
@@ -21,17 +21,17 @@ use Rattle.city_model.specs.Actions.{Action, Refuses, Edits, GoesBack, action}
 
 -- what a command does: it is answered and leaves this to be seen, or it ends its script
 pub data Effect : Type 0 where
-  Answers : Reply → View → Effect
+  Answers : Reply → Snapshot → Effect
   Commits : Effect
   Aborts : Effect
 
 -- back to the first of the marks, which stays; without one it is refused
-abbrev pub back : List ℕ → View → List views.Marked → Effect
+abbrev pub back : List ℕ → Snapshot → List views.Marked → Effect
 back name v [] = Answers (Refused (NoMark name)) v
 back name v (k ∷ ks) = Answers WentBack (record { map = k.1; marks = k ∷ ks })
 
 -- the action at what is seen; a refusal leaves it
-abbrev pub applied : View → Action → Effect
+abbrev pub applied : Snapshot → Action → Effect
 applied v (Refuses cause) = Answers (Refused cause) v
 applied v (Edits reply ids m) = Answers reply (with_map v m)
 applied v (actions.Marks name) = Answers Marked (record { map = v.map; marks = (name, v.map) ∷ v.marks })
@@ -39,7 +39,7 @@ applied v (GoesBack name) = back name v (marks_from name v.marks)
 applied v actions.Commits = Commits
 applied v actions.Aborts = Aborts
 
-abbrev pub effect : View → Command → Effect
+abbrev pub effect : Snapshot → Command → Effect
 effect v c = applied v (action v.map c)
 
 -- the reply to a Commit: an orphan refuses it, the least one
@@ -49,26 +49,26 @@ IsCommitReply m reply =
     ⊎ ((id : List ℕ) × (reply ≡ Refused (Orphan id)) × IsLeastOrphan m id)
 
 -- the reply to a command of this effect at the view
-abbrev pub IsReply : View → Effect → Reply → Type 0
+abbrev pub IsReply : Snapshot → Effect → Reply → Type 0
 IsReply v (Answers r u) reply = reply ≡ r
 IsReply v Commits reply = IsCommitReply v.map reply
 IsReply v Aborts reply = reply ≡ Aborted
 
 -- what is seen after it: to end a script leaves it
-abbrev pub left : View → Effect → View
+abbrev pub left : Snapshot → Effect → Snapshot
 left v (Answers reply u) = u
 left v Commits = v
 left v Aborts = v
 
-abbrev pub step : View → Command → View
+abbrev pub step : Snapshot → Command → Snapshot
 step v c = left v (effect v c)
 
 -- at the view v the command gets this reply, and w is seen after it
-abbrev pub Does : View → Command → Reply → View → Type 0
+abbrev pub Does : Snapshot → Command → Reply → Snapshot → Type 0
 Does v c reply w = IsReply v (effect v c) reply × (w ≡ step v c)
 
 -- the command doesn't end its script, and this holds of its reply and of what is seen after it
-abbrev pub GoesOn : Effect → (Reply → View → Type 0) → Type 0
+abbrev pub GoesOn : Effect → (Reply → Snapshot → Type 0) → Type 0
 GoesOn (Answers reply u) P = P reply u
 GoesOn Commits P = ⊥
 GoesOn Aborts P = ⊥
@@ -79,7 +79,7 @@ reply_of (Answers reply u) = reply
 reply_of Commits = Committed
 reply_of Aborts = Aborted
 
-abbrev pub answer : View → Command → Reply
+abbrev pub answer : Snapshot → Command → Reply
 answer v c = reply_of (effect v c)
 
 abbrev pub is_refusal : Reply → Bool

@@ -8,7 +8,7 @@ use Rattle.city_model.specs.declared.command.Reply.{Reply}
 use Rattle.city_model.specs.declared.end.End.{End}
 use Rattle.city_model.specs.declared.end.Outcome.{Outcome}
 use Rattle.city_model.specs.CityMap.{CityMap, changed}
-use Rattle.city_model.specs.Marks.{View, unmarked}
+use Rattle.city_model.specs.Marks.{Snapshot, unmarked}
 use Rattle.city_model.specs.Meaning.{Effect, Answers, Commits, Aborts, effect, is_refusal, Does, GoesOn}
 
 -- a script: its name and its commands
@@ -16,21 +16,21 @@ abbrev pub Scripted : Type 0
 Scripted = List ℕ × List Command
 
 -- the commands, none of which ends a script, get these replies one after another, and lead to the second view
-abbrev pub Trace : View → List Command → List Reply → View → Type 0
+abbrev pub Trace : Snapshot → List Command → List Reply → Snapshot → Type 0
 Trace v [] [] w = w ≡ v
 Trace v [] (r ∷ rs) w = ⊥
 Trace v (c ∷ cs) [] w = ⊥
 Trace v (c ∷ cs) (r ∷ rs) w = GoesOn (effect v c) (λ reply u. (reply ≡ r) × Trace u cs rs w)
 
 -- the command, which is number i, ends its script with this outcome at the view v
-abbrev pub EndsAt : View → Command → ℕ → Outcome → Type 0
+abbrev pub EndsAt : Snapshot → Command → ℕ → Outcome → Type 0
 EndsAt v c i Outcome.Committed = Does v c Reply.Committed v
 EndsAt v c i Outcome.Aborted = Does v c Reply.Aborted v
 EndsAt v c i (Outcome.Refused j cause) = (j ≡ i) × Does v c (Reply.Refused cause) v
 EndsAt v c i (Outcome.NoMemory j) = j ≡ i
 
 -- the commands from number i on, run at v: these replies, none of them a refusal, and then this outcome
-abbrev pub EndsFrom : View → ℕ → List Command → List Reply → Outcome → Type 0
+abbrev pub EndsFrom : Snapshot → ℕ → List Command → List Reply → Outcome → Type 0
 EndsFrom v i [] replies outcome = ⊥
 EndsFrom v i (c ∷ cs) [] outcome = EndsAt v c i outcome
 EndsFrom v i (c ∷ cs) (r ∷ rs) outcome = GoesOn (effect v c)
@@ -42,13 +42,13 @@ abbrev pub IsScriptResult : CityMap → List Command → List Reply → Outcome 
 IsScriptResult m commands replies outcome = EndsFrom (unmarked m) 0 commands replies outcome
 
 -- what is seen where the first of the commands has this effect, and the others lead from a view to another one
-abbrev pub goes_to : View → Effect → (View → View) → View
+abbrev pub goes_to : Snapshot → Effect → (Snapshot → Snapshot) → Snapshot
 goes_to v (Answers reply u) others = if is_refusal reply then v else others u
 goes_to v Commits others = v
 goes_to v Aborts others = v
 
 -- what is seen at the first command that is refused, or is Commit or Abort
-abbrev pub view_at_end : View → List Command → View
+abbrev pub view_at_end : Snapshot → List Command → Snapshot
 view_at_end v [] = v
 view_at_end v (c ∷ cs) = goes_to v (effect v c) (λ u. view_at_end u cs)
 

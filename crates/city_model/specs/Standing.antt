@@ -8,7 +8,7 @@ use Rattle.city_model.specs.declared.mode.Mode.{Mode}
 use Rattle.city_model.specs.declared.mode.Mode.TheVariants.{Shared, Exclusive}
 use Rattle.city_model.specs.CityMap.{has_id}
 use Rattle.city_model.specs.Mode.{is_exclusive}
-use Rattle.city_model.specs.Marks.{View}
+use Rattle.city_model.specs.Marks.{Snapshot}
 use Rattle.city_model.specs.Meaning.{effect, GoesOn, locks_of}
 
 -- in which mode a transaction holds each id, if at all
@@ -40,7 +40,7 @@ answered (c ∷ cs) (r ∷ rs) = (c, r) ∷ answered cs rs
 
 -- from the first view the commands, none of which ends a script, get these replies, each with its locks held,
 -- and lead to the second
-abbrev pub IsTraceUnderLocks : Held → View → List Answered → View → Type 0
+abbrev pub IsTraceUnderLocks : Held → Snapshot → List Answered → Snapshot → Type 0
 IsTraceUnderLocks held v [] w = w ≡ v
 IsTraceUnderLocks held v (d ∷ ds) w =
     AllHeld held (locks_of v.map d.0) × GoesOn (effect v d.0) (λ reply u. (reply ≡ d.1) × IsTraceUnderLocks held u ds w)

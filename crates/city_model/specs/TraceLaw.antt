@@ -6,7 +6,7 @@ use Rattle.city_model.specs.declared.command.Reply.{Reply}
 use Rattle.city_model.specs.declared.mode.Mode.{Mode}
 use Rattle.city_model.specs.declared.mode.Mode.TheVariants.{Shared, Exclusive}
 use Rattle.city_model.specs.CityMap.{CityMap}
-use Rattle.city_model.specs.Marks.{Marked, View, unmarked}
+use Rattle.city_model.specs.Marks.{Marked, Snapshot, unmarked}
 use Rattle.city_model.specs.Meaning.{step, locks_of}
 use Rattle.city_model.specs.Relations.{IsSound}
 use Rattle.city_model.specs.Runs.{Trace}
@@ -25,7 +25,7 @@ stronger_of (Some Shared) None = Some Shared
 stronger_of (Some Shared) (Some mode) = Some mode
 
 -- how the locks of the commands name each id, the locks of each at the map that it meets
-abbrev pub named_by : View → List Command → Held
+abbrev pub named_by : Snapshot → List Command → Held
 named_by v [] q = None
 named_by v (c ∷ cs) q =
     stronger_of (as_named (locks_id_exclusively (locks_of v.map c) q) (locks_id (locks_of v.map c) q))
@@ -39,7 +39,7 @@ abbrev pub carried_marks : Held → CityMap → List Marked → List Marked
 carried_marks held other ks = map (λ k. (k.0, carried_map held other k.1)) ks
 
 -- the same of a map and of each of its marks
-abbrev pub carried : Held → CityMap → View → View
+abbrev pub carried : Held → CityMap → Snapshot → Snapshot
 carried held other v =
     record { map = carried_map held other v.map; marks = carried_marks held other v.marks }
 
@@ -47,7 +47,7 @@ carried held other v =
 -- with this one on the ids that their locks name: what is seen is then the same at each id that they lock
 -- exclusively, in the map and in each mark, and at any other id each is as at its own start
 abbrev pub TraceLaw : CityMap → List Command → Type 0
-TraceLaw m cs = (replies : List Reply) (w : View) → Trace (unmarked m) cs replies w
+TraceLaw m cs = (replies : List Reply) (w : Snapshot) → Trace (unmarked m) cs replies w
     → (n : CityMap) → IsSound n
     → ((id : List ℕ) → is_some (named_by (unmarked m) cs id) ≡ true → m id ≡ n id)
     → Trace (unmarked n) cs replies (carried (named_by (unmarked m) cs) n w)

@@ -2,7 +2,7 @@
 ghost use Rattle.std.specs.Prelude.{◌≡◌, false, IfOk, OnErr};
 ghost use Rattle.std.specs.List.{list_any};
 ghost use Rattle.city_model.specs.Shells.{has_short_ring, has_same_twice, has_open_shell, any_shape, geometry_fault, some_shape, body_fault};
-ghost use Rattle.city_model.specs.inside.RingFaults.{has_ring_fault};
+ghost use Rattle.city_model.specs.internal.RingFaults.{has_ring_fault};
 
 use crate::OutOfMemory;
 use crate::command::Cause;

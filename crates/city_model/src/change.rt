@@ -33,7 +33,7 @@ impl Model for Change {
     ghost Value = { List (List ℕ × Option Object) };
 
     ghost use Rattle.std.specs.Coded.{codes};
-    ghost use Rattle.city_model.specs.inside.DataCode.{coded_members};
+    ghost use Rattle.city_model.specs.internal.DataCode.{coded_members};
 
     ghost coded = { Prim.hlevel (codes, coded_members) };
 

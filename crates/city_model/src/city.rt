@@ -27,7 +27,7 @@ impl Model for City {
 
     ghost use Rattle.std.specs.Coded.{codes, coded×, coded_list, coded_ℕ};
     ghost use Rattle.std.specs.FinMap.{code, from_sorted};
-    ghost use Rattle.city_model.specs.inside.DataCode.{coded_members};
+    ghost use Rattle.city_model.specs.internal.DataCode.{coded_members};
 
     ghost coded = { coded× (Prim.hlevel (codes, coded_members)) (code (coded_list coded_ℕ) (Prim.hlevel (codes, coded_members))) };
 

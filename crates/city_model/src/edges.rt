@@ -1,7 +1,7 @@
 //! The directed edges of a shell (CityJSON 2.0, section 3.2).
 ghost use Rattle.std.specs.Prelude.{◌≡◌, [], ◌∷◌, ◌++◌, map, IfOk, OnOk};
 ghost use Rattle.city_model.specs.Shells.{ring_edges, surface_edges, edges_of, flipped};
-ghost use Rattle.city_model.specs.inside.RisingEdges.{rising};
+ghost use Rattle.city_model.specs.internal.RisingEdges.{rising};
 
 use crate::OutOfMemory;
 use crate::object::{Point, Ring, Shell, Surface};

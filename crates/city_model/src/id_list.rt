@@ -4,7 +4,7 @@ ghost use Rattle.std.specs.Iterator.{YieldsFirstRef, item_count};
 ghost use Rattle.city_model.specs.CityMap.{same_id, has_id};
 ghost use Rattle.city_model.specs.Chunks.{ids_left};
 ghost use Rattle.city_model.specs.Actions.{without_id};
-ghost use Rattle.city_model.specs.inside.RelationTests.{are_distinct, are_increasing};
+ghost use Rattle.city_model.specs.internal.RelationTests.{are_distinct, are_increasing};
 
 use crate::OutOfMemory;
 use crate::copied::Copied;
@@ -92,7 +92,7 @@ pub fn is_among(ids: Ids<'_>, id: &Id) -> bool
 
 /// A binary search. In a list that isn't in byte order it may miss an id, but it finds
 /// none that isn't there.
-pub(crate) fn is_found_by_halving(ids: &[Id], id: &Id) -> bool
+pub(crate) fn is_found_by_binary_search(ids: &[Id], id: &Id) -> bool
     ensures { IsTrue result → IsTrue (has_id ids.now id.now) }
 {
     match ids.binary_search(id) {

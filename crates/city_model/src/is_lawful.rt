@@ -1,7 +1,7 @@
 //! Whether a city is lawful.
 ghost use Rattle.std.specs.Prelude.{◌≡◌, IsTrue, IfOk, OnErr, is_some};
 ghost use Rattle.city_model.specs.CityMap.{object_at};
-ghost use Rattle.city_model.specs.inside.Faultless.{IsFaultless};
+ghost use Rattle.city_model.specs.internal.Faultless.{IsFaultless};
 ghost use Rattle.city_model.specs.Relations.{IsLawful, IsRelated};
 ghost use Rattle.city_model.specs.Shells.{body_fault};
 

@@ -1,7 +1,7 @@
 //! The plan of a command: its reply, and what it writes.
 ghost use Rattle.std.specs.Prelude.{◌≡◌, false, IfOk};
 ghost use Rattle.city_model.specs.FrameLaw.{FrameLaw};
-ghost use Rattle.city_model.specs.inside.Plans.{IsPlan};
+ghost use Rattle.city_model.specs.internal.Plans.{IsPlan};
 ghost use Rattle.city_model.specs.Relations.{IsSound};
 ghost use Rattle.city_model.specs.Scripts.{is_end, is_mark};
 
@@ -9,19 +9,19 @@ use crate::OutOfMemory;
 use crate::command::{Cause, Command, Reply};
 use crate::plan::amending::{Amendment, plan_amend};
 use crate::plan::deleting::plan_delete;
+use crate::plan::object_lookup::ObjectLookup;
 use crate::plan::putting::{plan_add, plan_put};
 use crate::plan::reading::{plan_expect, plan_read};
 use crate::plan::relating::{plan_attach, plan_detach};
-use crate::plan::view::View;
 use std::alloc::Global;
 
 mod amending;
 mod deleting;
+pub mod object_lookup;
 mod objects;
 mod putting;
 mod reading;
 mod relating;
-pub mod view;
 mod writes;
 
 pub use crate::plan::writes::Writes;
@@ -42,7 +42,7 @@ pub enum Plan {
 /// memory. The same plan is right for each other sound city that agrees with this one on the
 /// ids that the command locks.
 #[tactic(auto, using(crate::proofs::FrameLaw::frame_law))]
-pub fn plan_of<V: View>(alloc: Global, view: &V, command: &Command) -> Result<Plan, OutOfMemory>
+pub fn plan_of<V: ObjectLookup>(alloc: Global, view: &V, command: &Command) -> Result<Plan, OutOfMemory>
     requires no_end { is_end command.now ≡ false }
     requires no_mark { is_mark command.now ≡ false }
     requires sound { IsSound (V.map view.now) }

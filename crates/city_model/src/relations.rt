@@ -3,8 +3,8 @@ ghost use Rattle.std.specs.Prelude.{◌≡◌, IfSome, IfNone};
 ghost use Rattle.city_model.specs.CityMap.{object_at, has_id, parents_of};
 ghost use Rattle.city_model.specs.Actions.{is_wrong_family};
 ghost use Rattle.city_model.specs.Misrelated.{IsLeastMisrelated};
-ghost use Rattle.city_model.specs.inside.RelationTests.{relatives_once, level_fits, parent_fits, parents_fit};
-ghost use Rattle.city_model.specs.inside.RelationTests.{children_fit, is_in_order, is_misrelated};
+ghost use Rattle.city_model.specs.internal.RelationTests.{relatives_once, level_fits, parent_fits, parents_fit};
+ghost use Rattle.city_model.specs.internal.RelationTests.{children_fit, is_in_order, is_misrelated};
 ghost use Rattle.city_model.specs.Relations.{IsRelated, same_family};
 
 use crate::city::City;

@@ -2,7 +2,7 @@
 ghost use Rattle.std.specs.Prelude.{◌≡◌};
 ghost use Rattle.std.specs.List.{list_any};
 ghost use Rattle.city_model.specs.Shells.{is_short_ring, is_short_surface, has_same_neighbours};
-ghost use Rattle.city_model.specs.inside.RingFaults.{is_faulty, has_ring_fault};
+ghost use Rattle.city_model.specs.internal.RingFaults.{is_faulty, has_ring_fault};
 
 use crate::object::{Ring, Shape, Shell, Solid, Surface};
 use crate::shape::Bounds;

@@ -1,7 +1,7 @@
 //! A script: a list of commands that is run as one transaction.
 ghost use Rattle.std.specs.Prelude.{◌≡◌, ◌<◌, true, IfOk, IfErr, is_ok, length, take, List, ℕ};
 ghost use Rattle.city_model.specs.CityMap.{CityMap};
-ghost use Rattle.city_model.specs.Marks.{View, unmarked, IsSoundView};
+ghost use Rattle.city_model.specs.Marks.{Snapshot, unmarked, IsSoundView};
 ghost use Rattle.city_model.specs.Relations.{IsSound};
 ghost use Rattle.city_model.specs.Runs.{Trace};
 ghost use Rattle.city_model.specs.Scripts.{is_end, ends_once};
@@ -27,7 +27,7 @@ impl Model for Script {
     ghost Value = { List ℕ × List Command };
 
     ghost use Rattle.std.specs.Coded.{codes};
-    ghost use Rattle.city_model.specs.inside.DataCode.{coded_members};
+    ghost use Rattle.city_model.specs.internal.DataCode.{coded_members};
 
     ghost coded = { Prim.hlevel (codes, coded_members) };
 
@@ -68,9 +68,9 @@ impl Script {
     pub fn commands(&self) -> &[Command]
         ensures commands { result.now ≡ self.now.1 }
         ensures ends { ends_once self.now.1 ≡ true }
-        ensures goes_on { (v : View) (k : ℕ) → k < length self.now.1
-            → (replies : List Reply) × (w : View) × Trace v (take k self.now.1) replies w }
-        ensures sound { (m : CityMap) (k : ℕ) (replies : List Reply) (w : View) → IsSound m
+        ensures goes_on { (v : Snapshot) (k : ℕ) → k < length self.now.1
+            → (replies : List Reply) × (w : Snapshot) × Trace v (take k self.now.1) replies w }
+        ensures sound { (m : CityMap) (k : ℕ) (replies : List Reply) (w : Snapshot) → IsSound m
             → Trace (unmarked m) (take k self.now.1) replies w → IsSoundView w }
         ensures frame { (m : CityMap) (k : ℕ) → IsSound m → TraceLaw m (take k self.now.1) }
     {

@@ -1,6 +1,6 @@
 //! What bounds a shape, whatever its type.
 ghost use Rattle.std.specs.Prelude.{◌≡◌};
-ghost use Rattle.city_model.specs.inside.BorrowedBounds.{boundaries_of, bounds_view};
+ghost use Rattle.city_model.specs.internal.BorrowedBounds.{boundaries_of, bounds_view};
 
 use crate::object::{Shape, Shell, Solid, Surface};
 use crate::sequence::Sequence;

@@ -21,7 +21,7 @@ pub struct Shared<T> {
 }
 
 impl<T> Model for Shared<T> {
-    ghost use Rattle.city_model.specs.inside.Stored.{stored};
+    ghost use Rattle.city_model.specs.internal.Stored.{stored};
 
     ghost Value = { T };
 

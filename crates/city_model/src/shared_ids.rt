@@ -5,11 +5,11 @@ ghost use Rattle.city_model.specs.CityMap.{has_id};
 ghost use Rattle.city_model.specs.Actions.{without_id};
 ghost use Rattle.city_model.specs.Relations.{AreDistinct};
 ghost use Rattle.city_model.specs.Chunks.{ids_left};
-ghost use Rattle.city_model.specs.inside.ChunkSearch.{HasIdAt};
+ghost use Rattle.city_model.specs.internal.ChunkSearch.{HasIdAt};
 
 use crate::OutOfMemory;
 use crate::copied::Copied;
-use crate::id_list::{Ids, is_among, is_found_by_halving, without_id};
+use crate::id_list::{Ids, is_among, is_found_by_binary_search, without_id};
 use crate::sequence::Sequence;
 use crate::text::Id;
 use std::alloc::Global;
@@ -139,7 +139,7 @@ fn chunk_with(chunks: &[Chunk], id: &Id) -> Option<usize>
     ensures none { IfNone result (has_id (flat_map arc_value chunks.now) id.now ≡ false) }
 {
     let after = chunks.partition_point(|chunk| starts_by(chunk, id));
-    if after != 0 && is_found_by_halving(chunks[after - 1].as_slice(), id) {
+    if after != 0 && is_found_by_binary_search(chunks[after - 1].as_slice(), id) {
         return Some(after - 1);
     }
     for (at, chunk) in chunks.iter().enumerate() {

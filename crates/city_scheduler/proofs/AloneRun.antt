@@ -6,7 +6,7 @@ use Rattle.city_scheduler.proofs.Prelude.{Ended, DeskState, progress_to, ended_p
 use Rattle.city_scheduler.proofs.Prelude.{is_ended, is_open_phase, commands_at, AreInTurn, HaveRun}
 use Rattle.std.proofs.Common.{◌-◌}
 use Rattle.city_scheduler.specs.Turning.{Keeps, HasReplied}
-use Rattle.city_scheduler.specs.inside.RunInTurn.{HasRun}
+use Rattle.city_scheduler.specs.internal.RunInTurn.{HasRun}
 use Rattle.city_scheduler.proofs.ScriptReads.{command_as}
 use Rattle.city_scheduler.proofs.ScriptTurns.{has_its_end, has_other_ends}
 use Rattle.city_scheduler.proofs.Youngest.{open_within}

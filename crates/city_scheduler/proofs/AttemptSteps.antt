@@ -3,7 +3,7 @@ use Rattle.city_scheduler.proofs.Prelude.{◌≡◌, ℕ, true, false, List, [],
 use Rattle.city_scheduler.proofs.Prelude.{ap, sym, subst, ◌∙◌, arith, IfSome, false≢true, Command, Reply, Outcome}
 use Rattle.city_scheduler.proofs.Prelude.{object_at, CityValue, IsLawful, is_refusal, Change, after_changes, is_end}
 use Rattle.city_scheduler.proofs.Prelude.{is_commit, is_no_memory, Answer, TxnFault, CoreState, committed, snapshot}
-use Rattle.city_scheduler.proofs.Prelude.{is_open, StandsUnderLocks, KeepsOthers, IsRolledBack, answer_in, Stepped}
+use Rattle.city_scheduler.proofs.Prelude.{is_open, StandsUnderLocks, KeepsOthers, IsRolledBack, answer_in, CommandOutcome}
 use Rattle.city_scheduler.proofs.Prelude.{Progress, Idle, progress_to, AttemptEnded, HasStepped, shown_more}
 use Rattle.city_model.specs.declared.command.Command.TheVariants.{Abort}
 use Rattle.city_model.specs.declared.command.Cause.{Cause}
@@ -61,7 +61,7 @@ module _ {stamp : ℕ} {command : Command} {p q : Progress} {v w : CoreState} {c
   module _ {step : Step} (k : IsAct stamp command (Ok step) v w) where
     pub replied : {reply : Reply} → step ≡ steps.Done reply → is_open v stamp ≡ true → is_refusal reply ≡ false
         → q ≡ progress_to p.phase (p.replies.list ++ reply ∷ []) p.replies.room
-        → HasStepped stamp command (Stepped.GoesOn turns.Replied) p q v w changes changes
+        → HasStepped stamp command (CommandOutcome.GoesOn turns.Replied) p q v w changes changes
     replied {reply} is opened unrefused heard =
         let by = by_done (answer_in v stamp command) k.reply reply (sym k.step ∙ is) in
         record {
@@ -83,7 +83,7 @@ module _ {stamp : ℕ} {command : Command} {p q : Progress} {v w : CoreState} {c
         }
 
     pub waits : step ≡ steps.Wait → is_open v stamp ≡ true → q ≡ p
-        → HasStepped stamp command (Stepped.GoesOn turns.Waits) p q v w changes changes
+        → HasStepped stamp command (CommandOutcome.GoesOn turns.Waits) p q v w changes changes
     waits is opened same =
         let by = by_wait (answer_in v stamp command) k.reply (sym k.step ∙ is) in
         record {
@@ -103,7 +103,7 @@ module _ {stamp : ℕ} {command : Command} {p q : Progress} {v w : CoreState} {c
 
     pub dies : {x : CoreState} → step ≡ steps.Die → IsRolledBack stamp w x
         → q ≡ progress_to (Idle stamp) [] p.replies.room
-        → HasStepped stamp command (Stepped.GoesOn turns.Died) p q v x changes changes
+        → HasStepped stamp command (CommandOutcome.GoesOn turns.Died) p q v x changes changes
     dies {x} is undone idle =
         let by = by_die (answer_in v stamp command) k.reply (sym k.step ∙ is) in
         record {
@@ -121,7 +121,7 @@ module _ {stamp : ℕ} {command : Command} {p q : Progress} {v w : CoreState} {c
 
     pub refused : {x : CoreState} {number : ℕ} {reply : Reply} {cause : Cause} → step ≡ steps.Done reply
         → reply ≡ replies.Refused cause → IsRolledBack stamp w x → number ≡ length p.replies.list → q ≡ p
-        → HasStepped stamp command (Stepped.Ends (Outcome.Refused number cause)) p q v x changes changes
+        → HasStepped stamp command (CommandOutcome.Ends (Outcome.Refused number cause)) p q v x changes changes
     refused {x} {number} {reply} {cause} is refusal undone count same =
         let by = by_done (answer_in v stamp command) k.reply reply (sym k.step ∙ is) in
         let does = refused_does (snapshot v stamp) command cause k.after
@@ -133,7 +133,7 @@ module _ {stamp : ℕ} {command : Command} {p q : Progress} {v w : CoreState} {c
 
   pub unheard : {x : CoreState} {number : ℕ} {result : Result Step TxnFault} → IsAct stamp command result v w
       → IsRolledBack stamp w x → number ≡ length p.replies.list → q ≡ p
-      → HasStepped stamp command (Stepped.Ends (Outcome.NoMemory number)) p q v x changes changes
+      → HasStepped stamp command (CommandOutcome.Ends (Outcome.NoMemory number)) p q v x changes changes
   unheard {x} {number} k undone count same = (
     same,
     gave_up (Outcome.NoMemory number) refl count (λ _ e. absurd (false≢true (sym e))) undone.over.closed

@@ -4,7 +4,7 @@ use Rattle.city_scheduler.proofs.Prelude.{Some, refl, ap, sym, subst, ◌∙◌,
 use Rattle.city_scheduler.proofs.Prelude.{slice_index_or, option_and_then, false≢true, slice_get_read, Command, End}
 use Rattle.city_scheduler.proofs.Prelude.{Outcome, CityValue, is_refusal, Scripted, map_left, Change, is_end, ends_once}
 use Rattle.city_scheduler.proofs.Prelude.{is_commit, answered, Answer, CoreState, committed, snapshot, is_open}
-use Rattle.city_scheduler.proofs.Prelude.{KeepsOthers, answer_in, Stepped, Progress, Idle, Open, Turn, AttemptEnded}
+use Rattle.city_scheduler.proofs.Prelude.{KeepsOthers, answer_in, CommandOutcome, Progress, Idle, Open, Turn, AttemptEnded}
 use Rattle.city_scheduler.proofs.Prelude.{HasStepped, DeskState, progress_to, ended_progress, phase_of, replies_of}
 use Rattle.city_scheduler.proofs.Prelude.{room_of, is_ended, stamp_of, HasRoom, StandsAs, IsSerial, IsDue, end_of}
 use Rattle.std.proofs.Common.{◌||◌}
@@ -13,12 +13,12 @@ use Rattle.std.proofs.lemmas.Bool.{or_from}
 use Rattle.std.proofs.lemmas.List.{set-get_or}
 use Rattle.std.proofs.lemmas.List.Folds.{list_any-append}
 use Rattle.city_model.specs.declared.command.Command.TheVariants.{Commit}
-use Rattle.city_model.specs.Marks.{View, unmarked}
+use Rattle.city_model.specs.Marks.{Snapshot, unmarked}
 use Rattle.city_model.specs.Runs.{EndsAt}
 use Rattle.city_model.proofs.Endings.{committed_at}
 use Rattle.city_model.proofs.Replied.{goes_on, ends_later, answered_more, result_from, committed_from}
 use Rattle.city_txn.specs.CoreState.{held}
-use Rattle.city_scheduler.specs.inside.Attempt.{GoesOn}
+use Rattle.city_scheduler.specs.internal.Attempt.{GoesOn}
 use Rattle.city_scheduler.specs.Serial.{IsAttempt}
 use Rattle.city_scheduler.specs.Turning.{IsNext, IsOpenAt, IsAnswered}
 use Rattle.city_scheduler.proofs.ScriptReads.{script_there, has_commands}
@@ -33,7 +33,7 @@ not_last [] k c e h g = absurd (cc)
 not_last (d ∷ cs) zero c e h g = grind (arith, has_commands cs, ends_later d cs)
 not_last (d ∷ cs) (suc k) c e h g = grind (arith, not_last cs k c, ends_later d cs e, goes_on d cs k c e)
 
-commits : (v : View) (c : Command) (i : ℕ) (o : Outcome) → is_commit o ≡ true → EndsAt v c i o
+commits : (v : Snapshot) (c : Command) (i : ℕ) (o : Outcome) → is_commit o ≡ true → EndsAt v c i o
     → (o ≡ Outcome.Committed) × (c ≡ Commit)
 commits v c i o h e = grind (arith, committed_at v c v)
 
@@ -166,7 +166,7 @@ module _ {S : Type 0} (list : S → List Change) {d : DeskState} {shelf : S} {se
         (subst (λ p. IsDue d n p since outcome) (sym is)
         (refl, record { command = command; next = is_next; ends = h.ends; granted = h.granted })) h.publishes
         (λ one. let by = commits (snapshot d.core stamp) command (length (replies_of d n)) outcome one h.ends in
-        ap (map_left (committed d.core) attempt.script.1) by.0 ∙ ap (λ (x : View). x.map)
+        ap (map_left (committed d.core) attempt.script.1) by.0 ∙ ap (λ (x : Snapshot). x.map)
         (committed_from (held d.core stamp) (unmarked (committed d.core)) (snapshot d.core stamp) attempt.script.1
         (replies_of d n) attempt.stands attempt.unrefused (next ∙ ap Some by.1)))
 
@@ -197,7 +197,7 @@ module _ {S : Type 0} (list : S → List Change) {d : DeskState} {shelf : S} {se
         attempt.unfinished (cc (script_there d.scripts n x there script, attempt.is_there, read_now))
 
     pub turn_goes_on : {q : Progress} {core : CoreState} {after : List Change} {turn : Turn}
-        → HasStepped stamp command (Stepped.GoesOn turn) p q d.core core (list shelf) after
+        → HasStepped stamp command (CommandOutcome.GoesOn turn) p q d.core core (list shelf) after
         → LeavesDesk n turn seen.0 (turned d n d.ends q d.begun core) names capacity (list seen.1) after base
     turn_goes_on {q} {core} {after} {turn} h =
         let so = subst (λ (y : Progress). GoesOn stamp command turn y q d.core core) read_now h.so in
@@ -205,7 +205,7 @@ module _ {S : Type 0} (list : S → List Change) {d : DeskState} {shelf : S} {se
 
     pub turn_ends : {q w : Progress} {core : CoreState} {after : List Change} {outcome : Outcome} {ends : List End}
         {name : List ℕ} (taken : List ℕ) {room : ℕ}
-        → HasStepped stamp command (Stepped.Ends outcome) p q d.core core (list shelf) after → w ≡ ended_progress
+        → HasStepped stamp command (CommandOutcome.Ends outcome) p q d.core core (list shelf) after → w ≡ ended_progress
         → ends ≡ d.ends
         ++ (record { script = n; name = name; since = since; replies = q.replies.list; outcome = outcome }) ∷ []
         → name ≡ slice_index_or names n name → room ≡ capacity

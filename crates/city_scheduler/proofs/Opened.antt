@@ -8,7 +8,7 @@ use Rattle.city_scheduler.proofs.Prelude.{names_of, is_not_begun, ended_in, HasR
 use Rattle.std.proofs.Common.{map}
 use Rattle.std.proofs.lemmas.List.{length-map}
 use Rattle.std.proofs.lemmas.List.Sums.{sum_by-cons}
-use Rattle.city_scheduler.specs.inside.ScriptParts.{name_in}
+use Rattle.city_scheduler.specs.internal.ScriptParts.{name_in}
 use Rattle.city_scheduler.specs.Opening.{unbegun, opened}
 use Rattle.city_scheduler.proofs.Shelved.{none_of_none}
 use Rattle.city_scheduler.proofs.ScriptTurns.{one_if, place_left}

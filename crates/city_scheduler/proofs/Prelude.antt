@@ -30,14 +30,14 @@ pub use Rattle.city_scheduler.specs.InTurn.{AreInTurn}
 pub use Rattle.city_scheduler.specs.Opening.{unbegun_each}
 pub use Rattle.city_scheduler.specs.Serial.{AreStanding, IsSerial, StandsAs}
 pub use Rattle.city_scheduler.specs.Turning.{IsDue, end_of}
-pub use Rattle.city_scheduler.specs.declared.attempt.Stepped.{Stepped}
+pub use Rattle.city_scheduler.specs.declared.attempt.CommandOutcome.{CommandOutcome}
 pub use Rattle.city_scheduler.specs.declared.progress.Phase.{Phase}
 pub use Rattle.city_scheduler.specs.declared.progress.Phase.TheVariants.{Ended, Idle, NotBegun, Open}
 pub use Rattle.city_scheduler.specs.declared.progress.Progress.{Progress}
 pub use Rattle.city_scheduler.specs.declared.turn.Turn.{Turn}
-pub use Rattle.city_scheduler.specs.inside.Attempt.{AttemptEnded, HasStepped, Publishes}
-pub use Rattle.city_scheduler.specs.inside.Closing.{KeepsCity}
-pub use Rattle.city_scheduler.specs.inside.Ready.{IsYoungestBelow}
-pub use Rattle.city_scheduler.specs.inside.Room.{HasRoom, ended_in, is_not_begun, names_of}
-pub use Rattle.city_scheduler.specs.inside.RunInTurn.{HaveRun}
-pub use Rattle.city_scheduler.specs.inside.ScriptParts.{commands_at, commands_of}
+pub use Rattle.city_scheduler.specs.internal.Attempt.{AttemptEnded, HasStepped, Publishes}
+pub use Rattle.city_scheduler.specs.internal.Closing.{KeepsCity}
+pub use Rattle.city_scheduler.specs.internal.Ready.{IsYoungestBelow}
+pub use Rattle.city_scheduler.specs.internal.Room.{HasRoom, ended_in, is_not_begun, names_of}
+pub use Rattle.city_scheduler.specs.internal.RunInTurn.{HaveRun}
+pub use Rattle.city_scheduler.specs.internal.ScriptParts.{commands_at, commands_of}

@@ -16,8 +16,8 @@ use Rattle.std.proofs.lemmas.List.{get_or-set_other, get_or_default}
 use Rattle.std.proofs.lemmas.List.Sums.{sum_by-set}
 use Rattle.city_model.specs.Runs.{IsEndOf, left_by_found}
 use Rattle.city_model.proofs.Fitting.{fits_more, has_end_more, model_more}
-use Rattle.city_scheduler.specs.inside.ScriptParts.{name_at}
-use Rattle.city_scheduler.specs.inside.Room.{not_begun_in}
+use Rattle.city_scheduler.specs.internal.ScriptParts.{name_at}
+use Rattle.city_scheduler.specs.internal.Room.{not_begun_in}
 use Rattle.city_scheduler.specs.Turning.{IsTurnAs, IsTurn, GainsCommits}
 use Rattle.city_scheduler.proofs.Shelved.{shows_all, changes_after, commits_more, gained_by, left_same}
 use Rattle.city_scheduler.specs.declared.turn.Turn.TheVariants as turns

@@ -5,7 +5,7 @@ use Rattle.city_scheduler.proofs.Prelude.{IsYoungestBelow}
 use Rattle.std.proofs.Common.{None, ⊎_elim}
 use Rattle.std.proofs.lemmas.Bool.{cases_lt}
 use Rattle.std.proofs.lemmas.List.{get_or_past}
-use Rattle.city_scheduler.specs.inside.Ready.{IsYoungest}
+use Rattle.city_scheduler.specs.internal.Ready.{IsYoungest}
 
 past : (ps : List Progress) (k : ℕ) → length ps ≤ k → phase_in ps k ≡ Ended
 past ps k le = ap (λ (p : Progress). p.phase) (get_or_past ps k ended_progress le)

@@ -4,4 +4,4 @@ pub mod Opening
 pub mod RepliesValue
 pub mod Serial
 pub mod Turning
-pub mod inside
+pub mod internal

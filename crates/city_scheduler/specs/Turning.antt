@@ -5,7 +5,7 @@ use Rattle.city_model.specs.declared.command.Command.{Command}
 use Rattle.city_model.specs.declared.command.Reply.{Reply}
 use Rattle.city_model.specs.declared.end.Outcome.{Outcome}
 use Rattle.city_model.specs.declared.end.End.{End}
-use Rattle.city_model.specs.Marks.{View}
+use Rattle.city_model.specs.Marks.{Snapshot}
 use Rattle.city_model.specs.Meaning.{Answers, effect, is_refusal}
 use Rattle.city_model.specs.Runs.{Scripted, Change}
 use Rattle.city_model.specs.Scripts.{is_end}
@@ -78,7 +78,7 @@ pub record HasReplied (d e : DeskState) (n : ℕ) : Type 0 where
   pub since : ℕ
   pub is : IsAnswered d n stamp since Granted
   pub reply : Reply
-  pub after : View
+  pub after : Snapshot
   pub does : effect (snapshot d.core stamp) is.command ≡ Answers reply after
   pub unrefused : is_refusal reply ≡ false
   pub moves : Moves d e n (Open stamp since) (replies_of d n ++ reply ∷ [])

@@ -7,7 +7,7 @@ ghost use Rattle.city_model.specs.Meaning.{is_refusal};
 ghost use Rattle.city_model.specs.Runs.{Change, after_changes};
 ghost use Rattle.city_model.specs.Scripts.{is_end};
 ghost use Rattle.city_txn.specs.CoreState.{committed, is_open};
-ghost use Rattle.city_scheduler.specs.inside.Attempt.{AttemptEnded, HasStepped};
+ghost use Rattle.city_scheduler.specs.internal.Attempt.{AttemptEnded, HasStepped};
 
 use crate::progress::Progress;
 use crate::shelf::Shelf;
@@ -18,7 +18,7 @@ use city_txn::{Core, Step};
 
 /// What a command of an attempt comes to.
 #[derive(Drop)]
-pub enum Stepped {
+pub enum CommandOutcome {
     /// The script goes on after this turn.
     GoesOn(Turn),
     /// The script ends so.
@@ -37,7 +37,7 @@ fn unless_refused(reply: Reply) -> Result<Reply, Cause>
 }
 
 /// Runs a command that doesn't end its script.
-fn run_command(core: &mut Core, progress: &mut Progress, stamp: u64, command: &Command) -> Stepped
+fn run_command(core: &mut Core, progress: &mut Progress, stamp: u64, command: &Command) -> CommandOutcome
     requires place { length progress.old.replies.list < progress.old.replies.room }
     requires opened { is_open core.old stamp ≡ true }
     requires goes_on { is_end command.now ≡ false }
@@ -48,22 +48,22 @@ fn run_command(core: &mut Core, progress: &mut Progress, stamp: u64, command: &C
         Ok(Step::Done(reply)) => match unless_refused(reply) {
             Ok(reply) => {
                 progress.replies.add(reply);
-                Stepped::GoesOn(Turn::Replied)
+                CommandOutcome::GoesOn(Turn::Replied)
             }
             Err(cause) => {
                 core.roll_back(stamp);
-                Stepped::Ends(Outcome::Refused(number, cause))
+                CommandOutcome::Ends(Outcome::Refused(number, cause))
             }
         },
-        Ok(Step::Wait) => Stepped::GoesOn(Turn::Waits),
+        Ok(Step::Wait) => CommandOutcome::GoesOn(Turn::Waits),
         Ok(Step::Die) => {
             core.roll_back(stamp);
             progress.die(stamp);
-            Stepped::GoesOn(Turn::Died)
+            CommandOutcome::GoesOn(Turn::Died)
         }
         Err(_) => {
             core.roll_back(stamp);
-            Stepped::Ends(Outcome::NoMemory(number))
+            CommandOutcome::Ends(Outcome::NoMemory(number))
         }
     }
 }
@@ -110,7 +110,7 @@ pub fn step<S: Shelf>(
     progress: &mut Progress,
     stamp: u64,
     command: &Command,
-) -> Stepped
+) -> CommandOutcome
     requires place { length progress.old.replies.list < progress.old.replies.room }
     requires opened { is_open core.old stamp ≡ true }
     requires room { length (S.list shelf.old) + 1 < 2 ^ 64 }
@@ -121,10 +121,10 @@ pub fn step<S: Shelf>(
     ensures published { S.published shelf.new ≡ S.published shelf.old }
 {
     match command {
-        Command::Commit => Stepped::Ends(commit(core, shelf, stamp, progress.replies.len())),
+        Command::Commit => CommandOutcome::Ends(commit(core, shelf, stamp, progress.replies.len())),
         Command::Abort => {
             core.roll_back(stamp);
-            Stepped::Ends(Outcome::Aborted)
+            CommandOutcome::Ends(Outcome::Aborted)
         }
         _ => run_command(core, progress, stamp, command),
     }

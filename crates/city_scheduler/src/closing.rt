@@ -1,7 +1,7 @@
 //! Rolls back what is open.
 ghost use Rattle.std.specs.Prelude.{◌≡◌, ◌==◌, ℕ, false, if◌then◌else◌};
 ghost use Rattle.city_txn.specs.CoreState.{is_open};
-ghost use Rattle.city_scheduler.specs.inside.Closing.{KeepsCity, AreOpenFrom};
+ghost use Rattle.city_scheduler.specs.internal.Closing.{KeepsCity, AreOpenFrom};
 
 use crate::progress::{Phase, Progress};
 use city_txn::Core;

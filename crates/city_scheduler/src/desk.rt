@@ -9,7 +9,7 @@ ghost use Rattle.city_scheduler.specs.Opening.{opened};
 ghost use Rattle.city_scheduler.specs.Serial.{IsSerial};
 ghost use Rattle.city_scheduler.specs.Turning.{IsTurn, GainsCommits, IsWaiting, stamp_for, begun_after};
 
-use crate::attempt::{Stepped, step};
+use crate::attempt::{CommandOutcome, step};
 use crate::closing::roll_back_all;
 use crate::opening::{names_of, unbegun_each};
 use crate::opening_city::OpeningCity;
@@ -65,14 +65,14 @@ impl<S: Shelf> Model for Desk<S> {
     ghost Value = { DeskState × S };
 
     ghost use Rattle.std.specs.Coded.{codes};
-    ghost use Rattle.city_model.specs.inside.DataCode.{coded_members};
-    ghost use Rattle.city_txn.specs.inside.Codes.{coded_objects};
+    ghost use Rattle.city_model.specs.internal.DataCode.{coded_members};
+    ghost use Rattle.city_txn.specs.internal.Codes.{coded_objects};
 
     ghost coded = { Prim.hlevel (codes, coded_members, coded_objects) };
 
     ghost use Rattle.std.specs.Prelude.{vec_capacity};
     ghost use Rattle.city_scheduler.specs.Serial.{IsSerial};
-    ghost use Rattle.city_scheduler.specs.inside.Room.{HasRoom};
+    ghost use Rattle.city_scheduler.specs.internal.Room.{HasRoom};
 
     ghost view = { λ d. (record { start = d.start; scripts = d.scripts.items; ends = d.ends.items; taken = d.taken; begun = d.begun; progress = d.progress.items; core = d.core }, d.shelf) };
 
@@ -238,8 +238,8 @@ impl<S: Shelf> Desk<S> {
         let number = progress.replies.len();
         let command = &self.scripts[n].commands()[number];
         match step(&mut self.core, &mut self.shelf, progress, stamp, command) {
-            Stepped::GoesOn(turn) => turn,
-            Stepped::Ends(outcome) => {
+            CommandOutcome::GoesOn(turn) => turn,
+            CommandOutcome::Ends(outcome) => {
                 record_end(
                     self.alloc,
                     &mut self.ends,

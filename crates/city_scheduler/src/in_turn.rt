@@ -6,7 +6,7 @@ ghost use Rattle.city_model.specs.Runs.{IsSerialHistory, model_after};
 ghost use Rattle.city_scheduler.specs.declared.progress.Phase.{Phase};
 ghost use Rattle.city_scheduler.specs.DeskState.{phase_of, is_open_phase};
 ghost use Rattle.city_scheduler.specs.InTurn.{AreInTurn};
-ghost use Rattle.city_scheduler.specs.inside.RunInTurn.{HasRun, HaveRun};
+ghost use Rattle.city_scheduler.specs.internal.RunInTurn.{HasRun, HaveRun};
 
 use crate::desk::{Desk, Finished};
 use crate::null_shelf::NullShelf;

@@ -2,7 +2,7 @@
 ghost use Rattle.std.specs.Prelude.{◌≡◌, IfOk, OnOk};
 ghost use Rattle.city_model.specs.Scripts.{AreScripts};
 ghost use Rattle.city_scheduler.specs.Opening.{unbegun_each};
-ghost use Rattle.city_scheduler.specs.inside.Room.{names_of};
+ghost use Rattle.city_scheduler.specs.internal.Room.{names_of};
 
 use crate::progress::{Phase, Progress};
 use crate::replies::Replies;

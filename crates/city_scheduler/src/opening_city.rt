@@ -24,10 +24,10 @@ pub struct OpeningCity {
 impl Model for OpeningCity {
     ghost use Rattle.std.specs.Prelude.{slice_index_or};
     ghost use Rattle.std.specs.Coded.{codes};
-    ghost use Rattle.city_model.specs.inside.DataCode.{coded_members};
-    ghost use Rattle.city_txn.specs.inside.Codes.{coded_objects};
+    ghost use Rattle.city_model.specs.internal.DataCode.{coded_members};
+    ghost use Rattle.city_txn.specs.internal.Codes.{coded_objects};
     ghost use Rattle.city_model.specs.CityMap.{CityValue};
-    ghost use Rattle.city_scheduler.specs.inside.NoCity.{no_city};
+    ghost use Rattle.city_scheduler.specs.internal.NoCity.{no_city};
 
     ghost Value = { CityValue };
 

@@ -1,7 +1,7 @@
 //! Which script's turn doesn't wait.
 ghost use Rattle.std.specs.Prelude.{◌≡◌, ◌<◌, ℕ, length, true, false, MatchOption};
 ghost use Rattle.city_scheduler.specs.DeskState.{phase_in, is_open_phase};
-ghost use Rattle.city_scheduler.specs.inside.Ready.{is_unopened, IsYoungest};
+ghost use Rattle.city_scheduler.specs.internal.Ready.{is_unopened, IsYoungest};
 
 use crate::progress::{Phase, Progress};
 

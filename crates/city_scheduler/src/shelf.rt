@@ -86,7 +86,7 @@ impl Model for ListShelf {
     ghost Value = { List Change };
 
     ghost use Rattle.std.specs.Coded.{codes};
-    ghost use Rattle.city_model.specs.inside.DataCode.{coded_members};
+    ghost use Rattle.city_model.specs.internal.DataCode.{coded_members};
 
     ghost coded = { Prim.hlevel (codes, coded_members) };
 

@@ -8,7 +8,7 @@ use Rattle.city_serve.specs.Destinations.{Folder}
 use Rattle.city_serve.specs.Programs.{Streams, IsChecked, OfLines}
 use Rattle.city_serve.specs.declared.options.Options.{Options}
 use Rattle.city_serve.specs.declared.program.Status.{Status}
-use Rattle.city_serve.specs.inside.Telling.{IsAnsweredAs, check_status}
+use Rattle.city_serve.specs.internal.Telling.{IsAnsweredAs, check_status}
 
 -- a model and scripts are read, and their lines are made
 pub model_and_scripts : (texts : Folder) (decimals : Bool) (model scripts document commands first behind lines : List ℕ)

@@ -23,7 +23,7 @@ use Rattle.city_serve.specs.ServedTexts.{IsFaultOfRun}
 use Rattle.city_desk.specs.TextRuns.{IsRun}
 use Rattle.city_serve.specs.Decimals.{IsGiven, IsReadEncoded, IsRefusedText, IsOfWholeNumbers, IsDecimalsRun}
 use Rattle.city_serve.specs.Decimals.{IsFaultOfDecimalsRun}
-use Rattle.city_serve.specs.inside.WholeTexts.{HasWholeNumbers}
+use Rattle.city_serve.specs.internal.WholeTexts.{HasWholeNumbers}
 use Rattle.json.specs.Json as json
 use Rattle.serde_json.specs.Read as serde
 use Rattle.city_model.specs.Integral as model

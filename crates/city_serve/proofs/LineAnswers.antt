@@ -12,7 +12,7 @@ use Rattle.city_crew.specs.Limits.{max_workers, max_viewers}
 use Rattle.city_serve.specs.CommandLines.{AnswersCheck, AnswersCheckedNames, AnswersNames, AnswersOptions, AnswersRun}
 use Rattle.city_serve.specs.CommandLines.{AreLineOptions, AreOptionsOf, HasOptions, HasRunOption, IsAskedFiles}
 use Rattle.city_serve.specs.CommandLines.{IsAskedInput, IsCount, IsDestinationOf, IsSameDestination}
-use Rattle.city_serve.specs.inside.CommandShape.{AnswersCheckedPlaces, AnswersPlaces, IsOfRun}
+use Rattle.city_serve.specs.internal.CommandShape.{AnswersCheckedPlaces, AnswersPlaces, IsOfRun}
 use Rattle.city_serve.specs.RunOptions.{AreWithin, plain_destination, plain_options}
 use Rattle.city_serve.specs.declared.command_line.LineFault.{LineFault}
 use Rattle.city_serve.specs.declared.options.Options.{Options}

@@ -13,7 +13,7 @@ use Rattle.json.specs.Json.{no_members, member}
 use Rattle.json.specs.Print.{escape_byte, escape, quoted, IsNumber}
 use Rattle.json.specs.Tree.{depth, items_depth, members_depth, HasNumbers, ItemsHaveNumbers, MembersHaveNumbers}
 use Rattle.json.proofs.Printed.Strings.{escape_byte_plain}
-use Rattle.city_decimals.specs.inside.Compact.{value_text, items_text, members_text, comma_if}
+use Rattle.city_decimals.specs.internal.Compact.{value_text, items_text, members_text, comma_if}
 
 abbrev pub newlines : List ℕ → ℕ
 newlines [] = 0

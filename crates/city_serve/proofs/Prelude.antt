@@ -36,5 +36,5 @@ pub use Rattle.city_serve.specs.ServedTexts.{AppendsSome, AreServedBy}
 pub use Rattle.city_serve.specs.declared.command_line.Asked.{Asked}
 pub use Rattle.city_serve.specs.declared.fault.ServeFault.{ServeFault}
 pub use Rattle.city_serve.specs.declared.options.Destination.{Destination}
-pub use Rattle.city_serve.specs.inside.CommandShape.{cityed_command}
-pub use Rattle.city_serve.specs.inside.Telling.{IsSeenTold}
+pub use Rattle.city_serve.specs.internal.CommandShape.{cityed_command}
+pub use Rattle.city_serve.specs.internal.Telling.{IsSeenTold}

@@ -8,7 +8,7 @@ use Rattle.city_serve.specs.declared.program.Status.{Status}
 use Rattle.city_serve.specs.FaultTexts.{fault_text}
 use Rattle.city_serve.specs.Programs.{Streams, IsAnswered, IsTold, IsToldFault, IsUnanswered, is_explained}
 use Rattle.city_serve.specs.Programs.{seen_lines}
-use Rattle.city_serve.specs.inside.Telling.{IsToldAfter, IsFaultText, IsFound, IsAnsweredAs}
+use Rattle.city_serve.specs.internal.Telling.{IsToldAfter, IsFaultText, IsFound, IsAnsweredAs}
 use Rattle.city_serve.proofs.KnownBytes.{appends_more}
 
 -- the lines of the first viewers, where all that was written came in

@@ -8,4 +8,4 @@ pub mod RunOptions
 pub mod SeenTexts
 pub mod Served
 pub mod ServedTexts
-pub mod inside
+pub mod internal

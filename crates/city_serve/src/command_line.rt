@@ -5,9 +5,9 @@ ghost use Rattle.clap.specs.Words.{app_of, kind_of, rule_of};
 ghost use Rattle.city_serve.specs.RunOptions.{plain_destination, plain_options};
 ghost use Rattle.city_serve.specs.CommandLines.{IsName, Line, IsLineOf, AnswersNames, AnswersOptions, IsShown};
 ghost use Rattle.city_serve.specs.CommandLines.{AreOptionsOf, AsksForText, HasOptions, IsCount, MeetsUnknownOption};
-ghost use Rattle.city_serve.specs.inside.CommandShape.{cityed_command, files_command, flag_rule, option_rule};
-ghost use Rattle.city_serve.specs.inside.CommandShape.{output_rule, run_command, output_command};
-ghost use Rattle.city_serve.specs.inside.CommandShape.{AnswersPlaces, AnswersCheckedPlaces, IsOfRun};
+ghost use Rattle.city_serve.specs.internal.CommandShape.{cityed_command, files_command, flag_rule, option_rule};
+ghost use Rattle.city_serve.specs.internal.CommandShape.{output_rule, run_command, output_command};
+ghost use Rattle.city_serve.specs.internal.CommandShape.{AnswersPlaces, AnswersCheckedPlaces, IsOfRun};
 
 use crate::options::{Destination, Options};
 use city_crew::{MAX_VIEWERS, MAX_WORKERS};

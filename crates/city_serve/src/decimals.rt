@@ -9,7 +9,7 @@ ghost use Rattle.city_serve.specs.RunOptions.{AreWithin};
 ghost use Rattle.city_serve.specs.ServedTexts.{WhereAlone};
 ghost use Rattle.city_serve.specs.Decimals.{IsGiven, IsDecimalsRun, IsFaultOfDecimalsRun};
 ghost use Rattle.city_serve.specs.Destinations.{IsCutAt};
-ghost use Rattle.city_serve.specs.inside.WholeTexts.{HasWholeNumbers};
+ghost use Rattle.city_serve.specs.internal.WholeTexts.{HasWholeNumbers};
 
 use crate::options::Options;
 use crate::run::run_whole;

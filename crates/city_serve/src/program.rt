@@ -6,8 +6,8 @@ ghost use Rattle.city_serve.specs.SeenTexts.{seen_text};
 ghost use Rattle.city_serve.specs.declared.program.Status.{Status};
 ghost use Rattle.city_serve.specs.Programs.{status_code, is_explained, IsUnanswered, IsLineTold, IsToldFault};
 ghost use Rattle.city_serve.specs.Programs.{Ends, EndsAsked};
-ghost use Rattle.city_serve.specs.inside.Telling.{run_status, check_status, IsAnsweredAs, IsFaultText, IsToldAfter};
-ghost use Rattle.city_serve.specs.inside.Telling.{IsSeenTold};
+ghost use Rattle.city_serve.specs.internal.Telling.{run_status, check_status, IsAnsweredAs, IsFaultText, IsToldAfter};
+ghost use Rattle.city_serve.specs.internal.Telling.{IsSeenTold};
 
 use crate::check::check;
 use crate::command_line::{Asked, LineFault, asked_by};

@@ -7,7 +7,7 @@ use Rattle.city_tokens.specs.declared.command.Verb.{Verb}
 use Rattle.city_tokens.specs.declared.command.Verb.TheVariants as verb
 use Rattle.city_tokens.specs.declared.other.Other.{Other}
 use Rattle.city_tokens.specs.declared.other.Other.TheVariants as other
-use Rattle.city_tokens.specs.inside.Commands.{verb_name, with_verb, other_name, AreOthers, IsOther, IsCommandSoFar}
+use Rattle.city_tokens.specs.internal.Commands.{verb_name, with_verb, other_name, AreOthers, IsOther, IsCommandSoFar}
 use Rattle.city_model.specs.declared.command.Command.TheVariants.{Unset, Reshape}
 use Rattle.city_tokens.proofs.PlacedParts.{strings_read}
 

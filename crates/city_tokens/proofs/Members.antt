@@ -7,17 +7,17 @@ use Rattle.city_tokens.proofs.Prelude.{IsReadAs, IsTaken, IsPassed, Token, Geome
 use Rattle.city_tokens.proofs.Prelude.{IsObjectSoFar, Object, Vertex, IsVertex}
 use Rattle.std.proofs.lemmas.Bool.{or_parts}
 use Rattle.serde_json.proofs.Views.{get_member-put}
-use Rattle.city_tokens.specs.inside.Standing.{IsSlot}
+use Rattle.city_tokens.specs.internal.Standing.{IsSlot}
 use Rattle.city_tokens.proofs.tree.Puts.{get_member-put_apart, without-put_own, all_above_lower, put_first, ordered_put}
 use Rattle.city_model.specs.Kept.{object_members, geometry_members}
 use Rattle.city_model.specs.declared.object_type.ObjectType.{ObjectType}
-use Rattle.city_tokens.specs.inside.Geometries.{IsKind, AreBoundaries, IsGeometrySoFar}
-use Rattle.city_tokens.specs.inside.Objects.{IsType, AreObjects}
+use Rattle.city_tokens.specs.internal.Geometries.{IsKind, AreBoundaries, IsGeometrySoFar}
+use Rattle.city_tokens.specs.internal.Objects.{IsType, AreObjects}
 use Rattle.city_tokens.specs.declared.boundaries.Boundaries.{Boundaries}
 use Rattle.city_tokens.specs.declared.geometry.Kind.{Kind}
 use Rattle.city_tokens.specs.declared.geometry.GeometryParts.{GeometryParts}
 use Rattle.city_tokens.specs.declared.document.TopParts.{TopParts}
-use Rattle.city_tokens.specs.inside.Tops.{IsTopSoFar}
+use Rattle.city_tokens.specs.internal.Tops.{IsTopSoFar}
 
 -- members taken out
 above_without : (a n : List ℕ) (ms : Members) → AllAbove a ms → AllAbove a (without n ms)

@@ -5,7 +5,7 @@ use Rattle.city_tokens.proofs.Prelude.{ap, arith, AllByRecursion, Pairs, slice_s
 use Rattle.std.specs.Prelude.{Vec, flat_map}
 use Rattle.std.specs.Vec.{vec_items}
 use Rattle.std.proofs.lemmas.List.{flat_map_more, take-append-drop}
-use Rattle.city_tokens.specs.inside.Stretches.{AreJoined}
+use Rattle.city_tokens.specs.internal.Stretches.{AreJoined}
 
 -- both grow by one at their ends
 pub pairs_push : {A B : Type 0} (R : A → B → Type 0) (xs : List A) (ys : List B) (x : A) (y : B) → Pairs R xs ys → R x y

@@ -4,9 +4,9 @@ use Rattle.city_tokens.proofs.Prelude.{subst, append_assoc, append-nil, arith, T
 use Rattle.city_tokens.proofs.Prelude.{Pairs}
 use Rattle.std.proofs.Common.{inl, inr}
 use Rattle.city_tokens.specs.declared.run.Run.{Run}
-use Rattle.city_tokens.specs.inside.Objects.{IsListing}
-use Rattle.city_tokens.specs.inside.Parts.{AreNext, IsNextObject, IsNextItem}
-use Rattle.city_tokens.specs.inside.Runs.{IsRun, IsAppended, IsLeft, ArePassed}
+use Rattle.city_tokens.specs.internal.Objects.{IsListing}
+use Rattle.city_tokens.specs.internal.Parts.{AreNext, IsNextObject, IsNextItem}
+use Rattle.city_tokens.specs.internal.Runs.{IsRun, IsAppended, IsLeft, ArePassed}
 use Rattle.city_tokens.proofs.Reading.{AreFound, AreRead, members_next, items_next, member_shorter, value_shorter}
 use Rattle.city_tokens.proofs.Pairing.{pairs_push}
 use Rattle.city_tokens.proofs.document.Listings.{listed}

@@ -6,7 +6,7 @@ use Rattle.city_tokens.proofs.Prelude.{Pairs, IsArrayOf, IsListSlot, IsString, I
 use Rattle.city_tokens.proofs.Prelude.{Token, Object, Body, ObjectParts, IsCommand, Command, command_of}
 use Rattle.city_tokens.specs.tree.Lists.{list_or_absent}
 use Rattle.std.specs.Bool.{MatchBool}
-use Rattle.city_tokens.specs.inside.Commands.{IsBody, IsBodySoFar}
+use Rattle.city_tokens.specs.internal.Commands.{IsBody, IsBodySoFar}
 use Rattle.city_tokens.specs.script.Commands.{unrelated_body}
 use Rattle.city_tokens.proofs.Members.{apart_back}
 use Rattle.city_tokens.proofs.tree.Puts.{get_member-put_apart}

@@ -38,13 +38,13 @@ pub use Rattle.city_model.specs.declared.object.Point.{Point}
 pub use Rattle.city_tokens.specs.declared.object.ObjectParts.{ObjectParts}
 pub use Rattle.city_tokens.specs.declared.vertices.Vertex.{Vertex}
 pub use Rattle.city_tokens.specs.document.Cities.{entries_of, objects_of}
-pub use Rattle.city_tokens.specs.inside.Commands.{IsCommand}
-pub use Rattle.city_tokens.specs.inside.Geometries.{IsGeometry}
-pub use Rattle.city_tokens.specs.inside.Objects.{IsObject, IsObjectSoFar, IsPlacedObject}
-pub use Rattle.city_tokens.specs.inside.Positions.{IsPlaced, IsVertex, opened, points_of}
-pub use Rattle.city_tokens.specs.inside.Scripts.{IsScript}
-pub use Rattle.city_tokens.specs.inside.Standing.{IsArrayOf, IsListSlot, IsPassed, IsReadAs, IsString, IsTaken, Pairs}
-pub use Rattle.city_tokens.specs.inside.Taken.{IsValue}
+pub use Rattle.city_tokens.specs.internal.Commands.{IsCommand}
+pub use Rattle.city_tokens.specs.internal.Geometries.{IsGeometry}
+pub use Rattle.city_tokens.specs.internal.Objects.{IsObject, IsObjectSoFar, IsPlacedObject}
+pub use Rattle.city_tokens.specs.internal.Positions.{IsPlaced, IsVertex, opened, points_of}
+pub use Rattle.city_tokens.specs.internal.Scripts.{IsScript}
+pub use Rattle.city_tokens.specs.internal.Standing.{IsArrayOf, IsListSlot, IsPassed, IsReadAs, IsString, IsTaken, Pairs}
+pub use Rattle.city_tokens.specs.internal.Taken.{IsValue}
 pub use Rattle.city_tokens.specs.object.Bodies.{object_of}
 pub use Rattle.city_tokens.specs.script.Commands.{command_of}
 pub use Rattle.city_tokens.specs.shape.Geometries.{geometry_of}

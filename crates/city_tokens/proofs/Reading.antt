@@ -13,9 +13,9 @@ use Rattle.serde_json.specs.Find.{as_i64}
 use Rattle.city_tokens.proofs.Conversions.{converted_some, converted-array, converted-object, item_read, items_over}
 use Rattle.city_tokens.proofs.Conversions.{member_read, members_over}
 use Rattle.city_tokens.proofs.tree.IntegralParts.{put-integral}
-use Rattle.city_tokens.specs.inside.Taken.{IsRestOfArray, IsRestOfObject}
+use Rattle.city_tokens.specs.internal.Taken.{IsRestOfArray, IsRestOfObject}
 use Rattle.city_tokens.specs.shape.Nesting.{Nested}
-use Rattle.city_tokens.specs.inside.Positions.{IsNested}
+use Rattle.city_tokens.specs.internal.Positions.{IsNested}
 
 -- one value
 pub value_shorter : (depth : ℕ) (old new : List Token) (d : Data) → IsValue depth old d new → length new < length old

@@ -7,7 +7,7 @@ use Rattle.city_tokens.proofs.Prelude.{IsString, IsReadAs, IsTaken, list_of, all
 use Rattle.std.proofs.lemmas.Cmp.{tied_itself}
 use Rattle.city_tokens.specs.declared.script.ScriptParts.{ScriptParts}
 use Rattle.city_tokens.specs.script.Scripts.{are_vertices, vertex_points, max_commands}
-use Rattle.city_tokens.specs.inside.Scripts.{with_part, script_members, IsPart, IsScriptSoFar}
+use Rattle.city_tokens.specs.internal.Scripts.{with_part, script_members, IsPart, IsScriptSoFar}
 use Rattle.city_tokens.proofs.tree.AllRead.{are_triples-read, all_read-length}
 use Rattle.city_tokens.proofs.script.CommandLaws.{ends_once-read}
 use Rattle.city_tokens.proofs.document.BuiltFrames.{vertices_read}

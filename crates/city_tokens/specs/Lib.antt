@@ -1,5 +1,5 @@
 pub mod document
-pub mod inside
+pub mod internal
 pub mod object
 pub mod script
 pub mod shape

@@ -1,10 +1,10 @@
 //! Reads the bodies that commands give: objects that name no relations.
 ghost use Rattle.std.specs.Prelude.{IfSome};
-ghost use Rattle.city_tokens.specs.inside.Commands.{IsBody, IsBodySoFar};
-ghost use Rattle.city_tokens.specs.inside.Standing.{IsReadAs};
+ghost use Rattle.city_tokens.specs.internal.Commands.{IsBody, IsBodySoFar};
+ghost use Rattle.city_tokens.specs.internal.Standing.{IsReadAs};
 
+use crate::member_visitor::{MemberVisitor, read_object};
 use crate::object::{ObjectParts, object_of};
-use crate::own::{Own, read_object};
 use city_model::object::Body;
 use city_model::sequence::Sequence;
 use city_model::shared_ids::SharedIds;
@@ -17,10 +17,10 @@ pub struct BodyParts {
     pub object: ObjectParts,
 }
 
-impl Own for BodyParts {
+impl MemberVisitor for BodyParts {
     ghost stands = { IsBodySoFar };
 
-    fn take(
+    fn visit_member(
         &mut self,
         alloc: Global,
         name: &str,

@@ -1,9 +1,9 @@
 //! Reads boundaries, whose type may come after them.
 ghost use Rattle.std.specs.Prelude.{◌≡◌, ◌+◌, ◌∷◌, ℕ, List, IfSome};
 ghost use Rattle.json.specs.Token.{Token as SpecToken, begin_array};
-ghost use Rattle.city_tokens.specs.inside.Geometries.{AreBoundaries};
-ghost use Rattle.city_tokens.specs.inside.Positions.{IsPosition, opened};
-ghost use Rattle.city_tokens.specs.inside.Standing.{IsArrayOf, IsReadAs};
+ghost use Rattle.city_tokens.specs.internal.Geometries.{AreBoundaries};
+ghost use Rattle.city_tokens.specs.internal.Positions.{IsPosition, opened};
+ghost use Rattle.city_tokens.specs.internal.Standing.{IsArrayOf, IsReadAs};
 
 use crate::list::{FromTokens, read_rest};
 use city_model::object::{Point, Shell, Solid, Surface};

@@ -3,15 +3,15 @@ ghost use Rattle.std.specs.Prelude.{◌≡◌, Some, None, IfSome};
 ghost use Rattle.serde_json.specs.Data.{Members, object, string};
 ghost use Rattle.city_tokens.specs.script.Commands.{command_of};
 ghost use Rattle.city_tokens.specs.shape.Geometries.{geometry_of};
-ghost use Rattle.city_tokens.specs.inside.Geometries.{IsGeometry};
-ghost use Rattle.city_tokens.specs.inside.Positions.{IsPlaced, points_of};
-ghost use Rattle.city_tokens.specs.inside.Standing.{IsArrayOf};
+ghost use Rattle.city_tokens.specs.internal.Geometries.{IsGeometry};
+ghost use Rattle.city_tokens.specs.internal.Positions.{IsPlaced, points_of};
+ghost use Rattle.city_tokens.specs.internal.Standing.{IsArrayOf};
 ghost use Rattle.city_tokens.specs.tree.Lists.{list_of};
-ghost use Rattle.city_tokens.specs.inside.Commands.{verb_name, with_verb, AreOthers, IsCommand, IsCommandSoFar};
+ghost use Rattle.city_tokens.specs.internal.Commands.{verb_name, with_verb, AreOthers, IsCommand, IsCommandSoFar};
 
 use crate::list::FromTokens;
+use crate::member_visitor::{MemberVisitor, read_opened};
 use crate::other::{Other, read_other};
-use crate::own::{Own, read_opened};
 use crate::placing::Places;
 use crate::text::{read_str, text_of};
 use crate::vertices::Vertex;
@@ -68,10 +68,10 @@ fn verb_named(name: &str) -> Option<Verb>
     }
 }
 
-impl Own for CommandParts {
+impl MemberVisitor for CommandParts {
     ghost stands = { IsCommandSoFar };
 
-    fn take(
+    fn visit_member(
         &mut self,
         alloc: Global,
         name: &str,

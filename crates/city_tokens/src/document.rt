@@ -5,23 +5,23 @@ ghost use Rattle.serde_json.specs.Find.{get_member};
 ghost use Rattle.serde_json.specs.View.{view, members_view};
 ghost use Rattle.city_model.specs.CityMap.{Entries, object_at};
 ghost use Rattle.city_model.specs.Integral.{is_integral};
-ghost use Rattle.city_model.specs.inside.Faultless.{IsFaultless};
+ghost use Rattle.city_model.specs.internal.Faultless.{IsFaultless};
 ghost use Rattle.city_model.specs.declared.object.Point.{Point as SpecPoint};
 ghost use Rattle.city_tokens.specs.declared.document.TopParts.{TopParts as SpecTopParts};
 ghost use Rattle.city_tokens.specs.document.Cities.{city_of, entries_of};
 ghost use Rattle.city_tokens.specs.tree.Members.{is_text};
 ghost use Rattle.city_tokens.specs.tree.Texts.{HasTree};
-ghost use Rattle.city_tokens.specs.inside.Faultless.{AreFaultless};
-ghost use Rattle.city_tokens.specs.inside.Objects.{IsListing, IsPlacedObject};
-ghost use Rattle.city_tokens.specs.inside.Standing.{Pairs};
-ghost use Rattle.city_tokens.specs.inside.Tops.{IsTopSoFar, IsTop, IsCity, ArePlaced};
+ghost use Rattle.city_tokens.specs.internal.Faultless.{AreFaultless};
+ghost use Rattle.city_tokens.specs.internal.Objects.{IsListing, IsPlacedObject};
+ghost use Rattle.city_tokens.specs.internal.Standing.{Pairs};
+ghost use Rattle.city_tokens.specs.internal.Tops.{IsTopSoFar, IsTop, IsCity, ArePlaced};
 
 use crate::frame::frame_of_rest;
 use crate::in_pieces::top_in_pieces;
 use crate::list::FromTokens;
+use crate::member_visitor::{MemberVisitor, read_object};
 use crate::object::UnplacedObject;
 use crate::objects::read_objects;
-use crate::own::{Own, read_object};
 use crate::pieces::Pieces;
 use crate::placing::place_objects;
 use crate::stretches::place_objects_by;
@@ -45,10 +45,10 @@ pub struct TopParts {
     pub vertices: Option<Sequence<Vertex>>,
 }
 
-impl Own for TopParts {
+impl MemberVisitor for TopParts {
     ghost stands = { IsTopSoFar };
 
-    fn take(
+    fn visit_member(
         &mut self,
         alloc: Global,
         name: &str,

@@ -2,11 +2,11 @@
 ghost use Rattle.std.specs.Prelude.{◌≡◌, ℕ, Some, IfSome};
 ghost use Rattle.serde_json.specs.Data.{Data, Members, object};
 ghost use Rattle.serde_json.specs.View.{members_view};
-ghost use Rattle.city_tokens.specs.inside.Geometries.{kind_name, AreBoundaries, IsShape, IsGeometry, IsGeometrySoFar};
+ghost use Rattle.city_tokens.specs.internal.Geometries.{kind_name, AreBoundaries, IsShape, IsGeometry, IsGeometrySoFar};
 
 use crate::boundaries::{Boundaries, read_boundaries};
 use crate::list::FromTokens;
-use crate::own::{Own, read_object};
+use crate::member_visitor::{MemberVisitor, read_object};
 use crate::text::{read_str, text_of};
 use city_model::kept::extra::Extra;
 use city_model::object::{Geometry, Shape};
@@ -69,10 +69,10 @@ pub struct GeometryParts {
     pub boundaries: Option<Boundaries>,
 }
 
-impl Own for GeometryParts {
+impl MemberVisitor for GeometryParts {
     ghost stands = { IsGeometrySoFar };
 
-    fn take(
+    fn visit_member(
         &mut self,
         alloc: Global,
         name: &str,

@@ -2,17 +2,17 @@
 ghost use Rattle.std.specs.Prelude.{◌≡◌, [], true, IfSome};
 ghost use Rattle.serde_json.specs.Data.{Data, Members};
 ghost use Rattle.city_model.specs.Integral.{is_integral};
-ghost use Rattle.city_tokens.specs.inside.Objects.{AreObjects, IsListing};
-ghost use Rattle.city_tokens.specs.inside.Standing.{IsReadAs};
-ghost use Rattle.city_tokens.specs.inside.Taken.{IsRestOfObject};
-ghost use Rattle.city_tokens.specs.inside.Tops.{IsTop, IsTopInPieces};
+ghost use Rattle.city_tokens.specs.internal.Objects.{AreObjects, IsListing};
+ghost use Rattle.city_tokens.specs.internal.Standing.{IsReadAs};
+ghost use Rattle.city_tokens.specs.internal.Taken.{IsRestOfObject};
+ghost use Rattle.city_tokens.specs.internal.Tops.{IsTop, IsTopInPieces};
 ghost use Rattle.city_tokens.specs.tree.Texts.{HasTree};
 
 use crate::cuts::cuts_of_document;
 use crate::document::{Top, TopParts};
 use crate::limits::MAX_TEXT;
+use crate::member_visitor::{MemberVisitor, read_object as read_members};
 use crate::object::{UnplacedObject, read_object};
-use crate::own::{Own, read_object as read_members};
 use crate::part::PART_DEPTH;
 use crate::pieces::Pieces;
 use crate::runs::Runs;
@@ -65,10 +65,10 @@ pub struct TopInPieces<'t> {
     pub runs: Runs<'t>,
 }
 
-impl<'t> Own for TopInPieces<'t> {
+impl<'t> MemberVisitor for TopInPieces<'t> {
     ghost stands = { IsTopInPieces };
 
-    fn take(
+    fn visit_member(
         &mut self,
         alloc: Global,
         name: &str,

@@ -2,10 +2,10 @@
 ghost use Rattle.std.specs.Prelude.{◌+◌, List, IfSome};
 ghost use Rattle.serde_json.specs.Data.{Data};
 ghost use Rattle.serde_json.specs.View.{items_of};
-ghost use Rattle.city_tokens.specs.inside.Parts.{IsNextItem};
-ghost use Rattle.city_tokens.specs.inside.Runs.{IsRun};
-ghost use Rattle.city_tokens.specs.inside.Standing.{Pairs, IsArrayOf, IsReadAs};
-ghost use Rattle.city_tokens.specs.inside.Taken.{IsRestOfArray};
+ghost use Rattle.city_tokens.specs.internal.Parts.{IsNextItem};
+ghost use Rattle.city_tokens.specs.internal.Runs.{IsRun};
+ghost use Rattle.city_tokens.specs.internal.Standing.{Pairs, IsArrayOf, IsReadAs};
+ghost use Rattle.city_tokens.specs.internal.Taken.{IsRestOfArray};
 
 use crate::list::FromTokens;
 use crate::run::Run;

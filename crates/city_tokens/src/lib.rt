@@ -4,7 +4,7 @@
 //! a text is odd there is no answer, and the text has to be read from its tree.
 //!
 //! - `value`, `text`, `list`: values, texts and arrays
-//! - `own`: objects some of whose members have places of their own, while the others are kept
+//! - `member_visitor`: objects some of whose members have places of their own, while the others are kept
 //! - `position`, `vertices`, `boundaries`, `placing`, `stretches`: positions, and the points that take their places
 //! - `geometry`, `object`, `objects`, `document`: what a city is made of, and the city
 //! - `cuts`, `part`, `run`, `items`, `runs`, `in_pieces`: texts of which several workers read pieces
@@ -24,10 +24,10 @@ mod in_pieces;
 mod items;
 mod limits;
 mod list;
+mod member_visitor;
 mod object;
 mod objects;
 mod other;
-mod own;
 mod part;
 mod pieces;
 mod placing;

@@ -2,8 +2,8 @@
 ghost use Rattle.std.specs.Prelude.{◌≡◌, ◌++◌, List, IfSome};
 ghost use Rattle.serde_json.specs.Data.{Data};
 ghost use Rattle.serde_json.specs.View.{items_of};
-ghost use Rattle.city_tokens.specs.inside.Standing.{Pairs, IsArrayOf, IsReadAs};
-ghost use Rattle.city_tokens.specs.inside.Taken.{IsRestOfArray};
+ghost use Rattle.city_tokens.specs.internal.Standing.{Pairs, IsArrayOf, IsReadAs};
+ghost use Rattle.city_tokens.specs.internal.Taken.{IsRestOfArray};
 
 use city_model::sequence::Sequence;
 use city_reader::Reader;

@@ -2,11 +2,11 @@
 ghost use Rattle.std.specs.Prelude.{◌≡◌, ℕ, Some, IfSome};
 ghost use Rattle.serde_json.specs.Data.{Members, object};
 ghost use Rattle.serde_json.specs.View.{members_view};
-ghost use Rattle.city_tokens.specs.inside.Objects.{IsObject, IsObjectSoFar};
-ghost use Rattle.city_tokens.specs.inside.Standing.{IsArrayOf, IsReadAs, IsString};
+ghost use Rattle.city_tokens.specs.internal.Objects.{IsObject, IsObjectSoFar};
+ghost use Rattle.city_tokens.specs.internal.Standing.{IsArrayOf, IsReadAs, IsString};
 
 use crate::list::FromTokens;
-use crate::own::{Own, read_object as read_members};
+use crate::member_visitor::{MemberVisitor, read_object as read_members};
 use crate::text::read_str;
 use city_model::kept::extra::Extra;
 use city_model::kept::shared_extra::SharedExtra;
@@ -30,10 +30,10 @@ pub struct ObjectParts {
     pub children: SharedIds,
 }
 
-impl Own for ObjectParts {
+impl MemberVisitor for ObjectParts {
     ghost stands = { IsObjectSoFar };
 
-    fn take(
+    fn visit_member(
         &mut self,
         alloc: Global,
         name: &str,
@@ -82,7 +82,7 @@ pub struct UnplacedObject {
 impl Model for UnplacedObject {
     ghost use Rattle.city_model.specs.declared.object.Object.{Object};
     ghost use Rattle.std.specs.Coded.{codes};
-    ghost use Rattle.city_model.specs.inside.DataCode.{coded_members};
+    ghost use Rattle.city_model.specs.internal.DataCode.{coded_members};
 
     ghost Value = { Object };
 

@@ -1,10 +1,10 @@
 //! Reads the objects of a document by their ids.
 ghost use Rattle.std.specs.Prelude.{◌≡◌, IfSome};
-ghost use Rattle.city_tokens.specs.inside.Objects.{AreObjects, IsListingSoFar};
-ghost use Rattle.city_tokens.specs.inside.Standing.{IsReadAs};
+ghost use Rattle.city_tokens.specs.internal.Objects.{AreObjects, IsListingSoFar};
+ghost use Rattle.city_tokens.specs.internal.Standing.{IsReadAs};
 
+use crate::member_visitor::{MemberVisitor, read_object as read_members};
 use crate::object::{UnplacedObject, read_object};
-use crate::own::{Own, read_object as read_members};
 use crate::text::text_of;
 use city_model::sequence::Sequence;
 use city_model::text::Id;
@@ -17,10 +17,10 @@ pub struct Listing {
     pub objects: Sequence<(Id, UnplacedObject)>,
 }
 
-impl Own for Listing {
+impl MemberVisitor for Listing {
     ghost stands = { IsListingSoFar };
 
-    fn take(
+    fn visit_member(
         &mut self,
         alloc: Global,
         name: &str,

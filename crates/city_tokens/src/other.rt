@@ -1,7 +1,7 @@
 //! Reads what a command has beside its id: an object, a parent, attributes or geometries.
 ghost use Rattle.std.specs.Prelude.{◌≡◌, IfSome, codes};
-ghost use Rattle.city_tokens.specs.inside.Commands.{other_name, IsOther};
-ghost use Rattle.city_tokens.specs.inside.Standing.{IsReadAs};
+ghost use Rattle.city_tokens.specs.internal.Commands.{other_name, IsOther};
+ghost use Rattle.city_tokens.specs.internal.Standing.{IsReadAs};
 
 use crate::body::read_body;
 use crate::list::{FromTokens, read_rest};

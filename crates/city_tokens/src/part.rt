@@ -2,7 +2,7 @@
 ghost use Rattle.std.specs.Prelude.{◌≡◌, ◌<◌, List, length, IfSome};
 ghost use Rattle.json.specs.Token.{Token as SpecToken};
 ghost use Rattle.city_reader.specs.Positions.{tokens_from};
-ghost use Rattle.city_tokens.specs.inside.Parts.{AreNext, IsNextObject, IsNextVertex, IsNextScript};
+ghost use Rattle.city_tokens.specs.internal.Parts.{AreNext, IsNextObject, IsNextVertex, IsNextScript};
 
 use crate::list::FromTokens;
 use crate::object::{UnplacedObject, read_object};

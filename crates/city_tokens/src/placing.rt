@@ -5,10 +5,10 @@ ghost use Rattle.city_model.specs.declared.object.Point as p;
 ghost use Rattle.city_model.specs.Shells.{body_fault};
 ghost use Rattle.city_tokens.specs.object.Bodies.{object_of};
 ghost use Rattle.city_tokens.specs.shape.Geometries.{point_at, shape_of, geometry_of};
-ghost use Rattle.city_tokens.specs.inside.Geometries.{IsShape, IsGeometry};
-ghost use Rattle.city_tokens.specs.inside.Objects.{IsObject, IsPlacedObject};
-ghost use Rattle.city_tokens.specs.inside.Positions.{IsPlaced, IsPosition, points_of};
-ghost use Rattle.city_tokens.specs.inside.Standing.{Pairs, IsArrayOf};
+ghost use Rattle.city_tokens.specs.internal.Geometries.{IsShape, IsGeometry};
+ghost use Rattle.city_tokens.specs.internal.Objects.{IsObject, IsPlacedObject};
+ghost use Rattle.city_tokens.specs.internal.Positions.{IsPlaced, IsPosition, points_of};
+ghost use Rattle.city_tokens.specs.internal.Standing.{Pairs, IsArrayOf};
 ghost use Rattle.city_tokens.specs.tree.Lists.{list_of};
 
 use crate::object::UnplacedObject;

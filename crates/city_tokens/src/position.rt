@@ -1,5 +1,5 @@
 //! Reads positions, whose points may not be known yet.
-ghost use Rattle.city_tokens.specs.inside.Positions.{IsPosition};
+ghost use Rattle.city_tokens.specs.internal.Positions.{IsPosition};
 
 use crate::list::FromTokens;
 use crate::vertices::read_whole;

@@ -1,7 +1,7 @@
 //! Parts of a text that several workers read beforehand.
 ghost use Rattle.std.specs.Prelude.{◌≡◌, ◌++◌, ℕ, List, [], IfSome};
 ghost use Rattle.std.specs.List.{AllByRecursion};
-ghost use Rattle.city_tokens.specs.inside.Runs.{IsRun, IsAppended, IsLeft, ArePassed};
+ghost use Rattle.city_tokens.specs.internal.Runs.{IsRun, IsAppended, IsLeft, ArePassed};
 
 use crate::part::{Part, read_between};
 use city_reader::{Position, Reader};

@@ -1,10 +1,10 @@
 //! The objects and the vertices of a document that several workers read beforehand.
 ghost use Rattle.std.specs.Prelude.{◌≡◌, ◌++◌, ℕ, List, IfSome};
 ghost use Rattle.city_model.specs.declared.object.Object.{Object};
-ghost use Rattle.city_tokens.specs.inside.Parts.{AreNext, IsNextObject, IsNextVertex};
-ghost use Rattle.city_tokens.specs.inside.Positions.{IsVertex};
-ghost use Rattle.city_tokens.specs.inside.Runs.{IsRun};
-ghost use Rattle.city_tokens.specs.inside.Standing.{IsArrayOf, IsReadAs};
+ghost use Rattle.city_tokens.specs.internal.Parts.{AreNext, IsNextObject, IsNextVertex};
+ghost use Rattle.city_tokens.specs.internal.Positions.{IsVertex};
+ghost use Rattle.city_tokens.specs.internal.Runs.{IsRun};
+ghost use Rattle.city_tokens.specs.internal.Standing.{IsArrayOf, IsReadAs};
 
 use crate::cuts::Cuts;
 use crate::items::read_items;
@@ -32,7 +32,7 @@ impl<'t> Model for Runs<'t> {
 
     ghost Value = { List ℕ };
 
-    ghost use Rattle.city_tokens.specs.inside.DocumentRuns.{text_of, AreRuns};
+    ghost use Rattle.city_tokens.specs.internal.DocumentRuns.{text_of, AreRuns};
 
     ghost view = { text_of };
 

@@ -1,11 +1,11 @@
 //! Reads scripts.
 ghost use Rattle.std.specs.Prelude.{Some, IfSome};
 ghost use Rattle.serde_json.specs.Data.{Members, object};
-ghost use Rattle.city_tokens.specs.inside.Scripts.{IsScript, IsScriptSoFar};
+ghost use Rattle.city_tokens.specs.internal.Scripts.{IsScript, IsScriptSoFar};
 
 use crate::limits::MAX_COMMANDS;
 use crate::list::FromTokens;
-use crate::own::{Own, read_object};
+use crate::member_visitor::{MemberVisitor, read_object};
 use crate::placing::Places;
 use crate::vertices::Vertex;
 use city_model::command::Command;
@@ -23,10 +23,10 @@ pub struct ScriptParts {
     pub vertices: Sequence<Vertex>,
 }
 
-impl Own for ScriptParts {
+impl MemberVisitor for ScriptParts {
     ghost stands = { IsScriptSoFar };
 
-    fn take(
+    fn visit_member(
         &mut self,
         alloc: Global,
         name: &str,

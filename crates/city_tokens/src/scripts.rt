@@ -2,10 +2,10 @@
 ghost use Rattle.std.specs.Prelude.{◌≡◌, [], true, Some, IfSome};
 ghost use Rattle.serde_json.specs.Data.{Data};
 ghost use Rattle.city_model.specs.Integral.{is_integral};
-ghost use Rattle.city_tokens.specs.inside.Parts.{IsNextScript};
-ghost use Rattle.city_tokens.specs.inside.Runs.{IsRun};
-ghost use Rattle.city_tokens.specs.inside.Scripts.{IsScript};
-ghost use Rattle.city_tokens.specs.inside.Standing.{IsArrayOf, IsReadAs as IsValueReadAs};
+ghost use Rattle.city_tokens.specs.internal.Parts.{IsNextScript};
+ghost use Rattle.city_tokens.specs.internal.Runs.{IsRun};
+ghost use Rattle.city_tokens.specs.internal.Scripts.{IsScript};
+ghost use Rattle.city_tokens.specs.internal.Standing.{IsArrayOf, IsReadAs as IsValueReadAs};
 ghost use Rattle.city_tokens.specs.script.Scripts.{IsReadAs, scripts_of};
 ghost use Rattle.city_tokens.specs.tree.Texts.{HasTree};
 

@@ -1,10 +1,10 @@
 //! Replaces the positions of objects by their points, by several workers: each takes a stretch of the objects.
 ghost use Rattle.std.specs.Prelude.{◌≡◌, IfSome, flat_map};
 ghost use Rattle.std.specs.Vec.{vec_items};
-ghost use Rattle.city_tokens.specs.inside.Objects.{IsPlacedObject};
-ghost use Rattle.city_tokens.specs.inside.Positions.{points_of};
-ghost use Rattle.city_tokens.specs.inside.Standing.{Pairs};
-ghost use Rattle.city_tokens.specs.inside.Stretches.{AreJoined, PairsIfPlaced};
+ghost use Rattle.city_tokens.specs.internal.Objects.{IsPlacedObject};
+ghost use Rattle.city_tokens.specs.internal.Positions.{points_of};
+ghost use Rattle.city_tokens.specs.internal.Standing.{Pairs};
+ghost use Rattle.city_tokens.specs.internal.Stretches.{AreJoined, PairsIfPlaced};
 
 use crate::object::UnplacedObject;
 use crate::placing::place_objects;

@@ -1,8 +1,8 @@
 //! Reads texts.
 ghost use Rattle.std.specs.Prelude.{◌≡◌, ℕ, IfSome};
 ghost use Rattle.serde_json.specs.Data.{string};
-ghost use Rattle.city_tokens.specs.inside.Standing.{IsString};
-ghost use Rattle.city_tokens.specs.inside.Taken.{IsValue};
+ghost use Rattle.city_tokens.specs.internal.Standing.{IsString};
+ghost use Rattle.city_tokens.specs.internal.Taken.{IsValue};
 
 use crate::list::FromTokens;
 use city_model::text::{Id, Text};

@@ -2,7 +2,7 @@
 ghost use Rattle.std.specs.Prelude.{◌≡◌, IfSome};
 ghost use Rattle.serde_json.specs.Data.{Data, put};
 ghost use Rattle.serde_json.specs.View.{view, items_view, members_view};
-ghost use Rattle.city_tokens.specs.inside.Taken.{IsValue, IsRestOfArray, IsRestOfObject};
+ghost use Rattle.city_tokens.specs.internal.Taken.{IsValue, IsRestOfArray, IsRestOfObject};
 
 use city_reader::{Reader, whole_of};
 use json::Token;

@@ -2,8 +2,8 @@
 ghost use Rattle.std.specs.Prelude.{◌≡◌, ℕ, Some, IfSome};
 ghost use Rattle.serde_json.specs.Data.{number};
 ghost use Rattle.serde_json.specs.Find.{of_integer, as_i64};
-ghost use Rattle.city_tokens.specs.inside.Positions.{IsVertex};
-ghost use Rattle.city_tokens.specs.inside.Taken.{IsValue};
+ghost use Rattle.city_tokens.specs.internal.Positions.{IsVertex};
+ghost use Rattle.city_tokens.specs.internal.Taken.{IsValue};
 
 use crate::list::FromTokens;
 use city_model::object::Point;

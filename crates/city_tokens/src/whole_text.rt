@@ -2,7 +2,7 @@
 ghost use Rattle.std.specs.Prelude.{◌≡◌, [], true, IfSome};
 ghost use Rattle.serde_json.specs.Data.{Data};
 ghost use Rattle.city_model.specs.Integral.{is_integral};
-ghost use Rattle.city_tokens.specs.inside.Standing.{IsReadAs};
+ghost use Rattle.city_tokens.specs.internal.Standing.{IsReadAs};
 ghost use Rattle.city_tokens.specs.tree.Texts.{HasTree};
 
 use crate::limits::MAX_TEXT;

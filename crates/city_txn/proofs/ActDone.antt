@@ -1,6 +1,6 @@
 -- A call of the core: its locks gained, and its command done on the store.
 use Rattle.city_txn.proofs.Prelude.{arith, ◌≡◌, ℕ, List, [], ◌∷◌, ◌++◌, Bool, true, false, Some, Result, Ok, refl, ap}
-use Rattle.city_txn.proofs.Prelude.{sym, ◌∙◌, subst, false≢true, Command, Reply, WentBack, Exclusive, CityMap, View}
+use Rattle.city_txn.proofs.Prelude.{sym, ◌∙◌, subst, false≢true, Command, Reply, WentBack, Exclusive, CityMap, Snapshot}
 use Rattle.city_txn.proofs.Prelude.{unmarked, locks_of, IsLawful, Lock, Answered, IsTraceUnderLocks, covers}
 use Rattle.city_txn.proofs.Prelude.{locks_id_exclusively, action, answer, step, Locks, mode_of, Written, CoreState}
 use Rattle.city_txn.proofs.Prelude.{committed, written, snapshot, is_open, held, StandsUnderLocks, refused_stays}
@@ -8,12 +8,12 @@ use Rattle.city_txn.proofs.Prelude.{core_state, IsCore, IsWrittenUnder, written_
 use Rattle.std.proofs.Common.{◌≢◌, Err}
 use Rattle.std.specs.Prelude.{if◌then◌else◌, IfOk, IfErr, OnOk, IsOk}
 use Rattle.std.proofs.lemmas.Result.{on_ok_weaker}
-use Rattle.city_txn.specs.inside.Prelude.{Answers, effect, is_end, AllHeld, Answer, Granted, held_in, granted_before}
-use Rattle.city_txn.specs.inside.Prelude.{GainsFirst, IsBlocked, HoldsLock, Asked, Step, TxnFault, NotOpen, OutOfMemory}
-use Rattle.city_txn.specs.inside.Prelude.{Inside, write_of, answer_in, granted_in, step_of, is_done, with_step, IsAct}
-use Rattle.city_txn.specs.inside.Prelude.{State, store_written, Touches}
+use Rattle.city_txn.specs.internal.Prelude.{Answers, effect, is_end, AllHeld, Answer, Granted, held_in, granted_before}
+use Rattle.city_txn.specs.internal.Prelude.{GainsFirst, IsBlocked, HoldsLock, Asked, Step, TxnFault, NotOpen, OutOfMemory}
+use Rattle.city_txn.specs.internal.Prelude.{Inside, write_of, answer_in, granted_in, step_of, is_done, with_step, IsAct}
+use Rattle.city_txn.specs.internal.Prelude.{State, store_written, Touches}
 use Rattle.city_model.proofs.GoingOn.{effect_is}
-use Rattle.city_txn.specs.inside.Performing.{MayPerform}
+use Rattle.city_txn.specs.internal.Performing.{MayPerform}
 use Rattle.city_txn.proofs.CoreFields.{open_is, sound_view, open_only, to_kept, from_kept, LeavesOthers, leaves_others}
 use Rattle.city_txn.proofs.CoreFields.{written_beside, seen_beside, keeps, consistent}
 use Rattle.city_locks.proofs.LocksAsked.{all_granted, gains_nothing, blocked_weaker}
@@ -46,7 +46,7 @@ module _ {s : ℕ} {c : Command} {was_open : Bool} {a : Inside} {u : CoreState} 
   v = core_state a
 
   -- what the transaction sees, the locks that the command asks for, and its reply
-  abbrev x : View
+  abbrev x : Snapshot
   x = snapshot v s
 
   abbrev ls : List Lock

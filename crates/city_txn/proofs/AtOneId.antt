@@ -18,9 +18,9 @@ use Rattle.std.proofs.lemmas.Map.Entries.{none_past_head}
 use Rattle.city_model.proofs.Objects.{at_entries, entries_ascend, at_sorted, same_objects}
 use Rattle.city_model.specs.CityMap.{CityValue}
 use Rattle.city_txn.specs.Writes.{made_by}
-use Rattle.city_txn.specs.inside.Images.{is_orphan_written}
-use Rattle.city_txn.specs.inside.InPlace.{IsPlain}
-use Rattle.city_txn.specs.inside.UndoState.{Images}
+use Rattle.city_txn.specs.internal.Images.{is_orphan_written}
+use Rattle.city_txn.specs.internal.InPlace.{IsPlain}
+use Rattle.city_txn.specs.internal.UndoState.{Images}
 
 -- the test of a map's keys is that of numbers
 pub tied : (s t : ℕ) → is_at (nat_cmp s) t ≡ (s == t)

@@ -4,17 +4,17 @@ use Rattle.city_txn.proofs.Prelude.{arith, ◌≡◌, ◌==◌, ℕ, List, Bool,
 use Rattle.city_txn.proofs.Prelude.{[], refl, rules, tests, None, Some, if◌then◌else◌, false≢true, eq-eqb}
 use Rattle.city_txn.proofs.Prelude.{is_some-lookup, CityMap, unmarked, IsSound, IsLawful, Answered, mode_of, CoreState}
 use Rattle.city_txn.proofs.Prelude.{committed, view, written, snapshot, is_open, held, StandsUnderLocks, view_with}
-use Rattle.city_txn.proofs.Prelude.{Exclusive, View, IsTraceUnderLocks, Locks, bool_cases, Kept, IsConsistent}
+use Rattle.city_txn.proofs.Prelude.{Exclusive, Snapshot, IsTraceUnderLocks, Locks, bool_cases, Kept, IsConsistent}
 use Rattle.city_txn.proofs.Prelude.{core_state, IsCore}
 use Rattle.std.proofs.Common.{cond}
 use Rattle.std.proofs.lemmas.Bool.{eqb-false}
-use Rattle.city_txn.specs.inside.Prelude.{IsSoundView, Lawful, KeepsOthers, Objects, object_at, HasNoOrphan, Inside}
-use Rattle.city_txn.specs.inside.Prelude.{write_of, own_write, log_of, own, IsTransactionEnd, IsRolledBack, State}
-use Rattle.city_txn.specs.inside.Prelude.{is_begun, Begins, is_reserved, Forgets}
+use Rattle.city_txn.specs.internal.Prelude.{IsSoundView, Lawful, KeepsOthers, Objects, object_at, HasNoOrphan, Inside}
+use Rattle.city_txn.specs.internal.Prelude.{write_of, own_write, log_of, own, IsTransactionEnd, IsRolledBack, State}
+use Rattle.city_txn.specs.internal.Prelude.{is_begun, Begins, is_reserved, Forgets}
 use Rattle.city_model.proofs.History.{follows_sound}
 use Rattle.city_model.specs.declared.frame.Frame.{Frame}
 use Rattle.city_model.proofs.Carried.{history_kept}
-use Rattle.city_txn.specs.inside.Core.{kept, nothing, written_of, Stands, IsKept}
+use Rattle.city_txn.specs.internal.Core.{kept, nothing, written_of, Stands, IsKept}
 use Rattle.city_txn.proofs.SeenWrites.{seen_with, seen_same, own_or_is, own_left, view_carried}
 use Rattle.city_txn.proofs.AtOneId.{tied}
 
@@ -222,7 +222,7 @@ module _ {a : Inside} (k : IsCore a) (s : ℕ) (st : State) where
           let each = k.state.each t in
           let carried = view_carried (held v t) (committed v) (committed w)
           (λ q e. agree t ne q (ap is_some e)) (written v t) each.covered in
-          subst (λ (x : View). IsTraceUnderLocks (held v t) (unmarked (committed w)) done x) carried
+          subst (λ (x : Snapshot). IsTraceUnderLocks (held v t) (unmarked (committed w)) done x) carried
           (history_kept (held v t) (committed v) (committed w) done (view_with (committed v) (written v t))
           k.state.city.0 (subst IsSound (sym city) (sound_view v s k.state)) (agree t ne) stands)
 

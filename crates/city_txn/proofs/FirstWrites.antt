@@ -12,11 +12,11 @@ use Rattle.city_model.specs.CityMap.{CityMap, CityValue, changed}
 use Rattle.city_txn.specs.Placeholder.{placeholder}
 use Rattle.city_txn.specs.declared.ending.End.TheVariants.{RollBack}
 use Rattle.city_txn.specs.declared.undo.Undo.{Undo}
-use Rattle.city_txn.specs.inside.FirstWrites.{first_image, image_put}
-use Rattle.city_txn.specs.inside.Images.{is_orphan_written, written_over}
-use Rattle.city_txn.specs.inside.InPlace.{IsPlain}
-use Rattle.city_txn.specs.inside.State.{is_begun}
-use Rattle.city_txn.specs.inside.UndoState.{Images, listed_by}
+use Rattle.city_txn.specs.internal.FirstWrites.{first_image, image_put}
+use Rattle.city_txn.specs.internal.Images.{is_orphan_written, written_over}
+use Rattle.city_txn.specs.internal.InPlace.{IsPlain}
+use Rattle.city_txn.specs.internal.State.{is_begun}
+use Rattle.city_txn.specs.internal.UndoState.{Images, listed_by}
 use Rattle.city_txn.proofs.StoreChanged.{OwnWritten, own_written, reserved_before}
 use Rattle.city_txn.proofs.Touched.{touches_writes}
 use Rattle.city_txn.proofs.AtOneId.{here, image, city_is, writes_is, plain_at, plain_by, one_of_plain}

@@ -1,19 +1,19 @@
 -- A command done on the store, by its action.
 use Rattle.city_txn.proofs.Prelude.{arith, ◌≡◌, ℕ, List, [], Bool, true, false, Some, Result, Ok, refl, ap, sym}
-use Rattle.city_txn.proofs.Prelude.{◌∙◌, subst, false≢true, Command, Reply, WentBack, CityMap, View, marks_from, locks_of}
+use Rattle.city_txn.proofs.Prelude.{◌∙◌, subst, false≢true, Command, Reply, WentBack, CityMap, Snapshot, marks_from, locks_of}
 use Rattle.city_txn.proofs.Prelude.{locks_id_exclusively, action, answer, written_at_mark, written_by, own_with, map_with}
 use Rattle.city_txn.proofs.Prelude.{marks_with, AreOf, from_mapped, keys_of, IsPerform}
 use Rattle.std.proofs.Common.{IsErr, if◌then◌else◌}
-use Rattle.city_txn.specs.inside.Prelude.{Refused, NoMark, Change, Action, Refuses, Edits, applied, reply_of}
-use Rattle.city_txn.specs.inside.Prelude.{is_mark, write_of, own_write, Logs, log_of, has_mark, State, store_own}
-use Rattle.city_txn.specs.inside.Prelude.{store_written, store_committed, store_view, MayReserve, Touches}
+use Rattle.city_txn.specs.internal.Prelude.{Refused, NoMark, Change, Action, Refuses, Edits, applied, reply_of}
+use Rattle.city_txn.specs.internal.Prelude.{is_mark, write_of, own_write, Logs, log_of, has_mark, State, store_own}
+use Rattle.city_txn.specs.internal.Prelude.{store_written, store_committed, store_view, MayReserve, Touches}
 use Rattle.city_model.specs.declared.command.Cause.{Cause}
 use Rattle.city_model.specs.declared.plan.Plan.{Plan}
-use Rattle.city_model.specs.inside.Plans.{AreWritesOf, IsPlan}
+use Rattle.city_model.specs.internal.Plans.{AreWritesOf, IsPlan}
 use Rattle.city_model.proofs.ActionKinds.{IsKindOf, kind_of}
 use Rattle.city_model.proofs.FrameLaw.{exclusive_is_named}
 use Rattle.city_model.proofs.FramedActions.{edits_locked}
-use Rattle.city_txn.specs.inside.Performing.{MayPerform, plans as writes_of, seen}
+use Rattle.city_txn.specs.internal.Performing.{MayPerform, plans as writes_of, seen}
 use Rattle.city_txn.proofs.Touched.{touches_itself, touches_more}
 use Rattle.city_txn.proofs.UndoLogs.{no_mark_from, mark_is_there}
 use Rattle.city_model.specs.declared.command.Command.TheVariants as commands
@@ -21,15 +21,15 @@ use Rattle.city_model.specs.declared.plan.Plan.TheVariants as plans
 
 -- ---- who went back
 
-went_as : (x : View) (c : Command) (a : Action) → IsKindOf c a → reply_of (applied x a) ≡ WentBack
+went_as : (x : Snapshot) (c : Command) (a : Action) → IsKindOf c a → reply_of (applied x a) ≡ WentBack
     → (is_mark c ≡ true) × (locks_of x.map c ≡ [])
 went_as x c a k e = grind arith
 
 -- a command that goes back locks nothing
-pub went_back : (x : View) (c : Command) → answer x c ≡ WentBack → (is_mark c ≡ true) × (locks_of x.map c ≡ [])
+pub went_back : (x : Snapshot) (c : Command) → answer x c ≡ WentBack → (is_mark c ≡ true) × (locks_of x.map c ≡ [])
 went_back x c e = went_as x c (action x.map c) (kind_of x.map c) e
 
-not_back : (x : View) (c : Command) → is_mark c ≡ false → answer x c ≡ WentBack → ⊥
+not_back : (x : Snapshot) (c : Command) → is_mark c ≡ false → answer x c ≡ WentBack → ⊥
 not_back x c leaves e = false≢true (sym leaves ∙ (went_back x c e).0)
 
 -- a command for which there is no memory writes nothing
@@ -74,7 +74,7 @@ module _ (s : ℕ) (name : List ℕ) (v : State) (logs : Logs) (is : logs ≡ v.
 -- ---- a command that leaves marks
 
 module _ (s : ℕ) (c : Command) (v : State) where
-  abbrev x : View
+  abbrev x : Snapshot
   x = seen v s
 
   abbrev locked : List ℕ → Bool

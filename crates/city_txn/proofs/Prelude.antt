@@ -21,26 +21,26 @@ pub use Rattle.city_model.specs.Relations.{is_orphan_there}
 pub use Rattle.city_model.specs.Runs.{Change}
 pub use Rattle.city_model.specs.Writing.{set_by, write_in}
 pub use Rattle.city_model.specs.declared.object.Object.{Object}
-pub use Rattle.city_model.specs.inside.Plans.{AreOf}
+pub use Rattle.city_model.specs.internal.Plans.{AreOf}
 pub use Rattle.city_txn.specs.UndoLog.{Logs, log_of, marked}
 pub use Rattle.city_txn.specs.Writes.{Write, is_by, own_or, own_write, unless_by, write_of}
 pub use Rattle.city_txn.specs.declared.image.UndoImage.{UndoImage}
 pub use Rattle.city_txn.specs.declared.store.Store.TheInside.{Inside}
 pub use Rattle.city_txn.specs.declared.undo_log.Entry.{Entry}
 pub use Rattle.city_txn.specs.declared.undo_log.Entry.TheVariants.{BeforeImage}
-pub use Rattle.city_txn.specs.inside.Core.{IsConsistent, IsCore, IsWrittenUnder, Kept, core_state}
-pub use Rattle.city_txn.specs.inside.Ending.{left_at_end}
-pub use Rattle.city_txn.specs.inside.Images.{committed_at, write_at, writer_of}
-pub use Rattle.city_txn.specs.inside.InPlace.{IsInPlace, is_writer, state_of}
-pub use Rattle.city_txn.specs.inside.LogTests.{has_mark, is_noted}
-pub use Rattle.city_txn.specs.inside.Performing.{IsPerform, plans}
-pub use Rattle.city_txn.specs.inside.Prelude.{Answered, CityMap, Command, CoreState, Exclusive, IsChangeOf, IsLawful}
-pub use Rattle.city_txn.specs.inside.Prelude.{IsSound, IsTraceUnderLocks, Lock, Locks, OwnWrites, Reply}
-pub use Rattle.city_txn.specs.inside.Prelude.{StandsUnderLocks, View, WentBack, Written, action, answer, committed, covers}
-pub use Rattle.city_txn.specs.inside.Prelude.{held, is_open, locks_id_exclusively, locks_of, map_with}
-pub use Rattle.city_txn.specs.inside.Prelude.{marks_from, marks_with, mode_of, own_with, snapshot, step, unmarked}
-pub use Rattle.city_txn.specs.inside.Prelude.{view, view_with, written, written_at_mark, written_by}
-pub use Rattle.city_txn.specs.inside.Slots.{Became}
-pub use Rattle.city_txn.specs.inside.State.{ChangesWrites, MayReserve, OthersWritesStay, State, Touches, is_reserved}
-pub use Rattle.city_txn.specs.inside.State.{store_committed, store_own, store_view, store_written, written_with}
-pub use Rattle.city_txn.specs.inside.UndoState.{image_at, reservations_of}
+pub use Rattle.city_txn.specs.internal.Core.{IsConsistent, IsCore, IsWrittenUnder, Kept, core_state}
+pub use Rattle.city_txn.specs.internal.Ending.{left_at_end}
+pub use Rattle.city_txn.specs.internal.Images.{committed_at, write_at, writer_of}
+pub use Rattle.city_txn.specs.internal.InPlace.{IsInPlace, is_writer, state_of}
+pub use Rattle.city_txn.specs.internal.LogTests.{has_mark, is_noted}
+pub use Rattle.city_txn.specs.internal.Performing.{IsPerform, plans}
+pub use Rattle.city_txn.specs.internal.Prelude.{Answered, CityMap, Command, CoreState, Exclusive, IsChangeOf, IsLawful}
+pub use Rattle.city_txn.specs.internal.Prelude.{IsSound, IsTraceUnderLocks, Lock, Locks, OwnWrites, Reply}
+pub use Rattle.city_txn.specs.internal.Prelude.{StandsUnderLocks, Snapshot, WentBack, Written, action, answer, committed, covers}
+pub use Rattle.city_txn.specs.internal.Prelude.{held, is_open, locks_id_exclusively, locks_of, map_with}
+pub use Rattle.city_txn.specs.internal.Prelude.{marks_from, marks_with, mode_of, own_with, snapshot, step, unmarked}
+pub use Rattle.city_txn.specs.internal.Prelude.{view, view_with, written, written_at_mark, written_by}
+pub use Rattle.city_txn.specs.internal.Slots.{Became}
+pub use Rattle.city_txn.specs.internal.State.{ChangesWrites, MayReserve, OthersWritesStay, State, Touches, is_reserved}
+pub use Rattle.city_txn.specs.internal.State.{store_committed, store_own, store_view, store_written, written_with}
+pub use Rattle.city_txn.specs.internal.UndoState.{image_at, reservations_of}

@@ -1,17 +1,17 @@
 -- What a transaction sees, from what it wrote by now and at each of its marks.
 use Rattle.city_txn.proofs.Prelude.{arith, ◌≡◌, ◌==◌, ℕ, List, [], ◌∷◌, true, false, Option, None, Some, is_some}
 use Rattle.city_txn.proofs.Prelude.{refl, ap, sym, ◌∙◌, subst, if◌then◌else◌, unwrap_or, Command, Reply, Exclusive}
-use Rattle.city_txn.proofs.Prelude.{CityMap, View, has_id, marks_from, locks_of, IsSound, covers, locks_id_exclusively}
+use Rattle.city_txn.proofs.Prelude.{CityMap, Snapshot, has_id, marks_from, locks_of, IsSound, covers, locks_id_exclusively}
 use Rattle.city_txn.proofs.Prelude.{action, step, OwnWrites, Written, own_with, written_at_mark, written_by, map_with}
 use Rattle.city_txn.proofs.Prelude.{marks_with, CoreState, committed, view, written, snapshot, view_with, Object}
 use Rattle.city_txn.proofs.Prelude.{same_id, bool_cases, from_mapped, IsWrittenUnder}
-use Rattle.city_txn.specs.inside.Prelude.{Held, Action, Edits, Marks, GoesBack, applied, back, left, Write, own_or}
-use Rattle.city_txn.specs.inside.Prelude.{own_write, is_by, unless_by}
+use Rattle.city_txn.specs.internal.Prelude.{Held, Action, Edits, Marks, GoesBack, applied, back, left, Write, own_or}
+use Rattle.city_txn.specs.internal.Prelude.{own_write, is_by, unless_by}
 use Rattle.city_model.specs.declared.mode.Mode.{Mode}
 use Rattle.city_model.specs.TraceLaw.{carried_map, carried_marks, carried}
 use Rattle.city_model.proofs.FrameLaw.{unwritten_stays}
 use Rattle.city_model.proofs.FramedActions.{edits_locked}
-use Rattle.city_txn.specs.inside.Core.{IsCovered, AreCovered}
+use Rattle.city_txn.specs.internal.Core.{IsCovered, AreCovered}
 
 pub own_or_is : (s : ℕ) (x : Option Write) (o : Option Object) → own_or s x o ≡ unwrap_or (own_write s x) o
 own_or_is s x o = grind arith
@@ -41,7 +41,7 @@ back_with : (m : CityMap) (w : Written) (name : List ℕ) (ks : List (List ℕ �
 back_with m w name ks = grind arith
 
 module _ (m : CityMap) (w : Written) (c : Command) (sound : IsSound (map_with m w.0)) where
-  abbrev x : View
+  abbrev x : Snapshot
   x = view_with m w
 
   -- what an edit writes gives its map, since the others keep their objects
@@ -64,9 +64,9 @@ pub step_seen : (v w : CoreState) (s : ℕ) (c : Command) → IsSound (view v s)
 step_seen v w s c sound city e =
     let m = committed v in
     seen_with w s ∙ (λ i. view_with (city i) (e i))
-    ∙ ap (λ (x : View). view_with m (written_by (action x.map c) (written v s))) (seen_with v s)
-    ∙ seen_written m (written v s) c (subst (λ (x : View). IsSound x.map) (seen_with v s) sound)
-    ∙ ap (λ (x : View). step x c) (sym (seen_with v s))
+    ∙ ap (λ (x : Snapshot). view_with m (written_by (action x.map c) (written v s))) (seen_with v s)
+    ∙ seen_written m (written v s) c (subst (λ (x : Snapshot). IsSound x.map) (seen_with v s) sound)
+    ∙ ap (λ (x : Snapshot). step x c) (sym (seen_with v s))
 
 -- ---- what is written is held exclusively
 

@@ -8,7 +8,7 @@ use Rattle.std.specs.Map.{update}
 use Rattle.city_model.specs.Marks.{marks_from}
 use Rattle.city_txn.specs.declared.undo_log.Entry.TheVariants.{Mark}
 use Rattle.city_txn.specs.UndoLog.{OwnWrites, Written, written_at_mark}
-use Rattle.city_txn.specs.inside.LogTests.{is_at_mark, newest_undone}
+use Rattle.city_txn.specs.internal.LogTests.{is_at_mark, newest_undone}
 
 -- ---- marks over other writes
 

@@ -10,7 +10,7 @@ use Rattle.city_model.specs.declared.command.Reply.TheVariants.{WentBack, Refuse
 use Rattle.city_model.specs.Runs.{EndsAt}
 use Rattle.city_model.specs.declared.end.Outcome.{Outcome}
 use Rattle.city_model.specs.Actions.{action}
-use Rattle.city_model.specs.Marks.{View}
+use Rattle.city_model.specs.Marks.{Snapshot}
 use Rattle.city_model.specs.Meaning.{Answers, effect, Does, is_refusal, locks_of}
 use Rattle.city_locks.specs.declared.answer.Answer.{Answer}
 use Rattle.city_locks.specs.declared.answer.Answer.TheVariants.{Granted, Wait, Die}
@@ -65,7 +65,7 @@ pub record IsAct (stamp : ℕ) (command : Command) (result : Result Step TxnFaul
     (old new : CoreState) : Type 0 where
   -- what the command is answered at what the transaction sees, and what is seen after it
   pub reply : Reply
-  pub after : View
+  pub after : Snapshot
   pub does : effect (snapshot old stamp) command ≡ Answers reply after
   -- done where each lock is granted, and else the answer of the first that isn't
   pub step : IfOk result (λ step. step ≡ step_of (answer_in old stamp command) reply)

@@ -9,7 +9,7 @@ use Rattle.city_locks.specs.Asking.{held_in}
 use Rattle.city_locks.specs.Locks.{Locks, mode_of}
 use Rattle.city_txn.specs.Writes.{Write, write_of, own_or, own_write, unless_by}
 use Rattle.city_txn.specs.UndoLog.{Logs, OwnWrites, Written, log_of, marked, marks_with}
-use Rattle.city_model.specs.Marks.{View, unmarked}
+use Rattle.city_model.specs.Marks.{Snapshot, unmarked}
 use Rattle.city_model.specs.Standing.{Held, Answered, IsTraceUnderLocks}
 
 pub record CoreState : Type 0 where
@@ -39,7 +39,7 @@ abbrev pub written : CoreState → ℕ → Written
 written v stamp = (own v stamp, marked (log_of v.logs stamp) (own v stamp))
 
 -- what the transaction sees: that map, and for each mark the committed one with the writes that it had then
-abbrev pub snapshot : CoreState → ℕ → View
+abbrev pub snapshot : CoreState → ℕ → Snapshot
 snapshot v stamp = record { map = view v stamp; marks = marks_with (committed v) (written v stamp).1 }
 
 abbrev pub is_open : CoreState → ℕ → Bool

@@ -4,4 +4,4 @@ pub mod CoreState
 pub mod Placeholder
 pub mod UndoLog
 pub mod Writes
-pub mod inside
+pub mod internal

@@ -11,7 +11,7 @@ ghost use Rattle.city_txn.specs.Changing.{change_in};
 ghost use Rattle.city_txn.specs.Writes.{write_of, own_write};
 ghost use Rattle.std.specs.List.{list_any};
 ghost use Rattle.std.specs.Option.{option_or};
-ghost use Rattle.city_txn.specs.inside.State.{store_own, store_view};
+ghost use Rattle.city_txn.specs.internal.State.{store_own, store_view};
 
 use crate::store::Store;
 use crate::undo_log::OwnWrite;

@@ -4,7 +4,7 @@ ghost use Rattle.city_locks.specs.Asking.{Asked, first_answer};
 ghost use Rattle.city_model.specs.Chunks.{ids_left};
 ghost use Rattle.city_model.specs.CityMap.{CityMap};
 ghost use Rattle.city_model.specs.Meaning.{delete_locks, exclusively, locks_of};
-ghost use Rattle.city_txn.specs.inside.State.{store_view};
+ghost use Rattle.city_txn.specs.internal.State.{store_view};
 
 use crate::store::Store;
 use city_locks::{Answer, LockTable, Mode};

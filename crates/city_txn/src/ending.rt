@@ -1,9 +1,9 @@
 //! The end of a transaction, at the ids that it has reserved.
 ghost use Rattle.std.specs.Prelude.{◌≡◌, ℕ, List, None, is_some, true};
 ghost use Rattle.city_model.specs.CityMap.{has_id, object_at};
-ghost use Rattle.city_txn.specs.inside.Ending.{left_at_end};
-ghost use Rattle.city_txn.specs.inside.Slots.{Became, HasSlot};
-ghost use Rattle.city_txn.specs.inside.UndoState.{image_at};
+ghost use Rattle.city_txn.specs.internal.Ending.{left_at_end};
+ghost use Rattle.city_txn.specs.internal.Slots.{Became, HasSlot};
+ghost use Rattle.city_txn.specs.internal.UndoState.{image_at};
 
 use crate::undo::Undo;
 use city_model::city::City;

@@ -2,7 +2,7 @@
 ghost use Rattle.std.specs.Prelude.{◌≡◌, Some, Option, option_copied};
 ghost use Rattle.city_model.specs.declared.object.Object.{Object};
 ghost use Rattle.city_txn.specs.Writes.{is_by, own_or};
-ghost use Rattle.city_txn.specs.inside.Images.{before_image, write_at, written_over, image_unwritten, put_back};
+ghost use Rattle.city_txn.specs.internal.Images.{before_image, write_at, written_over, image_unwritten, put_back};
 
 use city_model::object::Object;
 

@@ -2,10 +2,10 @@
 ghost use Rattle.std.specs.Prelude.{◌≡◌, true, false, drop};
 ghost use Rattle.city_model.specs.Marks.{marks_from};
 ghost use Rattle.city_model.specs.declared.command.Command.{Command};
-ghost use Rattle.city_txn.specs.inside.State.{store_own, store_written, Touches};
+ghost use Rattle.city_txn.specs.internal.State.{store_own, store_written, Touches};
 ghost use Rattle.city_txn.specs.UndoLog.{log_of, written_at_mark};
-ghost use Rattle.city_txn.specs.inside.Performing.{IsPerform};
-ghost use Rattle.city_txn.specs.inside.LogTests.{has_mark, newest_undone};
+ghost use Rattle.city_txn.specs.internal.Performing.{IsPerform};
+ghost use Rattle.city_txn.specs.internal.LogTests.{has_mark, newest_undone};
 
 use crate::store::Store;
 use crate::undo_log::Entry;

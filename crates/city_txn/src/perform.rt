@@ -2,7 +2,7 @@
 ghost use Rattle.std.specs.Prelude.{◌≡◌, false};
 ghost use Rattle.city_model.specs.Scripts.{is_end, is_mark};
 ghost use Rattle.city_model.specs.declared.command.Command.{Command};
-ghost use Rattle.city_txn.specs.inside.Performing.{MayPerform, IsPerform};
+ghost use Rattle.city_txn.specs.internal.Performing.{MayPerform, IsPerform};
 
 use crate::store::{Seen, Store};
 use city_model::OutOfMemory;

@@ -2,9 +2,9 @@
 ghost use Rattle.std.specs.Prelude.{◌≡◌, ℕ, List, None, Some, unwrap_or, IfOk, OnOk, OnErr, is_none, is_some, true, if◌then◌else◌};
 ghost use Rattle.std.specs.Option.{option_or};
 ghost use Rattle.city_model.specs.CityMap.{object_at, changed};
-ghost use Rattle.city_txn.specs.inside.Ending.{left_at_end};
+ghost use Rattle.city_txn.specs.internal.Ending.{left_at_end};
 ghost use Rattle.city_txn.specs.Placeholder.{placeholder};
-ghost use Rattle.city_txn.specs.inside.Slots.{HasSlot};
+ghost use Rattle.city_txn.specs.internal.Slots.{HasSlot};
 
 use crate::ending::End;
 use crate::image::UndoImage;
@@ -83,7 +83,7 @@ pub fn put(
 }
 
 /// The object, or a placeholder.
-pub fn standing(alloc: Global, object: Option<Object>) -> Object
+pub fn object_or_placeholder(alloc: Global, object: Option<Object>) -> Object
     ensures { result ≡ unwrap_or object placeholder }
 {
     match object {

@@ -2,9 +2,9 @@
 ghost use Rattle.std.specs.Prelude.{◌≡◌, ◌↔◌, IsTrue, ℕ, List, [], None, Some, OnOk, OnErr, true, false, ◌==◌, ◌&&◌, ◌||◌, is_ok, is_some, not, option_copied, option_map, if◌then◌else◌};
 ghost use Rattle.city_model.specs.CityMap.{same_id};
 ghost use Rattle.city_model.specs.Relations.{is_orphan_there};
-ghost use Rattle.city_txn.specs.inside.Ending.{map_at_end};
-ghost use Rattle.city_txn.specs.inside.State.{State, is_reserved, is_begun, store_committed, store_view, MayReserve};
-ghost use Rattle.city_txn.specs.inside.State.{store_written, Touches, WritesOne, OthersWritesStay, Begins, Forgets};
+ghost use Rattle.city_txn.specs.internal.Ending.{map_at_end};
+ghost use Rattle.city_txn.specs.internal.State.{State, is_reserved, is_begun, store_committed, store_view, MayReserve};
+ghost use Rattle.city_txn.specs.internal.State.{store_written, Touches, WritesOne, OthersWritesStay, Begins, Forgets};
 ghost use Rattle.city_txn.specs.UndoLog.{log_of, has_before};
 ghost use Rattle.city_txn.specs.Writes.{write_of, is_by};
 
@@ -15,7 +15,7 @@ use city_model::OutOfMemory;
 use city_model::city::City;
 use city_model::object::Object;
 use city_model::orphans::is_orphan;
-use city_model::plan::view::View;
+use city_model::plan::object_lookup::ObjectLookup;
 use city_model::text::Id;
 use std::alloc::Global;
 use std::marker::Model;
@@ -36,17 +36,17 @@ pub struct Store {
 }
 
 impl Model for Store {
-    ghost use Rattle.city_txn.specs.inside.State.{State};
+    ghost use Rattle.city_txn.specs.internal.State.{State};
 
     ghost Value = { State };
 
     ghost use Rattle.std.specs.Coded.{codes};
-    ghost use Rattle.city_model.specs.inside.DataCode.{coded_members};
-    ghost use Rattle.city_txn.specs.inside.Codes.{coded_objects};
+    ghost use Rattle.city_model.specs.internal.DataCode.{coded_members};
+    ghost use Rattle.city_txn.specs.internal.Codes.{coded_objects};
 
     ghost coded = { Prim.hlevel (codes, coded_members, coded_objects) };
 
-    ghost use Rattle.city_txn.specs.inside.InPlace.{state_of, IsInPlace};
+    ghost use Rattle.city_txn.specs.internal.InPlace.{state_of, IsInPlace};
 
     ghost view = { state_of };
 
@@ -229,7 +229,7 @@ pub struct Seen<'a> {
     pub stamp: u64,
 }
 
-impl View for Seen<'_> {
+impl ObjectLookup for Seen<'_> {
     ghost map = { λ seen. store_view seen.store.now seen.stamp };
 
     fn look(&self, id: &Id) -> Option<&Object> {

@@ -42,12 +42,12 @@ impl Model for Core {
     ghost Value = { CoreState };
 
     ghost use Rattle.std.specs.Coded.{codes};
-    ghost use Rattle.city_model.specs.inside.DataCode.{coded_members};
-    ghost use Rattle.city_txn.specs.inside.Codes.{coded_objects};
+    ghost use Rattle.city_model.specs.internal.DataCode.{coded_members};
+    ghost use Rattle.city_txn.specs.internal.Codes.{coded_objects};
 
     ghost coded = { Prim.hlevel (codes, coded_members, coded_objects) };
 
-    ghost use Rattle.city_txn.specs.inside.Core.{core_state, IsCore};
+    ghost use Rattle.city_txn.specs.internal.Core.{core_state, IsCore};
 
     ghost view = { core_state };
 

@@ -7,11 +7,11 @@ ghost use Rattle.std.specs.Ordering.{nat_cmp};
 ghost use Rattle.city_model.specs.CityMap.{changed, object_at, same_id};
 ghost use Rattle.city_txn.specs.Placeholder.{placeholder};
 ghost use Rattle.city_txn.specs.declared.ending.End.{End};
-ghost use Rattle.city_txn.specs.inside.Ending.{left_at_end};
-ghost use Rattle.city_txn.specs.inside.FirstWrites.{image_put};
-ghost use Rattle.city_txn.specs.inside.Images.{unwritten_image, written_over, image_unwritten, put_back_at};
-ghost use Rattle.city_txn.specs.inside.Slots.{Became, HasSlot};
-ghost use Rattle.city_txn.specs.inside.UndoState.{image_at, listed_by, reservations_of};
+ghost use Rattle.city_txn.specs.internal.Ending.{left_at_end};
+ghost use Rattle.city_txn.specs.internal.FirstWrites.{image_put};
+ghost use Rattle.city_txn.specs.internal.Images.{unwritten_image, written_over, image_unwritten, put_back_at};
+ghost use Rattle.city_txn.specs.internal.Slots.{Became, HasSlot};
+ghost use Rattle.city_txn.specs.internal.UndoState.{image_at, listed_by, reservations_of};
 
 use crate::ending::End;
 use crate::image::UndoImage;
@@ -202,7 +202,7 @@ impl Undo {
             return Err(OutOfMemory);
         };
         let deleted = object.is_none();
-        let standing = slot::standing(self.alloc, object);
+        let standing = slot::object_or_placeholder(self.alloc, object);
         let Ok(before) = slot::put(city, self.alloc, id, standing) else {
             return Err(OutOfMemory);
         };
@@ -277,7 +277,7 @@ impl Undo {
         ensures reservations { self.new.reservations ≡ self.old.reservations }
     {
         let deleted = object.is_none();
-        let standing = slot::standing(self.alloc, object);
+        let standing = slot::object_or_placeholder(self.alloc, object);
         match self.images.get_mut(&id) {
             Some(image) => {
                 let old = slot::swap(city, id, standing);

@@ -2,7 +2,7 @@
 ghost use Rattle.std.specs.Prelude.{◌≡◌, ◌==◌, ℕ, [], ◌∷◌, ◌++◌, length, reverse, OnOk, OnErr, option_to_list, IfNone, if◌then◌else◌};
 ghost use Rattle.std.specs.List.{list_any};
 ghost use Rattle.city_txn.specs.UndoLog.{log_of};
-ghost use Rattle.city_txn.specs.inside.LogTests.{has_mark, is_at_mark, is_mark};
+ghost use Rattle.city_txn.specs.internal.LogTests.{has_mark, is_at_mark, is_mark};
 
 use city_locks::by_stamp::push;
 use city_model::OutOfMemory;
@@ -41,7 +41,7 @@ impl Model for UndoLogs {
     ghost Value = { Logs };
 
     ghost use Rattle.std.specs.Coded.{codes};
-    ghost use Rattle.city_txn.specs.inside.Codes.{coded_entries};
+    ghost use Rattle.city_txn.specs.internal.Codes.{coded_entries};
 
     ghost coded = { Prim.hlevel (codes, coded_entries) };
 

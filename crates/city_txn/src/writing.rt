@@ -2,13 +2,13 @@
 ghost use Rattle.std.specs.Prelude.{◌≡◌, ℕ, List, Some, length, true, OnOk, OnErr, if◌then◌else◌};
 ghost use Rattle.city_model.specs.CityMap.{CityMap, same_id};
 ghost use Rattle.city_model.specs.Writing.{write_in};
-ghost use Rattle.city_model.specs.inside.Plans.{AreOf};
+ghost use Rattle.city_model.specs.internal.Plans.{AreOf};
 ghost use Rattle.city_txn.specs.Writes.{write_of};
 ghost use Rattle.city_txn.specs.UndoLog.{log_of};
-ghost use Rattle.city_txn.specs.inside.State.{store_written, is_reserved, written_with, MayReserve, IsReady, Touches};
-ghost use Rattle.city_txn.specs.inside.State.{ChangesWrites, OthersWritesStay};
-ghost use Rattle.city_txn.specs.inside.LogTests.{is_noted};
-ghost use Rattle.city_txn.specs.inside.Performing.{plans};
+ghost use Rattle.city_txn.specs.internal.State.{store_written, is_reserved, written_with, MayReserve, IsReady, Touches};
+ghost use Rattle.city_txn.specs.internal.State.{ChangesWrites, OthersWritesStay};
+ghost use Rattle.city_txn.specs.internal.LogTests.{is_noted};
+ghost use Rattle.city_txn.specs.internal.Performing.{plans};
 
 use crate::store::Store;
 use crate::undo_log::Entry;

@@ -1,21 +1,21 @@
 //! What is decoded of a compact text: encoded numbers.
 ghost use Rattle.std.specs.Prelude.{◌≡◌, true, IfSome};
 ghost use Rattle.city_decimals.specs.Decoded.{decoded};
-ghost use Rattle.city_decimals.specs.inside.Compact.{IsCopied};
-ghost use Rattle.city_decimals.specs.declared.way.Way.TheVariants.{Decode};
+ghost use Rattle.city_decimals.specs.internal.Compact.{IsCopied};
+ghost use Rattle.city_decimals.specs.declared.direction.Direction.TheVariants.{Decode};
 
 use super::{NUMBER_BEGIN, NUMBER_END};
 use crate::copier::Copier;
-use crate::way::Way;
+use crate::direction::Direction;
 
 /// Whether the object that is next encodes a number, and is decoded.
 #[inline(always)]
-pub(super) fn is_encoded_number(way: Way, text: &[u8]) -> bool
+pub(super) fn is_encoded_number(way: Direction, text: &[u8]) -> bool
     ensures { result ≡ true → way ≡ Decode }
 {
     match way {
-        Way::Encode => false,
-        Way::Decode => text.starts_with(NUMBER_BEGIN),
+        Direction::Encode => false,
+        Direction::Decode => text.starts_with(NUMBER_BEGIN),
     }
 }
 

@@ -1,8 +1,8 @@
 //! What is encoded of a compact text: numbers, and the transform.
 ghost use Rattle.std.specs.Prelude.{◌≡◌, IfSome};
-ghost use Rattle.city_decimals.specs.inside.Compact.{IsNumberCopied, IsTripleCopied, IsFrameCopied};
-ghost use Rattle.city_decimals.specs.inside.Ways.{frame_changed};
-ghost use Rattle.city_decimals.specs.declared.way.Way.TheVariants.{Encode};
+ghost use Rattle.city_decimals.specs.internal.Compact.{IsNumberCopied, IsTripleCopied, IsFrameCopied};
+ghost use Rattle.city_decimals.specs.internal.Directions.{frame_changed};
+ghost use Rattle.city_decimals.specs.declared.direction.Direction.TheVariants.{Encode};
 
 use super::{FRAME_BEGIN, FRAME_END, NUMBER_BEGIN, NUMBER_END};
 use crate::copier::Copier;

@@ -2,16 +2,16 @@
 ghost use Rattle.std.specs.Prelude.{◌≡◌, ◌∷◌, [], ◌&&◌, codes, true, false, IfSome};
 ghost use Rattle.std.specs.Bool.{OnTrue};
 ghost use Rattle.std.specs.Str.{bytes_eq};
-ghost use Rattle.city_decimals.specs.inside.Compact.{IsCopied};
-ghost use Rattle.city_decimals.specs.inside.Forms.{BeginsBare};
-ghost use Rattle.city_decimals.specs.inside.Ways.{changed};
+ghost use Rattle.city_decimals.specs.internal.Compact.{IsCopied};
+ghost use Rattle.city_decimals.specs.internal.Forms.{BeginsBare};
+ghost use Rattle.city_decimals.specs.internal.Directions.{changed};
 
 use crate::copier::Copier;
-use crate::way::Way;
+use crate::direction::Direction;
 
 /// Copies a string.
 #[inline(always)]
-pub(super) fn copy_string(copier: &mut Copier<'_>, depth: usize, way: Way) -> Option<()>
+pub(super) fn copy_string(copier: &mut Copier<'_>, depth: usize, way: Direction) -> Option<()>
     ensures before { copier.new.0 ≡ copier.old.0 }
     ensures copied { IfSome result (λ _. IsCopied (changed way) depth copier.old copier.new) }
 {
@@ -23,7 +23,7 @@ pub(super) fn copy_string(copier: &mut Copier<'_>, depth: usize, way: Way) -> Op
 }
 
 /// Copies `true`, `false` or `null`.
-pub(super) fn copy_name(copier: &mut Copier<'_>, depth: usize, way: Way) -> Option<()>
+pub(super) fn copy_name(copier: &mut Copier<'_>, depth: usize, way: Direction) -> Option<()>
     ensures before { copier.new.0 ≡ copier.old.0 }
     ensures copied { IfSome result (λ _. IsCopied (changed way) depth copier.old copier.new) }
 {

@@ -2,7 +2,7 @@
 ghost use Rattle.std.specs.Prelude.{◌≡◌, ◌∷◌, ◌<◌, OnOk, IfOk, None, Err, ℕ, length, option_map};
 ghost use Rattle.json.specs.Token.{key};
 ghost use Rattle.json.specs.Json.{value, members};
-ghost use Rattle.city_decimals.specs.inside.Objects.{IsFirstWritten};
+ghost use Rattle.city_decimals.specs.internal.Objects.{IsFirstWritten};
 ghost use Rattle.city_decimals.specs.declared.fault.DecimalsFault.TheVariants.{NotJson};
 
 use super::tree::{decode_alone, decode_first};

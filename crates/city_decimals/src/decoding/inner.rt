@@ -2,7 +2,7 @@
 ghost use Rattle.std.specs.Prelude.{◌≡◌};
 ghost use Rattle.json.specs.Value.{value_view};
 ghost use Rattle.city_decimals.specs.Shapes.{only};
-ghost use Rattle.city_decimals.specs.inside.Inner.{front, inner};
+ghost use Rattle.city_decimals.specs.internal.Inner.{front, inner};
 
 use crate::shapes::{has_shield, is_tag, is_transform};
 use json::Value;

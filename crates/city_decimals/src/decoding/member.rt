@@ -3,7 +3,7 @@ ghost use Rattle.std.specs.Prelude.{◌≡◌, OnOk, Some, None, Err};
 ghost use Rattle.json.specs.Json.{value};
 ghost use Rattle.json.specs.Tree.{json_tokens};
 ghost use Rattle.city_decimals.specs.Decoded.{decoded, out_of_form};
-ghost use Rattle.city_decimals.specs.inside.Streams.{written};
+ghost use Rattle.city_decimals.specs.internal.Streams.{written};
 ghost use Rattle.city_decimals.specs.declared.fault.DecimalsFault.TheVariants.{NotJson};
 
 use super::inner::inner;

@@ -7,7 +7,7 @@ ghost use Rattle.json.specs.Tree.{json_tokens, items_tokens, members_tokens, Has
 ghost use Rattle.json.specs.Tree.{MembersHaveNumbers};
 ghost use Rattle.json.specs.Value.{value_view, items_view, members_view};
 ghost use Rattle.city_decimals.specs.Decoded.{number_in, number_under, decoded, decoded_items, out_of_form};
-ghost use Rattle.city_decimals.specs.inside.Objects.{decoded_object};
+ghost use Rattle.city_decimals.specs.internal.Objects.{decoded_object};
 
 use super::inner::inner;
 use crate::OutOfMemory;

@@ -2,7 +2,7 @@
 ghost use Rattle.std.specs.Prelude.{◌≡◌, ◌++◌, OnOk, decimal};
 ghost use Rattle.json.specs.Tree.{json_tokens};
 ghost use Rattle.city_decimals.specs.Shapes.{three};
-ghost use Rattle.city_decimals.specs.inside.Forms.{tokens_before, tokens_after};
+ghost use Rattle.city_decimals.specs.internal.Forms.{tokens_before, tokens_after};
 
 use crate::OutOfMemory;
 use crate::shapes::{Form, TAG};

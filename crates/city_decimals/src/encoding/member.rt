@@ -4,7 +4,7 @@ ghost use Rattle.json.specs.Json.{value};
 ghost use Rattle.json.specs.Tree.{json_tokens};
 ghost use Rattle.city_decimals.specs.Shapes.{form_of, in_form};
 ghost use Rattle.city_decimals.specs.Encoded.{encoded};
-ghost use Rattle.city_decimals.specs.inside.Streams.{written};
+ghost use Rattle.city_decimals.specs.internal.Streams.{written};
 ghost use Rattle.city_decimals.specs.declared.fault.DecimalsFault.TheVariants.{NotJson};
 
 use super::form::{begin_form, end_form};

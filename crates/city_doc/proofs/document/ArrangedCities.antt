@@ -8,7 +8,7 @@ use Rattle.std.proofs.lemmas.List.Sorted.{IsPermutation-sym, list_any-IsPermutat
 use Rattle.std.proofs.lemmas.Map.Keys.{IsDistinct-IsPermutation}
 use Rattle.city_model.specs.CityMap.{parents_of, children_of}
 use Rattle.city_model.specs.Relations.{AreDistinct, IsInOrder, is_orphan, is_second_level, same_family}
-use Rattle.city_doc.specs.inside.document.Arranged.{IsArranged, AreArranged}
+use Rattle.city_doc.specs.internal.document.Arranged.{IsArranged, AreArranged}
 
 same_members : (xs ys : List (List ℕ)) (q : List ℕ) → IsPermutation xs ys → has_id ys q ≡ has_id xs q
 same_members xs ys q h = sym (list_any-IsPermutation (same_id q) xs ys h)

@@ -12,11 +12,11 @@ use Rattle.json.specs.Lex.{tokens}
 use Rattle.json.specs.Print.{print}
 use Rattle.city_doc.specs.document.Canonical.{city_text}
 use Rattle.city_doc.specs.document.CanonicalTexts.{IsCanonicalText}
-use Rattle.city_doc.specs.inside.Pieces.{EachPiece, joined, joined_by_commas}
-use Rattle.city_doc.specs.inside.document.Pieces.{IsListed, IsWritten, IsWrittenIfKnown, frame_own, head_tokens}
-use Rattle.city_doc.specs.inside.object.InTurn.{entry_points}
-use Rattle.city_doc.specs.inside.tree.Appended.{IsAppended, IsPrinted}
-use Rattle.city_doc.specs.inside.tree.OwnMembers.{written}
+use Rattle.city_doc.specs.internal.Pieces.{EachPiece, joined, joined_by_commas}
+use Rattle.city_doc.specs.internal.document.Pieces.{IsListed, IsWritten, IsWrittenIfKnown, frame_own, head_tokens}
+use Rattle.city_doc.specs.internal.object.InTurn.{entry_points}
+use Rattle.city_doc.specs.internal.tree.Appended.{IsAppended, IsPrinted}
+use Rattle.city_doc.specs.internal.tree.OwnMembers.{written}
 use Rattle.city_doc.specs.report.JsonLines.{IsCompactJson}
 use Rattle.city_doc.proofs.EachPiece.{all_made}
 use Rattle.city_doc.proofs.document.CanonicalCities.{text_printed, city_json, city_canonical}

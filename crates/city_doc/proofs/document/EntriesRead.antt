@@ -5,7 +5,7 @@ use Rattle.city_doc.proofs.Prelude.{nat_list_cmp_total, list_all-append, no_memb
 use Rattle.city_doc.proofs.Prelude.{Object, Point, entries_of, object_data, with_objects, are_kept_objects}
 use Rattle.city_doc.proofs.Prelude.{object_points}
 use Rattle.std.specs.List.Sorted.{IsStrictlySortedBy}
-pub use Rattle.city_doc.specs.inside.object.InTurn.{in_turn}
+pub use Rattle.city_doc.specs.internal.object.InTurn.{in_turn}
 use Rattle.city_doc.proofs.pool.NumberedPoints.{are_in}
 use Rattle.city_doc.proofs.document.Objects.{middle, keys_of_push}
 use Rattle.city_doc.proofs.object.ObjectsRead.{object_read}

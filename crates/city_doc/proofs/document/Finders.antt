@@ -8,14 +8,14 @@ use Rattle.city_doc.proofs.Prelude.{IsBadlyRelatedAt, is_bad_ringed, lenient_map
 use Rattle.city_doc.proofs.Prelude.{some_shape, has_open_shell, is_unknown_type, is_bad_geometry, has_bad_list}
 use Rattle.city_doc.proofs.Prelude.{and_then_some, AreOrdered}
 use Rattle.std.specs.Prelude.{◌||◌}
-use Rattle.city_model.specs.inside.RelationTests.{is_misrelated}
+use Rattle.city_model.specs.internal.RelationTests.{is_misrelated}
 use Rattle.city_model.proofs.Lawfulness.{misrelated_true, misrelated_false}
 use Rattle.city_doc.specs.document.AllFaults.{StandsAt, AreThose, id_of, is_misplaced}
 use Rattle.city_doc.specs.document.CityFaults.{body_has}
 use Rattle.city_doc.specs.document.Faults.{rank_of}
-use Rattle.city_doc.specs.inside.document.Told.{told, only_where, unknown_type, unsupported, bad_geometry}
-use Rattle.city_doc.specs.inside.document.Told.{bad_vertex, bad_ring, relations, open_shell, body_there}
-use Rattle.city_doc.specs.inside.document.Told.{misrelated_there}
+use Rattle.city_doc.specs.internal.document.Told.{told, only_where, unknown_type, unsupported, bad_geometry}
+use Rattle.city_doc.specs.internal.document.Told.{bad_vertex, bad_ring, relations, open_shell, body_there}
+use Rattle.city_doc.specs.internal.document.Told.{misrelated_there}
 use Rattle.city_doc.specs.object.Faults.{unsupported_name}
 use Rattle.city_doc.proofs.FaultLists.{those_alike, none_there}
 use Rattle.city_doc.proofs.document.Told.{IsFound, Finds, StandsBelow, told_too}

@@ -2,8 +2,8 @@
 use Rattle.city_doc.proofs.Prelude.{◌≡◌, ℕ, List, ◌∷◌, Bool, true, false, [], not, cond, refl, arith, list_all, ◌&&◌}
 use Rattle.city_doc.proofs.Prelude.{has_id, same_id, same_id_back}
 use Rattle.std.specs.Prelude.{◌||◌}
-use Rattle.city_model.specs.inside.RelationTests.{are_distinct}
-use Rattle.city_doc.specs.inside.document.IdSets.{IsSetOf}
+use Rattle.city_model.specs.internal.RelationTests.{are_distinct}
+use Rattle.city_doc.specs.internal.document.IdSets.{IsSetOf}
 
 -- none of the ids is among the keys
 abbrev none_in : List (List ℕ) → List (List ℕ) → Bool

@@ -5,7 +5,7 @@ use Rattle.city_doc.proofs.Prelude.{nat_list_cmp_total, entries, fun_ext, Member
 use Rattle.city_doc.proofs.Prelude.{IsMisrelatedAt, IsRelated, AreOrdered, same_id_true, at_entries, lenient_map_of}
 use Rattle.city_doc.proofs.Prelude.{IsBadlyRelatedAt, IsReadOf, has_bad_list, Has, IsLeast, first_with}
 use Rattle.std.specs.Prelude.{IfSome}
-use Rattle.city_doc.specs.inside.document.LenientCities.{lesser}
+use Rattle.city_doc.specs.internal.document.LenientCities.{lesser}
 use Rattle.city_doc.proofs.document.LenientEntries.{found-lenient}
 use Rattle.city_doc.proofs.document.Searches.{first_is_least, none_is_none}
 

@@ -5,8 +5,8 @@ use Rattle.city_doc.proofs.Prelude.{Point, Object, Geometry, shape_name, triple_
 use Rattle.city_doc.proofs.Prelude.{vertices_data, boundaries_data, geometry_data, put_list, object_data, objects_data}
 use Rattle.city_doc.proofs.Prelude.{listed}
 use Rattle.std.proofs.Common.{codes}
-use Rattle.city_doc.specs.inside.document.Pieces.{frame_own}
-use Rattle.city_doc.specs.inside.tree.OwnMembers.{Own}
+use Rattle.city_doc.specs.internal.document.Pieces.{frame_own}
+use Rattle.city_doc.specs.internal.tree.OwnMembers.{Own}
 use Rattle.city_doc.proofs.tree.Among.{puts, put_if}
 use Rattle.city_tokens.proofs.Laws.{put-swap}
 

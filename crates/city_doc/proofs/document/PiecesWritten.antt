@@ -17,12 +17,12 @@ use Rattle.std.proofs.lemmas.Str.{IsUtf8-append, IsUtf8-nil}
 use Rattle.json.specs.Lex.{tokens}
 use Rattle.json.specs.Print.{print, print_from, ArePrintableOrBad}
 use Rattle.json.proofs.Printed.Tokens.{print_from-append}
-use Rattle.city_doc.specs.inside.Pieces.{joined_by_commas, is_some_text}
+use Rattle.city_doc.specs.internal.Pieces.{joined_by_commas, is_some_text}
 use Rattle.city_doc.proofs.EachPiece.{EachMade}
-use Rattle.city_doc.specs.inside.document.Pieces.{IsWritten, IsWrittenIfKnown, frame_own, head_tokens}
-use Rattle.city_doc.specs.inside.object.InTurn.{in_turn, entry_points}
-use Rattle.city_doc.specs.inside.tree.Appended.{IsPrinted}
-use Rattle.city_doc.specs.inside.tree.OwnMembers.{Own, part, written}
+use Rattle.city_doc.specs.internal.document.Pieces.{IsWritten, IsWrittenIfKnown, frame_own, head_tokens}
+use Rattle.city_doc.specs.internal.object.InTurn.{in_turn, entry_points}
+use Rattle.city_doc.specs.internal.tree.Appended.{IsPrinted}
+use Rattle.city_doc.specs.internal.tree.OwnMembers.{Own, part, written}
 use Rattle.city_doc.proofs.document.EntriesRead.{written_in_turn}
 use Rattle.city_doc.proofs.document.OwnMembers.{city_own}
 use Rattle.city_doc.proofs.document.PutMembers.{IsPut, put_written, put_reads}

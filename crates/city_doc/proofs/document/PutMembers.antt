@@ -12,8 +12,8 @@ use Rattle.city_doc.proofs.tree.Among.{AllReadBack, ordered_from, none_from, own
 use Rattle.city_doc.proofs.object.ObjectsRead.{geometry_members_lacking, object_members_lacking}
 use Rattle.city_doc.proofs.pool.Repeats.{pool_is_without_repeats}
 use Rattle.city_doc.proofs.document.FramesRead.{transform_members_lacking, top_members_lacking}
-pub use Rattle.city_doc.specs.inside.tree.OwnMembers.{written}
-use Rattle.city_doc.specs.inside.tree.OwnMembers.{Own, part}
+pub use Rattle.city_doc.specs.internal.tree.OwnMembers.{written}
+use Rattle.city_doc.specs.internal.tree.OwnMembers.{Own, part}
 use Rattle.city_doc.proofs.document.OwnMembers.{geometry_own, object_own, object_puts, transform_own}
 use Rattle.city_doc.proofs.document.OwnMembers.{transform_puts, city_own, city_puts}
 

@@ -4,7 +4,7 @@ use Rattle.city_doc.proofs.Prelude.{refl, arith, slice_cmp, AllByRecursion, keys
 use Rattle.city_doc.proofs.Prelude.{no_members, member, get_member, AreOrdered, AllAbove, Point, Object, Entries}
 use Rattle.city_doc.proofs.Prelude.{found_in, same_id_true, lenient_map_of, lenient_object_of}
 use Rattle.std.specs.List.Sorted.{IsStrictlySortedBy}
-use Rattle.city_doc.specs.inside.document.Told.{readable_entries, with_object}
+use Rattle.city_doc.specs.internal.document.Told.{readable_entries, with_object}
 
 absent : (k : List ℕ) (ms : Members) → AllAbove k ms → get_member k ms ≡ None
 absent k no_members h = refl

@@ -2,7 +2,7 @@
 use Rattle.city_doc.proofs.Prelude.{◌≡◌, true, subst, sym, List, ℕ, Option, None, Some, Data, CityValue, object_at}
 use Rattle.city_doc.proofs.Prelude.{IsRelated, IsAdmitted, is_integral, city_of}
 use Rattle.std.specs.Prelude.{IfSome}
-use Rattle.city_model.specs.inside.Faultless.{IsFaultless}
+use Rattle.city_model.specs.internal.Faultless.{IsFaultless}
 use Rattle.city_tokens.specs.tree.Texts.{HasTree}
 
 -- a text stands for a city without a faulty body, and is admitted where the relations agree

@@ -7,7 +7,7 @@ use Rattle.city_doc.proofs.Prelude.{get_member, AreOrdered, AllAbove, Point, Rea
 use Rattle.city_doc.specs.FaultLists.{IsListed, AreOrderedBy}
 use Rattle.city_doc.specs.document.AllFaults.{StandsAt, IsBefore, AreThose, id_of}
 use Rattle.city_doc.specs.document.Faults.{rank_of}
-use Rattle.city_doc.specs.inside.document.Told.{told, with_found}
+use Rattle.city_doc.specs.internal.document.Told.{told, with_found}
 use Rattle.city_doc.proofs.FaultLists.{all_listed, those_alike, those_or}
 use Rattle.city_doc.proofs.document.Searches.{here, there, found_above}
 

@@ -12,7 +12,7 @@ use Rattle.city_doc.proofs.Prelude.{is_unknown_type, is_bad_geometry, has_bad_ve
 use Rattle.city_doc.proofs.Prelude.{as_object-integral, get_member-integral, listed_again, object_with, object_is}
 use Rattle.city_doc.proofs.Prelude.{triple_of, Body, body_of, and_then_some, map_some}
 use Rattle.city_tokens.specs.document.FramesOfRest.{frame_with}
-use Rattle.city_doc.specs.inside.document.LenientCities.{listed, lenient_city_of, lenient_city_at}
+use Rattle.city_doc.specs.internal.document.LenientCities.{listed, lenient_city_of, lenient_city_at}
 use Rattle.city_doc.proofs.document.KeptMembers.{kept_all, left_whole, top_admitted}
 use Rattle.city_doc.proofs.document.LenientEntries.{none_first, entries_of-lenient, lenient_body}
 use Rattle.city_doc.proofs.document.Order.{first_in}

@@ -8,7 +8,7 @@ use Rattle.std.proofs.Common.{codes}
 use Rattle.city_model.specs.Types.{type_named}
 use Rattle.city_model.proofs.TypeNames.{named}
 use Rattle.city_doc.specs.Pool.{geometry_points}
-use Rattle.city_doc.specs.inside.document.KeptMembers.{is_kept_geometry, is_kept_object}
+use Rattle.city_doc.specs.internal.document.KeptMembers.{is_kept_geometry, is_kept_object}
 use Rattle.city_doc.proofs.document.KeptMembers.{kept_all, left_put, left_lacking, left_put_list}
 use Rattle.city_doc.proofs.tree.ListsRead.{put_list_read, all_pass}
 use Rattle.city_doc.proofs.pool.NumberedPoints.{are_in, parts_in, shape_read}

@@ -5,7 +5,7 @@ use Rattle.city_doc.proofs.Prelude.{AllByRecursion, keys_of, Token, key, Entries
 use Rattle.city_doc.proofs.Prelude.{object_data, object_points, with_points, tokens_of, tokens_of_members}
 use Rattle.std.specs.List.Sorted.{IsStrictlySortedBy}
 use Rattle.std.proofs.Common.{take, ◌-◌}
-use Rattle.city_doc.specs.inside.object.InTurn.{in_turn, entry_points}
+use Rattle.city_doc.specs.internal.object.InTurn.{in_turn, entry_points}
 use Rattle.city_doc.proofs.pool.Walks.{with_points-append, walk_first}
 
 all_above : (pool : List Point) (id : List ℕ) (es : Entries)

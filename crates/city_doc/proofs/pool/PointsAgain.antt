@@ -7,10 +7,10 @@ use Rattle.city_doc.proofs.Prelude.{object_points}
 use Rattle.std.proofs.Common.{take}
 use Rattle.std.proofs.lemmas.Grind.{flat_map-append}
 use Rattle.std.proofs.lemmas.List.{take-append-drop}
-use Rattle.city_doc.specs.inside.Pieces.{joined}
+use Rattle.city_doc.specs.internal.Pieces.{joined}
 use Rattle.city_doc.proofs.EachPiece.{EachMade}
-use Rattle.city_doc.specs.inside.document.Pieces.{IsListed}
-use Rattle.city_doc.specs.inside.object.InTurn.{entry_points}
+use Rattle.city_doc.specs.internal.document.Pieces.{IsListed}
+use Rattle.city_doc.specs.internal.object.InTurn.{entry_points}
 use Rattle.city_doc.proofs.pool.NumberedPoints.{is_in, are_in}
 use Rattle.city_doc.proofs.pool.Repeats.{is_new, same_point-alike, with_points-is, pool_is_without_repeats}
 use Rattle.city_doc.proofs.pool.Walks.{with_points-append}

@@ -6,9 +6,9 @@ use Rattle.std.proofs.Common.{take}
 use Rattle.std.proofs.lemmas.Grind.{flat_map-append}
 use Rattle.std.proofs.lemmas.List.{take-append-drop}
 use Rattle.city_model.specs.declared.end.End.{End}
-use Rattle.city_doc.specs.inside.Pieces.{joined}
+use Rattle.city_doc.specs.internal.Pieces.{joined}
 use Rattle.city_doc.proofs.EachPiece.{EachMade}
-use Rattle.city_doc.specs.inside.Reports.{IsReport}
+use Rattle.city_doc.specs.internal.Reports.{IsReport}
 use Rattle.city_doc.specs.report.JsonLines.{IsCompactJson, AreJsonLines}
 use Rattle.city_doc.specs.report.Reports.{end_line, report_text}
 

@@ -9,7 +9,7 @@ use Rattle.city_doc.specs.declared.fault.ScriptFault.{ScriptFault}
 use Rattle.city_doc.specs.declared.fault.ScriptFault.TheVariants.{OutOfMemory, BadCommand, BadVertex, BadScript}
 use Rattle.city_tokens.specs.script.Scripts.{are_too_many}
 use Rattle.city_doc.specs.script.Faults.{HasAt, IsBefore, IsFirstAt, PartsFault, ItemsFault}
-use Rattle.city_doc.specs.inside.script.Searches.{unless}
+use Rattle.city_doc.specs.internal.script.Searches.{unless}
 use Rattle.city_doc.proofs.script.FirstAt.{first_at-is, first_at-none}
 
 unless_some : {A B : Type 0} (o : Option A) (y z : B) → unless o y ≡ Some z → (o ≡ None) × (z ≡ y)

@@ -7,7 +7,7 @@ use Rattle.city_doc.proofs.Prelude.{commands_in, parts_in, parts_of, vertex_coun
 use Rattle.city_doc.proofs.Prelude.{as_object-integral, get_member-integral, and_then_some, if_some}
 use Rattle.std.proofs.lemmas.Bool.{false_from_ne_true}
 use Rattle.city_tokens.specs.tree.Lists.{items_list, array_of}
-use Rattle.city_doc.specs.inside.script.Faultless.{AreFaultlessParts}
+use Rattle.city_doc.specs.internal.script.Faultless.{AreFaultlessParts}
 use Rattle.city_tokens.specs.script.Scripts.{are_vertices, ended, parts_if, has_script_members, vertex_points}
 use Rattle.city_tokens.specs.script.Scripts.{script_of, scripts_of_parts}
 use Rattle.city_tokens.proofs.Laws.{in_all, all_read-all, all_read-some}

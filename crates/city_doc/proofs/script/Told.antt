@@ -4,7 +4,7 @@ use Rattle.city_doc.proofs.Prelude.{Bool, true, false, refl, sym, ap, subst, ◌
 use Rattle.city_doc.proofs.Prelude.{ap₂, length, map, list_any, Data, ScriptParts, parts_of, vertex_count}
 use Rattle.std.proofs.Common.{zero-add}
 use Rattle.std.specs.Prelude.{◌||◌, nat_lt, option_to_list}
-use Rattle.city_tokens.specs.inside.ScriptItems.{has_too_many_commands}
+use Rattle.city_tokens.specs.internal.ScriptItems.{has_too_many_commands}
 use Rattle.city_tokens.specs.script.Scripts.{max_scripts}
 use Rattle.city_doc.specs.declared.script.numbered.NumberedForm.{NumberedForm}
 use Rattle.city_doc.specs.declared.fault.ScriptFault.{ScriptFault}
@@ -15,11 +15,11 @@ use Rattle.city_doc.specs.script.AllFaults.{HasAt, StandsAt, IsBefore, AreThose,
 use Rattle.city_doc.specs.script.AllFaults.{is_overlong}
 use Rattle.city_doc.specs.script.CommandFaults.{is_bad_command}
 use Rattle.city_doc.specs.script.Faults.{IsBadScript}
-use Rattle.city_doc.specs.inside.script.Told.{told, bad_script_at, bad_scripts, numbered, numbered_view}
-use Rattle.city_doc.specs.inside.script.Told.{too_many, Finder}
-use Rattle.city_doc.specs.inside.script.Forms.{parts_view}
-use Rattle.city_doc.specs.inside.script.Told.{only_where, bad_command, bad_vertex, command_at, told_in, told_each}
-use Rattle.city_doc.specs.inside.script.Searches.{unless}
+use Rattle.city_doc.specs.internal.script.Told.{told, bad_script_at, bad_scripts, numbered, numbered_view}
+use Rattle.city_doc.specs.internal.script.Told.{too_many, Finder}
+use Rattle.city_doc.specs.internal.script.Forms.{parts_view}
+use Rattle.city_doc.specs.internal.script.Told.{only_where, bad_command, bad_vertex, command_at, told_in, told_each}
+use Rattle.city_doc.specs.internal.script.Searches.{unless}
 use Rattle.city_doc.proofs.FaultLists.{listed_parts, listed_first, listed_last, ordered_append, those_alike, those_or}
 use Rattle.city_doc.proofs.FaultLists.{one_alone, none_there}
 

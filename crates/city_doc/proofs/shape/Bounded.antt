@@ -1,6 +1,6 @@
 -- The boundaries of a shape are nested as what bounds it is.
 use Rattle.city_doc.proofs.Prelude.{◌≡◌, ℕ, arith, Shape, Nested, nested}
-use Rattle.city_model.specs.inside.BorrowedBounds.{Boundaries, Surfaces, Shells, Solids, boundaries_of}
+use Rattle.city_model.specs.internal.BorrowedBounds.{Boundaries, Surfaces, Shells, Solids, boundaries_of}
 
 abbrev pub nested_within : Boundaries → (n : ℕ) × Nested n
 nested_within (Surfaces surfaces) = (3, surfaces)

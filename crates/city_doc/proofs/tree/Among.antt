@@ -7,7 +7,7 @@ use Rattle.city_doc.proofs.Prelude.{put, get_member, members_before, members_fro
 use Rattle.city_doc.proofs.Prelude.{tokens_of_members, tokens_of_own, closing_members, ReadsBack, MembersReadBack}
 use Rattle.city_doc.proofs.Prelude.{ordered_put, all_put}
 use Rattle.std.proofs.Common.{Greater}
-use Rattle.city_doc.specs.inside.tree.ReadsBack.{OwnReadsBack}
+use Rattle.city_doc.specs.internal.tree.ReadsBack.{OwnReadsBack}
 use Rattle.city_tokens.proofs.Laws.{turned, back, all_above_lower, above_put, put_first}
 use Rattle.city_doc.proofs.tree.ReadBack.{and_then, and_then-none, object_reads}
 

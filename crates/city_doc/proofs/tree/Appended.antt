@@ -16,8 +16,8 @@ use Rattle.json.proofs.Numbered.{ArePrintableOrBad-tokens}
 use Rattle.json.proofs.Printed.Tokens.{print_from-append, ends_push}
 use Rattle.json.proofs.Printed.Utf8.{IsUtf8-separator}
 use Rattle.serde_json.specs.Written.{outline}
-use Rattle.city_doc.specs.inside.Pieces.{is_some_text}
-use Rattle.city_doc.specs.inside.tree.Appended.{IsPrinted, IsAppended}
+use Rattle.city_doc.specs.internal.Pieces.{is_some_text}
+use Rattle.city_doc.specs.internal.tree.Appended.{IsPrinted, IsAppended}
 
 abbrev pub after : Bool → List Token → Bool
 after = fold (λ _ t. ends t)

@@ -10,7 +10,7 @@ ghost use Rattle.city_doc.specs.document.AllFaults.{AreFaultsOf, AreThose, IsFau
 ghost use Rattle.city_doc.specs.document.CityFaults.{lenient_map_of};
 ghost use Rattle.city_doc.specs.document.Faults.{DocumentFault, vertices_in, objects_in};
 ghost use Rattle.city_doc.specs.document.Top.{wrong_member};
-ghost use Rattle.city_doc.specs.inside.tree.TextFaults.{IsRefused};
+ghost use Rattle.city_doc.specs.internal.tree.TextFaults.{IsRefused};
 
 use crate::document::build::lenient_object_of;
 use crate::document::each_fault::{

@@ -6,7 +6,7 @@ ghost use Rattle.city_model.specs.Chunks.{ids_left};
 ghost use Rattle.city_model.specs.CityMap.{object_at};
 ghost use Rattle.city_model.specs.Misrelated.{IsMisrelatedAt};
 ghost use Rattle.city_model.specs.Relations.{IsRelated};
-ghost use Rattle.city_doc.specs.inside.document.Arranged.{IsArranged, AreArranged};
+ghost use Rattle.city_doc.specs.internal.document.Arranged.{IsArranged, AreArranged};
 ghost use Rattle.city_model.specs.Least.{IsLeast};
 
 use city_model::OutOfMemory;

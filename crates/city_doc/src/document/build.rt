@@ -4,7 +4,7 @@ ghost use Rattle.serde_json.specs.Find.{get_member, as_object};
 ghost use Rattle.serde_json.specs.View.{view, members_view};
 ghost use Rattle.city_model.specs.Members.{without};
 ghost use Rattle.city_doc.specs.document.CityFaults.{lenient_object_of};
-ghost use Rattle.city_doc.specs.inside.document.LenientCities.{listed, lenient_entries_of, lenient_city_of};
+ghost use Rattle.city_doc.specs.internal.document.LenientCities.{listed, lenient_entries_of, lenient_city_of};
 
 use crate::object::body::body_of;
 use crate::object::ids::ids_or_none;

@@ -10,7 +10,7 @@ ghost use Rattle.city_model.specs.Relations.{IsRelated, IsLawful};
 ghost use Rattle.city_model.specs.Shells.{some_shape, has_short_ring, has_same_twice, has_open_shell};
 ghost use Rattle.city_doc.specs.document.CityFaults.{is_bad_ringed, IsLeastBadlyRelated};
 ghost use Rattle.city_doc.specs.document.Faults.{StandsAmong, IsFirst};
-ghost use Rattle.city_doc.specs.inside.document.LenientCities.{first_body, lesser, IsReadOf};
+ghost use Rattle.city_doc.specs.internal.document.LenientCities.{first_body, lesser, IsReadOf};
 
 use crate::document::arranged::least_misrelated;
 use crate::fault::ReadFault;

@@ -8,8 +8,8 @@ ghost use Rattle.city_model.specs.Shells.{some_shape, has_open_shell};
 ghost use Rattle.city_doc.specs.declared.fault.ReadFault as fault;
 ghost use Rattle.city_doc.specs.document.AllFaults.{is_misplaced};
 ghost use Rattle.city_doc.specs.document.CityFaults.{is_bad_ringed};
-ghost use Rattle.city_doc.specs.inside.document.Told.{told, unknown_type, unsupported, bad_geometry, bad_vertex};
-ghost use Rattle.city_doc.specs.inside.document.Told.{bad_ring, relations, open_shell, body_there, misrelated_there};
+ghost use Rattle.city_doc.specs.internal.document.Told.{told, unknown_type, unsupported, bad_geometry, bad_vertex};
+ghost use Rattle.city_doc.specs.internal.document.Told.{bad_ring, relations, open_shell, body_there, misrelated_there};
 
 use crate::document::city_faults::is_bad_ringed;
 use crate::document::indexed::{IndexedObject, IndexedObjects, is_misrelated};

@@ -7,11 +7,11 @@ ghost use Rattle.city_model.specs.Members.{AreOrdered};
 ghost use Rattle.city_model.specs.Integral.{is_integral};
 ghost use Rattle.city_doc.specs.document.Faults.{objects_in, vertices_in, is_unsupported, unsupported_at, StandsAmong};
 ghost use Rattle.city_doc.specs.document.Faults.{StandsIn, IsFirst, DocumentFault};
-ghost use Rattle.city_doc.specs.inside.document.Forms.{AreReadable, HasForm};
+ghost use Rattle.city_doc.specs.internal.document.Forms.{AreReadable, HasForm};
 ghost use Rattle.city_doc.specs.document.Top.{wrong_member};
-ghost use Rattle.city_doc.specs.inside.document.LenientCities.{lenient_city_of};
+ghost use Rattle.city_doc.specs.internal.document.LenientCities.{lenient_city_of};
 ghost use Rattle.city_doc.specs.object.Faults.{is_unknown_type, is_bad_geometry, has_bad_vertex, has_bad_list};
-ghost use Rattle.city_doc.specs.inside.document.Searches.{first_with};
+ghost use Rattle.city_doc.specs.internal.document.Searches.{first_with};
 ghost use Rattle.city_tokens.specs.tree.Texts.{HasTree};
 
 use crate::fault::ReadFault;

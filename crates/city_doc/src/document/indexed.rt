@@ -6,9 +6,9 @@ ghost use Rattle.std.specs.Prelude.{◌≡◌, IfOk};
 ghost use Rattle.city_model.specs.Chunks.{ids_left};
 ghost use Rattle.city_model.specs.CityMap.{found_in, has_id, parents_of};
 ghost use Rattle.city_model.specs.Relations.{same_family};
-ghost use Rattle.city_model.specs.inside.RelationTests.{children_fit, is_misrelated, level_fits, parent_fits};
-ghost use Rattle.city_model.specs.inside.RelationTests.{parents_fit, relatives_once};
-ghost use Rattle.city_doc.specs.inside.document.IdSets.{IsSetOf};
+ghost use Rattle.city_model.specs.internal.RelationTests.{children_fit, is_misrelated, level_fits, parent_fits};
+ghost use Rattle.city_model.specs.internal.RelationTests.{parents_fit, relatives_once};
+ghost use Rattle.city_doc.specs.internal.document.IdSets.{IsSetOf};
 
 use city_model::OutOfMemory;
 use city_model::copied::Copied;
@@ -56,13 +56,13 @@ impl Model for IndexedObject {
     ghost Value = { Object };
 
     ghost use Rattle.std.specs.Coded.{codes};
-    ghost use Rattle.city_model.specs.inside.DataCode.{coded_members};
+    ghost use Rattle.city_model.specs.internal.DataCode.{coded_members};
 
     ghost coded = { Prim.hlevel (codes, coded_members) };
 
     ghost view = { λ c. c.object };
 
-    ghost use Rattle.city_doc.specs.inside.document.IdSets.{IsSetOf};
+    ghost use Rattle.city_doc.specs.internal.document.IdSets.{IsSetOf};
 
     ghost invariant = { λ c. IsSetOf c.object.parents c.parents.ids.keys c.parents.once
         × IsSetOf c.object.children c.children.ids.keys c.children.once };

@@ -9,7 +9,7 @@ ghost use Rattle.city_model.specs.Integral.{is_integral};
 ghost use Rattle.city_tokens.specs.document.Cities.{city_of, IsAdmitted};
 ghost use Rattle.city_doc.specs.document.Faults.{vertices_in, StandsIn, IsFirst, DocumentFault};
 ghost use Rattle.city_doc.specs.document.Top.{wrong_member};
-ghost use Rattle.city_doc.specs.inside.document.LenientCities.{lenient_city_of};
+ghost use Rattle.city_doc.specs.internal.document.LenientCities.{lenient_city_of};
 ghost use Rattle.city_tokens.specs.tree.Texts.{IsReadable, HasTree};
 
 use crate::document::arranged::least_misrelated;

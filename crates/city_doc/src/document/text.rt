@@ -2,14 +2,14 @@
 ghost use Rattle.std.specs.Prelude.{◌≡◌, ◌++◌, [], OnOk, true};
 ghost use Rattle.city_model.specs.Kept.{kept_at_transform};
 ghost use Rattle.city_doc.specs.document.Canonical.{transform_data, tree_of};
-ghost use Rattle.city_doc.specs.inside.document.KeptMembers.{IsKeptCity};
+ghost use Rattle.city_doc.specs.internal.document.KeptMembers.{IsKeptCity};
 ghost use Rattle.city_doc.specs.Pool.{pool_of};
 ghost use Rattle.city_doc.specs.document.Ranges.{IsInRange};
 ghost use Rattle.city_doc.specs.tree.Ranges.{is_i64_triple};
 ghost use Rattle.city_doc.specs.tree.Tokens.{tokens_of};
-ghost use Rattle.city_doc.specs.inside.document.Pieces.{frame_own};
-ghost use Rattle.city_doc.specs.inside.tree.OwnMembers.{written};
-ghost use Rattle.city_doc.specs.inside.tree.ReadsBack.{ReadsBack, MembersReadBack};
+ghost use Rattle.city_doc.specs.internal.document.Pieces.{frame_own};
+ghost use Rattle.city_doc.specs.internal.tree.OwnMembers.{written};
+ghost use Rattle.city_doc.specs.internal.tree.ReadsBack.{ReadsBack, MembersReadBack};
 ghost use Rattle.city_doc.specs.shape.Vertices.{vertices_data};
 
 use crate::object::text::write_objects;

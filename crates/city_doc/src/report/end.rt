@@ -4,7 +4,7 @@ ghost use Rattle.serde_json.specs.Data.{no_members};
 ghost use Rattle.city_doc.specs.report.Ends.{cause_name, cause_member, put_text, outcome_name, put_refusal, put_ending};
 ghost use Rattle.city_doc.specs.report.Ends.{end_data};
 ghost use Rattle.city_doc.specs.tree.Tokens.{tokens_of};
-ghost use Rattle.city_doc.specs.inside.tree.PartTokens.{tokens_of_members};
+ghost use Rattle.city_doc.specs.internal.tree.PartTokens.{tokens_of_members};
 
 use crate::report::reply::write_replies;
 use city_model::OutOfMemory;

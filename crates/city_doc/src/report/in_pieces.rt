@@ -1,8 +1,8 @@
 //! Writes a report of which several workers write pieces.
 ghost use Rattle.std.specs.Prelude.{◌≡◌, ◌<◌, IfOk, IfSome, OnOk, is_some, true};
 ghost use Rattle.std.specs.List.{list_all};
-ghost use Rattle.city_doc.specs.inside.Pieces.{EachPiece, joined};
-ghost use Rattle.city_doc.specs.inside.Reports.{IsReport};
+ghost use Rattle.city_doc.specs.internal.Pieces.{EachPiece, joined};
+ghost use Rattle.city_doc.specs.internal.Reports.{IsReport};
 ghost use Rattle.city_doc.specs.report.JsonLines.{AreJsonLines};
 ghost use Rattle.city_doc.specs.report.Reports.{report_text};
 

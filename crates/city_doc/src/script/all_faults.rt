@@ -6,8 +6,8 @@ ghost use Rattle.city_model.specs.Integral.{is_integral};
 ghost use Rattle.city_doc.specs.declared.fault.ScriptFault as fault;
 ghost use Rattle.city_doc.specs.script.AllFaults.{AreFaultsOf, AreThose, IsAccepted, IsFaultOfTree, StandsAt};
 ghost use Rattle.city_doc.specs.script.Faults.{ScriptTextFault};
-ghost use Rattle.city_doc.specs.inside.script.Told.{numbered, numbered_view, too_many};
-ghost use Rattle.city_doc.specs.inside.tree.TextFaults.{IsRefused};
+ghost use Rattle.city_doc.specs.internal.script.Told.{numbered, numbered_view, too_many};
+ghost use Rattle.city_doc.specs.internal.tree.TextFaults.{IsRefused};
 
 use crate::fault::{ScriptFault, alone};
 use crate::script::each_fault::{BadCommand, BadVertex, tell_each};

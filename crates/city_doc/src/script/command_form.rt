@@ -4,7 +4,7 @@ ghost use Rattle.serde_json.specs.View.{view, members_view};
 ghost use Rattle.city_tokens.specs.script.CommandForms.{text_in, word_form, first_named, of_one_text, object_form};
 ghost use Rattle.city_tokens.specs.script.CommandForms.{relation_form, values_form, names_form, reshape_form};
 ghost use Rattle.city_tokens.specs.script.CommandForms.{pair_form, members_form, form_of};
-ghost use Rattle.city_doc.specs.inside.script.Forms.{form_view};
+ghost use Rattle.city_doc.specs.internal.script.Forms.{form_view};
 
 use crate::tree::texts::has_other_item;
 use city_model::members::{member, members_count};

@@ -2,8 +2,8 @@
 ghost use Rattle.std.specs.Prelude.{◌≡◌, ◌++◌, OnOk, map};
 ghost use Rattle.serde_json.specs.View.{view};
 ghost use Rattle.city_doc.specs.script.AllFaults.{is_misplaced};
-ghost use Rattle.city_doc.specs.inside.script.Told.{Finder, bad_command, bad_vertex, told_in, told_each};
-ghost use Rattle.city_doc.specs.inside.script.Told.{numbered_view};
+ghost use Rattle.city_doc.specs.internal.script.Told.{Finder, bad_command, bad_vertex, told_in, told_each};
+ghost use Rattle.city_doc.specs.internal.script.Told.{numbered_view};
 
 use crate::fault::ScriptFault;
 use crate::script::command_faults::{is_bad_command, names_bad_vertex};

@@ -7,10 +7,10 @@ ghost use Rattle.city_model.specs.Integral.{is_integral};
 ghost use Rattle.city_doc.specs.script.CommandFaults.{is_bad_command, names_bad_vertex};
 ghost use Rattle.city_tokens.specs.tree.Lists.{array_of, all_read};
 ghost use Rattle.city_tokens.specs.script.Scripts.{count_of, vertex_count, parts_of, scripts_of_parts, scripts_of};
-ghost use Rattle.city_doc.specs.inside.script.Forms.{parts_views};
-ghost use Rattle.city_doc.specs.inside.script.Searches.{first_in, first_command};
+ghost use Rattle.city_doc.specs.internal.script.Forms.{parts_views};
+ghost use Rattle.city_doc.specs.internal.script.Searches.{first_in, first_command};
 ghost use Rattle.city_doc.specs.script.Faults.{PartsFault, ItemsFault, TreeFault, ScriptTextFault};
-ghost use Rattle.city_doc.specs.inside.script.Faultless.{AreFaultlessParts};
+ghost use Rattle.city_doc.specs.internal.script.Faultless.{AreFaultlessParts};
 ghost use Rattle.city_tokens.specs.tree.Texts.{HasTree};
 
 use crate::fault::ScriptFault;

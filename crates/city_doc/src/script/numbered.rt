@@ -2,10 +2,10 @@
 ghost use Rattle.std.specs.Prelude.{◌≡◌, ◌++◌, ◌||◌, IfOk, OnOk, map, nat_lt};
 ghost use Rattle.std.specs.List.{list_any};
 ghost use Rattle.serde_json.specs.View.{view};
-ghost use Rattle.city_tokens.specs.inside.ScriptItems.{has_too_many_commands};
+ghost use Rattle.city_tokens.specs.internal.ScriptItems.{has_too_many_commands};
 ghost use Rattle.city_tokens.specs.script.Scripts.{max_scripts};
-ghost use Rattle.city_doc.specs.inside.script.Forms.{parts_view};
-ghost use Rattle.city_doc.specs.inside.script.Told.{bad_scripts, numbered, numbered_view};
+ghost use Rattle.city_doc.specs.internal.script.Forms.{parts_view};
+ghost use Rattle.city_doc.specs.internal.script.Told.{bad_scripts, numbered, numbered_view};
 
 use crate::fault::ScriptFault;
 use crate::script::form::ScriptForm;

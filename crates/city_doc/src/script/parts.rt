@@ -6,9 +6,9 @@ ghost use Rattle.city_tokens.specs.script.CommandForms.{text_in};
 ghost use Rattle.city_tokens.specs.tree.Lists.{all_read};
 ghost use Rattle.city_tokens.specs.script.Scripts.{is_end_text, is_end_word, word_ends, are_vertices};
 ghost use Rattle.city_tokens.specs.script.Scripts.{has_script_members, commands_in, parts_of, parts_in, are_too_many};
-ghost use Rattle.city_doc.specs.inside.script.Forms.{parts_view, parts_views};
-ghost use Rattle.city_tokens.specs.inside.ScriptItems.{has_too_many_commands};
-ghost use Rattle.city_doc.specs.inside.script.Searches.{first_at, bad_script};
+ghost use Rattle.city_doc.specs.internal.script.Forms.{parts_view, parts_views};
+ghost use Rattle.city_tokens.specs.internal.ScriptItems.{has_too_many_commands};
+ghost use Rattle.city_doc.specs.internal.script.Searches.{first_at, bad_script};
 
 use crate::fault::ScriptFault;
 use crate::script::form::ScriptForm;

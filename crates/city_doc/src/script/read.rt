@@ -7,8 +7,8 @@ ghost use Rattle.city_tokens.specs.script.Scripts.{IsReadAs, vertex_points, scri
 ghost use Rattle.city_doc.specs.script.Faults.{ScriptTextFault};
 ghost use Rattle.city_tokens.specs.script.Commands.{command_of};
 ghost use Rattle.city_tokens.specs.tree.Lists.{all_read};
-ghost use Rattle.city_doc.specs.inside.script.Forms.{parts_view};
-ghost use Rattle.city_tokens.specs.inside.ScriptItems.{script_of_item};
+ghost use Rattle.city_doc.specs.internal.script.Forms.{parts_view};
+ghost use Rattle.city_tokens.specs.internal.ScriptItems.{script_of_item};
 
 use crate::fault::ScriptFault;
 use crate::script::command::command_of;

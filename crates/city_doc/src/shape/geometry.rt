@@ -6,7 +6,7 @@ ghost use Rattle.city_model.specs.Kept.{kept_at_geometry};
 ghost use Rattle.city_model.specs.Members.{without};
 ghost use Rattle.city_tokens.specs.tree.Lists.{read_items, list_or_absent};
 ghost use Rattle.city_tokens.specs.shape.Geometries.{shape_of, geometry_of};
-ghost use Rattle.city_doc.specs.inside.shape.Geometries.{shape_in, geometry_with};
+ghost use Rattle.city_doc.specs.internal.shape.Geometries.{shape_in, geometry_with};
 ghost use Rattle.city_tokens.specs.tree.Members.{kept_if};
 
 use crate::shape::nested::Nested;

@@ -5,12 +5,12 @@ ghost use Rattle.serde_json.specs.Data.{Data};
 ghost use Rattle.city_model.specs.declared.object.Point as p;
 ghost use Rattle.city_tokens.specs.tree.Lists.{list_data};
 ghost use Rattle.city_doc.specs.shape.Canonical.{point_data, boundaries_data, geometry_data};
-ghost use Rattle.city_doc.specs.inside.document.KeptMembers.{is_kept_geometry};
+ghost use Rattle.city_doc.specs.internal.document.KeptMembers.{is_kept_geometry};
 ghost use Rattle.city_tokens.specs.shape.Nesting.{shape_name};
 ghost use Rattle.city_doc.specs.Pool.{shape_points, geometry_points};
-ghost use Rattle.city_doc.specs.inside.Pool.{with_points};
+ghost use Rattle.city_doc.specs.internal.Pool.{with_points};
 ghost use Rattle.city_doc.specs.tree.Tokens.{tokens_of};
-ghost use Rattle.city_doc.specs.inside.tree.ReadsBack.{ReadsBackNumbered};
+ghost use Rattle.city_doc.specs.internal.tree.ReadsBack.{ReadsBackNumbered};
 
 use crate::point_numbers::PointNumbers;
 use crate::pool::VertexPool;

@@ -8,7 +8,7 @@ ghost use Rattle.city_doc.specs.document.Faults.{vertices_in};
 ghost use Rattle.city_tokens.specs.tree.Triples.{point_of, points_of};
 ghost use Rattle.city_doc.specs.shape.Vertices.{vertex_data, vertices_data, is_i64_point};
 ghost use Rattle.city_doc.specs.tree.Tokens.{tokens_of};
-ghost use Rattle.city_doc.specs.inside.tree.ReadsBack.{ReadsBack};
+ghost use Rattle.city_doc.specs.internal.tree.ReadsBack.{ReadsBack};
 
 use crate::tree::triples::write_three;
 use city_model::OutOfMemory;

@@ -4,9 +4,9 @@ ghost use Rattle.json.specs.Token.{key, end_object};
 ghost use Rattle.serde_json.specs.Data.{no_members, member};
 ghost use Rattle.serde_json.specs.View.{view, members_view};
 ghost use Rattle.city_model.specs.Integral.{is_integral, members_integral};
-ghost use Rattle.city_doc.specs.inside.tree.Parted.{begins_before, members_before, members_from};
-ghost use Rattle.city_doc.specs.inside.tree.PartTokens.{tokens_of_members};
-ghost use Rattle.city_doc.specs.inside.tree.ReadsBack.{MembersReadBack};
+ghost use Rattle.city_doc.specs.internal.tree.Parted.{begins_before, members_before, members_from};
+ghost use Rattle.city_doc.specs.internal.tree.PartTokens.{tokens_of_members};
+ghost use Rattle.city_doc.specs.internal.tree.ReadsBack.{MembersReadBack};
 
 use crate::tree::text::write_value;
 use city_model::OutOfMemory;
@@ -29,7 +29,7 @@ impl<'a> Model for KeptMembers<'a> {
 
     ghost Value = { Members };
 
-    ghost use Rattle.city_model.specs.inside.DataCode.{coded_members};
+    ghost use Rattle.city_model.specs.internal.DataCode.{coded_members};
 
     ghost coded = { coded_members };
 

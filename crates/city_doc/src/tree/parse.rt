@@ -3,7 +3,7 @@ ghost use Rattle.std.specs.Prelude.{◌≡◌, true, IfOk, IfErr};
 ghost use Rattle.serde_json.specs.View.{view};
 ghost use Rattle.city_model.specs.Integral.{is_integral};
 ghost use Rattle.city_tokens.specs.tree.Texts.{HasTree};
-ghost use Rattle.city_doc.specs.inside.tree.TextFaults.{IsRefused};
+ghost use Rattle.city_doc.specs.internal.tree.TextFaults.{IsRefused};
 
 use crate::fault::{ReadFault, ScriptFault};
 use city_model::integral::is_integral;
@@ -62,7 +62,7 @@ pub fn parse(alloc: Global, bytes: &[u8]) -> Result<Value, TextFault>
 
 impl From<TextFault> for ReadFault {
     ghost use Rattle.std.specs.Prelude.{◌≡◌};
-    ghost use Rattle.city_doc.specs.inside.tree.TextFaults.{read_fault};
+    ghost use Rattle.city_doc.specs.internal.tree.TextFaults.{read_fault};
 
     ghost from_gives = { λ t f. f ≡ read_fault t };
 
@@ -78,7 +78,7 @@ impl From<TextFault> for ReadFault {
 
 impl From<TextFault> for ScriptFault {
     ghost use Rattle.std.specs.Prelude.{◌≡◌};
-    ghost use Rattle.city_doc.specs.inside.tree.TextFaults.{script_fault};
+    ghost use Rattle.city_doc.specs.internal.tree.TextFaults.{script_fault};
 
     ghost from_gives = { λ t f. f ≡ script_fault t };
 

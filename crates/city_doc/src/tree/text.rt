@@ -5,9 +5,9 @@ ghost use Rattle.serde_json.specs.View.{view, number_view, items_view, members_v
 ghost use Rattle.city_model.specs.Integral.{is_integral, items_integral, members_integral};
 ghost use Rattle.city_model.specs.Members.{AreOrdered};
 ghost use Rattle.city_doc.specs.tree.Tokens.{tokens_of};
-ghost use Rattle.city_doc.specs.inside.tree.PartTokens.{closing_items, closing_members};
-ghost use Rattle.city_doc.specs.inside.tree.ReadsBack.{ReadsBack, ItemsReadBack};
-ghost use Rattle.city_doc.specs.inside.tree.ReadsBack.{MembersReadBack};
+ghost use Rattle.city_doc.specs.internal.tree.PartTokens.{closing_items, closing_members};
+ghost use Rattle.city_doc.specs.internal.tree.ReadsBack.{ReadsBack, ItemsReadBack};
+ghost use Rattle.city_doc.specs.internal.tree.ReadsBack.{MembersReadBack};
 
 use city_model::OutOfMemory;
 use json::Writer;

@@ -3,7 +3,7 @@ ghost use Rattle.std.specs.Prelude.{◌≡◌, ◌++◌, ◌∷◌, [], OnOk, tr
 ghost use Rattle.city_tokens.specs.tree.Triples.{integer_data, triple_data};
 ghost use Rattle.city_doc.specs.tree.Ranges.{is_i64, is_i64_triple};
 ghost use Rattle.city_doc.specs.tree.Tokens.{tokens_of};
-ghost use Rattle.city_doc.specs.inside.tree.ReadsBack.{ReadsBack};
+ghost use Rattle.city_doc.specs.internal.tree.ReadsBack.{ReadsBack};
 
 use city_model::OutOfMemory;
 use json::Writer;

@@ -28,7 +28,7 @@ impl<P: Site> Model for Extra<P> {
 
     ghost Value = { Members };
 
-    ghost use Rattle.city_model.specs.inside.DataCode.{coded_members};
+    ghost use Rattle.city_model.specs.internal.DataCode.{coded_members};
 
     ghost coded = { coded_members };
 

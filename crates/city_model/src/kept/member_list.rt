@@ -6,7 +6,7 @@ ghost use Rattle.serde_json.specs.Find.{get_member};
 ghost use Rattle.serde_json.specs.View.{view, members_view};
 ghost use Rattle.city_model.specs.Kept.{has_no_member};
 ghost use Rattle.city_model.specs.Members.{without, AreOrdered};
-ghost use Rattle.city_model.specs.inside.MemberLists.{joined, entries_view, reaches, pending};
+ghost use Rattle.city_model.specs.internal.MemberLists.{joined, entries_view, reaches, pending};
 
 use crate::OutOfMemory;
 use crate::members::put;
@@ -30,11 +30,11 @@ impl Model for MemberList {
 
     ghost Value = { Members };
 
-    ghost use Rattle.city_model.specs.inside.DataCode.{coded_members};
+    ghost use Rattle.city_model.specs.internal.DataCode.{coded_members};
 
     ghost coded = { coded_members };
 
-    ghost use Rattle.city_model.specs.inside.MemberLists.{entries_view};
+    ghost use Rattle.city_model.specs.internal.MemberLists.{entries_view};
 
     ghost view = { λ a. entries_view a.entries.items };
 }

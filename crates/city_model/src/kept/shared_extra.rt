@@ -6,7 +6,7 @@ ghost use Rattle.serde_json.specs.View.{view, members_view};
 ghost use Rattle.city_model.specs.Attributes.{attributes, attributes_in, are_among, has_attributes, with_attributes, with_set, with_unset};
 ghost use Rattle.city_model.specs.Kept.{kept_at_object};
 ghost use Rattle.city_model.specs.Members.{AreOrdered};
-ghost use Rattle.city_model.specs.inside.KeptIn.{kept_in, lent, with_own};
+ghost use Rattle.city_model.specs.internal.KeptIn.{kept_in, lent, with_own};
 
 use crate::OutOfMemory;
 use crate::attributes::{has_attributes, put_attributes, with_set, with_unset};
@@ -43,11 +43,11 @@ impl Model for SharedExtra {
 
     ghost Value = { Members };
 
-    ghost use Rattle.city_model.specs.inside.DataCode.{coded_members};
+    ghost use Rattle.city_model.specs.internal.DataCode.{coded_members};
 
     ghost coded = { coded_members };
 
-    ghost use Rattle.city_model.specs.inside.KeptIn.{kept_in};
+    ghost use Rattle.city_model.specs.internal.KeptIn.{kept_in};
 
     ghost view = { λ a. kept_in a.storage };
 

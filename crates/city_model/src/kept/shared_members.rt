@@ -7,7 +7,7 @@ ghost use Rattle.serde_json.specs.View.{view, members_view};
 ghost use Rattle.city_model.specs.Attributes.{put_each};
 ghost use Rattle.city_model.specs.Kept.{has_no_member};
 ghost use Rattle.city_model.specs.Members.{without, without_each, AreOrdered};
-ghost use Rattle.city_model.specs.inside.MemberLists.{joined, all_joined, IsPlace};
+ghost use Rattle.city_model.specs.internal.MemberLists.{joined, all_joined, IsPlace};
 
 use crate::OutOfMemory;
 use crate::copied::Copied;
@@ -38,11 +38,11 @@ impl Model for SharedMembers {
 
     ghost Value = { Members };
 
-    ghost use Rattle.city_model.specs.inside.DataCode.{coded_members};
+    ghost use Rattle.city_model.specs.internal.DataCode.{coded_members};
 
     ghost coded = { coded_members };
 
-    ghost use Rattle.city_model.specs.inside.MemberLists.{all_joined};
+    ghost use Rattle.city_model.specs.internal.MemberLists.{all_joined};
 
     ghost view = { λ a. all_joined a.lists.items };
 

@@ -3,8 +3,8 @@ ghost use Rattle.std.specs.Prelude.{◌≡◌, IfOk};
 ghost use Rattle.city_model.specs.Actions.{amend, amends, amendment_reply};
 ghost use Rattle.city_model.specs.Amendments.{amendment_fault, amended, amended_body, with_extra_by};
 ghost use Rattle.city_model.specs.CityMap.{CityMap};
-ghost use Rattle.city_model.specs.inside.BorrowedAmendments.{amendment_view};
-ghost use Rattle.city_model.specs.inside.Plans.{IsPlanOf};
+ghost use Rattle.city_model.specs.internal.BorrowedAmendments.{amendment_view};
+ghost use Rattle.city_model.specs.internal.Plans.{IsPlanOf};
 
 use crate::OutOfMemory;
 use crate::body_fault::{body_fault, geometry_fault};
@@ -14,8 +14,8 @@ use crate::kept::shared_extra::SharedExtra;
 use crate::object::{Body, Geometries, Object};
 use crate::object_type::is_same;
 use crate::plan::Plan;
+use crate::plan::object_lookup::ObjectLookup;
 use crate::plan::objects::with_body;
-use crate::plan::view::View;
 use crate::plan::writes::{no_object, one};
 use crate::sequence::Sequence;
 use crate::shared::Shared;
@@ -36,7 +36,7 @@ pub enum Amendment<'a> {
 }
 
 /// The plan of an amendment: what is wrong with the geometries that it gives comes first.
-pub fn plan_amend<V: View>(
+pub fn plan_amend<V: ObjectLookup>(
     alloc: Global,
     view: &V,
     id: &Id,

@@ -1,7 +1,7 @@
 //! The plan of a delete.
 ghost use Rattle.std.specs.Prelude.{◌≡◌, ◌++◌, map, option_copied, IfOk, OnOk};
 ghost use Rattle.city_model.specs.Chunks.{ids_left};
-ghost use Rattle.city_model.specs.inside.Plans.{IsPlan, unlinked};
+ghost use Rattle.city_model.specs.internal.Plans.{IsPlan, unlinked};
 ghost use Rattle.city_model.specs.Relations.{IsSound};
 ghost use Rattle.city_model.specs.declared.command.Command.{Command};
 
@@ -11,14 +11,14 @@ use crate::copied::Copied;
 use crate::id_list::Ids;
 use crate::object::Object;
 use crate::plan::Plan;
+use crate::plan::object_lookup::ObjectLookup;
 use crate::plan::objects::without_child;
-use crate::plan::view::View;
 use crate::plan::writes::{Writes, no_object};
 use crate::text::Id;
 use std::alloc::Global;
 
 /// The plan of a delete.
-pub fn plan_delete<V: View>(alloc: Global, view: &V, id: &Id) -> Result<Plan, OutOfMemory>
+pub fn plan_delete<V: ObjectLookup>(alloc: Global, view: &V, id: &Id) -> Result<Plan, OutOfMemory>
     requires sound { IsSound (V.map view.now) }
     ensures { IfOk result (IsPlan (V.map view.now) (Command.Delete id.now)) }
 {
@@ -35,7 +35,7 @@ pub fn plan_delete<V: View>(alloc: Global, view: &V, id: &Id) -> Result<Plan, Ou
 }
 
 /// Adds each parent, without the child, to the writes.
-fn unlink_each<V: View>(
+fn unlink_each<V: ObjectLookup>(
     alloc: Global,
     view: &V,
     child: &Id,
@@ -53,7 +53,7 @@ fn unlink_each<V: View>(
 }
 
 /// The parent, and its object without the child.
-fn unlink<V: View>(
+fn unlink<V: ObjectLookup>(
     alloc: Global,
     view: &V,
     child: &Id,

@@ -2,7 +2,7 @@
 ghost use Rattle.std.specs.Prelude.{IfOk};
 ghost use Rattle.city_model.specs.Actions.{creates};
 ghost use Rattle.city_model.specs.CityMap.{CityMap};
-ghost use Rattle.city_model.specs.inside.Plans.{IsPlan, IsPlanOf};
+ghost use Rattle.city_model.specs.internal.Plans.{IsPlan, IsPlanOf};
 ghost use Rattle.city_model.specs.declared.command.Command.{Command};
 
 use crate::OutOfMemory;
@@ -12,15 +12,15 @@ use crate::copied::Copied;
 use crate::object::Body;
 use crate::plan::Plan;
 use crate::plan::amending::{Amendment, plan_amend_there};
+use crate::plan::object_lookup::ObjectLookup;
 use crate::plan::objects::new_object;
-use crate::plan::view::View;
 use crate::plan::writes::one;
 use crate::shared::Shared;
 use crate::text::Id;
 use std::alloc::Global;
 
 /// The plan of a put.
-pub fn plan_put<V: View>(
+pub fn plan_put<V: ObjectLookup>(
     alloc: Global,
     view: &V,
     id: &Id,
@@ -38,7 +38,7 @@ pub fn plan_put<V: View>(
 }
 
 /// The plan of an add.
-pub fn plan_add<V: View>(
+pub fn plan_add<V: ObjectLookup>(
     alloc: Global,
     view: &V,
     id: &Id,

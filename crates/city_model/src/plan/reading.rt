@@ -1,19 +1,19 @@
 //! The plans of the commands that write nothing: a read and an expect.
 ghost use Rattle.std.specs.Prelude.{IfOk};
-ghost use Rattle.city_model.specs.inside.Plans.{IsPlan};
+ghost use Rattle.city_model.specs.internal.Plans.{IsPlan};
 ghost use Rattle.city_model.specs.declared.command.Command.{Command};
 
 use crate::OutOfMemory;
 use crate::command::{Attributes, Cause, Reply};
 use crate::copied::Copied;
 use crate::plan::Plan;
-use crate::plan::view::View;
+use crate::plan::object_lookup::ObjectLookup;
 use crate::plan::writes::{Writes, no_object};
 use crate::text::Id;
 use std::alloc::Global;
 
 /// The plan of a read.
-pub fn plan_read<V: View>(alloc: Global, view: &V, id: &Id) -> Result<Plan, OutOfMemory>
+pub fn plan_read<V: ObjectLookup>(alloc: Global, view: &V, id: &Id) -> Result<Plan, OutOfMemory>
     ensures { IfOk result (IsPlan (V.map view.now) (Command.Read id.now)) }
 {
     let reply = match view.look(id) {
@@ -24,7 +24,7 @@ pub fn plan_read<V: View>(alloc: Global, view: &V, id: &Id) -> Result<Plan, OutO
 }
 
 /// The plan of an expect.
-pub fn plan_expect<V: View>(
+pub fn plan_expect<V: ObjectLookup>(
     alloc: Global,
     view: &V,
     id: &Id,

@@ -1,7 +1,7 @@
 //! The plans of an attach and of a detach.
 ghost use Rattle.std.specs.Prelude.{◌≡◌, IfOk};
 ghost use Rattle.city_model.specs.CityMap.{has_id};
-ghost use Rattle.city_model.specs.inside.Plans.{IsPlan};
+ghost use Rattle.city_model.specs.internal.Plans.{IsPlan};
 ghost use Rattle.city_model.specs.Relations.{IsSound};
 ghost use Rattle.city_model.specs.declared.command.Command.{Command};
 
@@ -9,15 +9,15 @@ use crate::OutOfMemory;
 use crate::command::{Cause, Reply};
 use crate::object::Object;
 use crate::plan::Plan;
+use crate::plan::object_lookup::ObjectLookup;
 use crate::plan::objects::{with_child, with_parent, without_child, without_parent};
-use crate::plan::view::View;
 use crate::plan::writes::{no_object, two};
 use crate::relations::is_wrong_family;
 use crate::text::Id;
 use std::alloc::Global;
 
 /// The plan of an attach.
-pub fn plan_attach<V: View>(
+pub fn plan_attach<V: ObjectLookup>(
     alloc: Global,
     view: &V,
     child: &Id,
@@ -45,7 +45,7 @@ pub fn plan_attach<V: View>(
 }
 
 /// The plan of a detach.
-pub fn plan_detach<V: View>(
+pub fn plan_detach<V: ObjectLookup>(
     alloc: Global,
     view: &V,
     child: &Id,

@@ -7,7 +7,7 @@ use Rattle.std.specs.Prelude.{option_map, ◌&&◌}
 use Rattle.city_model.specs.Kept.{kept_at_top}
 use Rattle.city_tokens.specs.document.Frames.{triple_at, more_of, without_top_members, frame_of}
 use Rattle.city_tokens.specs.document.FramesOfRest.{frame_of_rest, without_rest_members}
-use Rattle.city_tokens.specs.inside.Frames.{built_frame}
+use Rattle.city_tokens.specs.internal.Frames.{built_frame}
 use Rattle.city_tokens.specs.tree.Members.{kept_if, is_text}
 use Rattle.city_model.specs.declared.frame.Frame.{Frame}
 use Rattle.city_tokens.specs.document.Cities.{city_of}

@@ -9,11 +9,11 @@ use Rattle.std.specs.FinMap.{empty, entries, entries-insert, len-entries, len-em
 use Rattle.std.specs.FinMap.Entries.{by_order}
 use Rattle.city_model.specs.CityMap.{Objects, CityMap, object_at, found_in, changed}
 use Rattle.city_model.proofs.Objects.{at_empty, at_insert, at_entries, same_objects}
-use Rattle.city_model.specs.inside.Faultless.{IsFaultless}
+use Rattle.city_model.specs.internal.Faultless.{IsFaultless}
 use Rattle.city_model.specs.Shells.{body_fault}
 use Rattle.city_model.proofs.MapsMade.{put_each}
-use Rattle.city_tokens.specs.inside.Faultless.{AreFaultless}
-use Rattle.city_tokens.specs.inside.Objects.{IsNamedObject, IsListing, put_all}
+use Rattle.city_tokens.specs.internal.Faultless.{AreFaultless}
+use Rattle.city_tokens.specs.internal.Objects.{IsNamedObject, IsListing, put_all}
 use Rattle.city_tokens.proofs.tree.Puts.{cmp}
 use Rattle.city_tokens.proofs.Pairing.{pairs_push, pairs_over}
 

@@ -4,7 +4,7 @@ use Rattle.city_tokens.proofs.Prelude.{refl, sym, ◌∙◌, arith, option_and_t
 use Rattle.city_tokens.proofs.Prelude.{all_read, array_of, read_items, items_of, Pairs, IsArrayOf, IsScript}
 use Rattle.std.specs.List.{list_any}
 use Rattle.city_model.specs.Runs.{Scripted}
-use Rattle.city_tokens.specs.inside.ScriptItems.{has_too_many_commands, fit_script_of, script_of_item}
+use Rattle.city_tokens.specs.internal.ScriptItems.{has_too_many_commands, fit_script_of, script_of_item}
 use Rattle.city_tokens.specs.script.Scripts.{ScriptParts, parts_of, script_of, max_scripts, scripts_of_parts}
 use Rattle.city_tokens.specs.script.Scripts.{scripts_of}
 use Rattle.city_tokens.proofs.tree.AllRead.{all_read-length}

@@ -3,8 +3,8 @@ use Rattle.city_decimals.proofs.Prelude.{frame_changed}
 use Rattle.city_decimals.proofs.Copied.{array_copied, object_copied, items_end, items_first, members_end, members_first}
 use Rattle.city_decimals.proofs.Copied.{member_plain, member_framed, item_shorter, some_weaker}
 use Rattle.city_decimals.proofs.CompactForms.{frame_copied, plain_copied}
-use Rattle.city_decimals.proofs.Ways.{plain_changed, array_changed, no_items_changed, item_changed, object_changed}
-use Rattle.city_decimals.proofs.Ways.{no_members_changed, first_changed, plain_member, framed_member}
+use Rattle.city_decimals.proofs.Directions.{plain_changed, array_changed, no_items_changed, item_changed, object_changed}
+use Rattle.city_decimals.proofs.Directions.{no_members_changed, first_changed, plain_member, framed_member}
 use Rattle.city_decimals.proofs.compact.+copy.Goals as goal
 
 pub copy_array-returns-clause-copied : goal.copy_array-returns-clause-copied

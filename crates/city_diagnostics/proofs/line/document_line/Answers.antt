@@ -2,7 +2,7 @@ use Rattle.city_diagnostics.proofs.Prelude.{◌≡◌, ◌∙◌, ap, Members, L
 use Rattle.city_diagnostics.proofs.Prelude.{IfOk-weaker}
 use Rattle.city_diagnostics.proofs.Prelude.{Tells, rank_of, name_of, codes}
 use Rattle.city_diagnostics.proofs.Heads.{told}
-use Rattle.city_diagnostics.specs.inside.Heads.{with_named, with_head, with_words}
+use Rattle.city_diagnostics.specs.internal.Heads.{with_named, with_head, with_words}
 use Rattle.city_diagnostics.proofs.line.document_line.Goals as goal
 
 pub returns : goal.returns

@@ -1,5 +1,5 @@
 use Rattle.city_model.proofs.Prelude.{◌≡◌, drop, list_any}
-use Rattle.city_model.specs.inside.RingFaults.{has_ring_fault}
+use Rattle.city_model.specs.internal.RingFaults.{has_ring_fault}
 use Rattle.city_model.proofs.body_fault.any_faulty.Given as goal
 
 abbrev pub invariant-loop-g : goal.invariant-loop-g

@@ -1,5 +1,5 @@
 use Rattle.city_model.proofs.Prelude.{◌∙◌, sym, ap, list_any, is_faulty}
-use Rattle.city_model.specs.inside.BorrowedBounds.{bounds_view}
+use Rattle.city_model.specs.internal.BorrowedBounds.{bounds_view}
 use Rattle.city_model.proofs.Joined.{some_surface_by}
 use Rattle.city_model.proofs.rings.has_ring_fault.Goals as goal
 

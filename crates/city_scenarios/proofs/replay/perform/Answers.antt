@@ -3,7 +3,7 @@ use Rattle.std.specs.Map.{keys_of}
 use Rattle.city_model.specs.declared.command.Command.{Command}
 use Rattle.city_model.specs.declared.command.Reply.{Reply}
 use Rattle.city_model.specs.CityMap.{CityMap, object_at}
-use Rattle.city_model.specs.inside.Plans.{IsPlan, AreWritesOf}
+use Rattle.city_model.specs.internal.Plans.{IsPlan, AreWritesOf}
 use Rattle.city_model.specs.Relations.{IsSound}
 use Rattle.city_model.specs.Runs.{Change, after_change}
 use Rattle.city_model.proofs.Planned.{plan_makes}

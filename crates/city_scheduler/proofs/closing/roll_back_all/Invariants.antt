@@ -1,5 +1,5 @@
 use Rattle.city_scheduler.proofs.Prelude.{KeepsCity}
-use Rattle.city_scheduler.specs.inside.Closing.{AreOpenFrom}
+use Rattle.city_scheduler.specs.internal.Closing.{AreOpenFrom}
 use Rattle.city_scheduler.proofs.closing.roll_back_all.Given as goal
 
 abbrev pub invariant-loop-script : goal.invariant-loop-script

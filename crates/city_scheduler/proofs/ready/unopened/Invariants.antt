@@ -1,5 +1,5 @@
 use Rattle.city_scheduler.proofs.Prelude.{◌≡◌, ◌<◌, ℕ, false, phase_in}
-use Rattle.city_scheduler.specs.inside.Ready.{is_unopened}
+use Rattle.city_scheduler.specs.internal.Ready.{is_unopened}
 use Rattle.city_scheduler.proofs.ready.unopened.Given as goal
 
 abbrev pub invariant-loop-n : goal.invariant-loop-n

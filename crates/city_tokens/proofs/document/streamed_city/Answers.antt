@@ -1,5 +1,5 @@
 use Rattle.city_tokens.proofs.Prelude.{sym, subst, IfSome_then}
-use Rattle.city_tokens.specs.inside.Tops.{IsCity}
+use Rattle.city_tokens.specs.internal.Tops.{IsCity}
 use Rattle.city_tokens.proofs.document.streamed_city.Goals as goal
 
 pub returns : goal.returns

@@ -1,7 +1,7 @@
 use Rattle.city_tokens.proofs.Prelude.{◌≡◌, ℕ, List, [], ◌∷◌, ◌++◌, Some, refl, sym, ap, ◌∙◌, subst}
 use Rattle.city_tokens.proofs.Prelude.{append_assoc, arith, read_key, no_members, Object}
-use Rattle.city_tokens.specs.inside.Objects.{IsListing}
-use Rattle.city_tokens.specs.inside.Parts.{IsNextObject}
+use Rattle.city_tokens.specs.internal.Objects.{IsListing}
+use Rattle.city_tokens.specs.internal.Parts.{IsNextObject}
 use Rattle.city_tokens.proofs.Parts.{next_shorter, object_shorter, objects_over}
 use Rattle.city_tokens.proofs.Reading.{member_shorter, members_begin, members_end}
 use Rattle.city_tokens.proofs.in_pieces.rest_of_objects.Goals as goal

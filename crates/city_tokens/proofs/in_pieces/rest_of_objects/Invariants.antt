@@ -1,5 +1,5 @@
 use Rattle.city_tokens.proofs.Prelude.{length, Members}
-use Rattle.city_tokens.specs.inside.Objects.{IsListing}
+use Rattle.city_tokens.specs.internal.Objects.{IsListing}
 use Rattle.city_tokens.proofs.Reading.{AreFound}
 use Rattle.city_tokens.proofs.in_pieces.rest_of_objects.Given as goal
 

@@ -1,5 +1,5 @@
 use Rattle.city_tokens.proofs.Prelude.{◌≡◌, [], ◌∷◌, ◌++◌, sym, ap, ◌∙◌, subst, append_assoc, arith, Pairs}
-use Rattle.city_tokens.specs.inside.Parts.{IsNextItem}
+use Rattle.city_tokens.specs.internal.Parts.{IsNextItem}
 use Rattle.city_tokens.proofs.Parts.{next_shorter, item_shorter, items_over, run_left, run_passed}
 use Rattle.city_tokens.proofs.Reading.{value_shorter, items_begin, items_end}
 use Rattle.city_tokens.proofs.items.rest_of_items.Goals as goal

@@ -1,6 +1,6 @@
 use Rattle.city_tokens.proofs.Prelude.{List, length, Data, Pairs}
-use Rattle.city_tokens.specs.inside.Parts.{IsNextItem}
-use Rattle.city_tokens.specs.inside.Runs.{IsRun}
+use Rattle.city_tokens.specs.internal.Parts.{IsNextItem}
+use Rattle.city_tokens.specs.internal.Runs.{IsRun}
 use Rattle.city_tokens.proofs.Reading.{AreRead}
 use Rattle.city_tokens.proofs.items.rest_of_items.Given as goal
 

@@ -1,5 +1,5 @@
 use Rattle.city_tokens.proofs.Prelude.{length}
-use Rattle.city_tokens.specs.inside.Parts.{AreNext}
+use Rattle.city_tokens.specs.internal.Parts.{AreNext}
 use Rattle.city_tokens.proofs.part.read_between.Given as goal
 
 abbrev pub invariant-parts : goal.invariant-parts

@@ -1,5 +1,5 @@
 use Rattle.city_tokens.proofs.Prelude.{IfSome, AllByRecursion, into_iter_items}
-use Rattle.city_tokens.specs.inside.Runs.{IsRun}
+use Rattle.city_tokens.specs.internal.Runs.{IsRun}
 use Rattle.city_tokens.proofs.run.joined.Given as goal
 
 abbrev pub invariant-loop-run : goal.invariant-loop-run

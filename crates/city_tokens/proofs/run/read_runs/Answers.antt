@@ -4,7 +4,7 @@ use denote.Exit.{no}
 use denote.Param.{param}
 use Rattle.std.proofs.option.Option.TheSendSync as option
 use Rattle.city_tokens.specs.contracts.run.Run as Run
-use Rattle.city_tokens.specs.inside.Runs.{IsRun}
+use Rattle.city_tokens.specs.internal.Runs.{IsRun}
 use Rattle.city_tokens.proofs.Crossing.{run_sends}
 use Rattle.city_tokens.proofs.Options.{given}
 use Rattle.city_tokens.proofs.Pairing.{each_given}

@@ -1,6 +1,6 @@
 use Rattle.city_tokens.proofs.Prelude.{◌≡◌, [], ◌++◌, refl, append_assoc, append-nil, arith, rules, into_iter_items}
 use Rattle.std.proofs.lemmas.List.{nil_from_length}
-use Rattle.city_tokens.specs.inside.Stretches.{AreJoined}
+use Rattle.city_tokens.specs.internal.Stretches.{AreJoined}
 use Rattle.city_tokens.proofs.stretches.joined.Goals as goal
 
 pub loop-stretch-preserved : goal.loop-stretch-preserved

@@ -1,5 +1,5 @@
 use Rattle.city_tokens.proofs.Prelude.{◌++◌, List, into_iter_items, Object, ℕ}
-use Rattle.city_tokens.specs.inside.Stretches.{AreJoined}
+use Rattle.city_tokens.specs.internal.Stretches.{AreJoined}
 use Rattle.city_tokens.proofs.stretches.joined.Given as goal
 
 abbrev pub invariant-loop-stretch : goal.invariant-loop-stretch

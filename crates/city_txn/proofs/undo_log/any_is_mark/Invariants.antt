@@ -1,5 +1,5 @@
 use Rattle.city_txn.proofs.Prelude.{◌≡◌, false, take, list_any}
-use Rattle.city_txn.specs.inside.LogTests.{is_mark}
+use Rattle.city_txn.specs.internal.LogTests.{is_mark}
 use Rattle.city_txn.proofs.undo_log.any_is_mark.Given as goal
 
 abbrev pub invariant-loop-entry : goal.invariant-loop-entry

@@ -1,6 +1,6 @@
 use Rattle.city_decimals.proofs.Prelude.{true, false, refl, null, boolean, changed}
 use Rattle.city_decimals.proofs.Copied.{name_copied, some_weaker}
-use Rattle.city_decimals.proofs.Ways.{boolean_changed, null_changed}
+use Rattle.city_decimals.proofs.Directions.{boolean_changed, null_changed}
 use Rattle.city_decimals.proofs.compact.leaves.copy_name.Goals as goal
 
 pub returns-in-116-clause-copied : goal.returns-in-116-clause-copied

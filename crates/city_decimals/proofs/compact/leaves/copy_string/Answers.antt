@@ -1,6 +1,6 @@
 use Rattle.city_decimals.proofs.Prelude.{refl, changed}
 use Rattle.city_decimals.proofs.Copied.{string_copied}
-use Rattle.city_decimals.proofs.Ways.{string_changed}
+use Rattle.city_decimals.proofs.Directions.{string_changed}
 use Rattle.city_decimals.proofs.compact.leaves.copy_string.Goals as goal
 
 pub returns-clause-copied : goal.returns-clause-copied

@@ -1,5 +1,5 @@
 use Rattle.city_doc.proofs.Prelude.{◌≡◌, ◌++◌, members_view}
-use Rattle.city_doc.specs.inside.document.Told.{readable_entries}
+use Rattle.city_doc.specs.internal.document.Told.{readable_entries}
 use Rattle.city_doc.proofs.document.all_faults.readable_objects.Given as goal
 
 -- what is listed, and then what is left

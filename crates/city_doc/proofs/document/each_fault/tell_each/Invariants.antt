@@ -1,5 +1,5 @@
 use Rattle.city_doc.proofs.Prelude.{◌≡◌, ◌++◌, members_view}
-use Rattle.city_doc.specs.inside.document.Told.{told}
+use Rattle.city_doc.specs.internal.document.Told.{told}
 use Rattle.city_doc.proofs.document.each_fault.tell_each.Given as goal
 
 abbrev pub invariant-loop-id : goal.invariant-loop-id

@@ -1,5 +1,5 @@
 use Rattle.city_doc.proofs.Prelude.{◌≡◌, ◌++◌, false, into_iter_items, is_some, list_all}
-use Rattle.city_doc.specs.inside.Pieces.{joined_by_commas}
+use Rattle.city_doc.specs.internal.Pieces.{joined_by_commas}
 use Rattle.city_doc.proofs.document.in_pieces.append_pieces.Given as goal
 
 -- what is left ends the text

@@ -1,5 +1,5 @@
 use Rattle.city_doc.proofs.Prelude.{◌≡◌, into_iter_items, is_some, list_all, with_points}
-use Rattle.city_doc.specs.inside.Pieces.{joined}
+use Rattle.city_doc.specs.internal.Pieces.{joined}
 use Rattle.city_doc.proofs.document.in_pieces.numbers_of_pieces.Given as goal
 
 -- what is left leads to the pool of all

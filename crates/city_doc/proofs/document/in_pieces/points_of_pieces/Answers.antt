@@ -5,7 +5,7 @@ use Rattle.serde_json.proofs.value.Value.TheLaws.TheKnot as json
 use denote.Param.Send.{sendable}
 use Rattle.std.specs.FinMap.{len-entries}
 use Rattle.city_model.proofs.Crossing.{city_field_syncs}
-use Rattle.city_doc.specs.inside.document.Pieces.{IsListed}
+use Rattle.city_doc.specs.internal.document.Pieces.{IsListed}
 use Rattle.city_doc.proofs.EachPiece.{each_made}
 use Rattle.city_doc.proofs.document.in_pieces.points_of_pieces.Goals as goal
 

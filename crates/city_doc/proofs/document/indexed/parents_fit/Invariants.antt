@@ -1,5 +1,5 @@
 use Rattle.city_doc.proofs.Prelude.{◌≡◌, list_all, ids_left, found_in}
-use Rattle.city_model.specs.inside.RelationTests.{parent_fits}
+use Rattle.city_model.specs.internal.RelationTests.{parent_fits}
 use Rattle.city_doc.proofs.document.indexed.parents_fit.Given as goal
 
 abbrev pub invariant-loop-parent : goal.invariant-loop-parent

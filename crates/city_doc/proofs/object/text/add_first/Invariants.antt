@@ -1,6 +1,6 @@
 use Rattle.city_doc.proofs.Prelude.{◌≡◌, with_points}
 use Rattle.std.proofs.Common.{take}
-use Rattle.city_doc.specs.inside.object.InTurn.{entry_points}
+use Rattle.city_doc.specs.internal.object.InTurn.{entry_points}
 use Rattle.city_doc.proofs.object.text.add_first.Given as goal
 
 -- what is left leads to the pool of all

@@ -2,7 +2,7 @@ use Rattle.city_doc.proofs.Prelude.{◌≡◌, ◌<◌, List, ◌++◌, length, 
 use Rattle.city_doc.proofs.Prelude.{tokens_of_members}
 use Rattle.city_doc.proofs.Prelude.{MembersReadBack}
 use Rattle.std.proofs.Common.{◌^◌, take}
-use Rattle.city_doc.specs.inside.object.InTurn.{in_turn, entry_points}
+use Rattle.city_doc.specs.internal.object.InTurn.{in_turn, entry_points}
 use Rattle.city_doc.proofs.object.text.write_first.Given as goal
 
 -- what is left leads to the pool of all, and is written behind what is written

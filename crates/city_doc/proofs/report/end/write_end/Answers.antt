@@ -6,7 +6,7 @@ use Rattle.city_model.specs.declared.end.Outcome.{Outcome}
 use Rattle.city_doc.specs.report.Ends.{count_data, outcome_name, put_ending}
 use Rattle.city_doc.proofs.tree.Among.{puts}
 use Rattle.city_doc.proofs.document.PutMembers.{after_written, on_ok}
-use Rattle.city_doc.specs.inside.tree.OwnMembers.{Own}
+use Rattle.city_doc.specs.internal.tree.OwnMembers.{Own}
 use Rattle.city_doc.proofs.report.end.write_end.Goals as goal
 
 module _ (name outcome replies script since : Data) where

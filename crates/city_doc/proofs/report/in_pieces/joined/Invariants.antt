@@ -1,5 +1,5 @@
 use Rattle.city_doc.proofs.Prelude.{◌≡◌, ◌++◌, into_iter_items, is_some, list_all}
-use Rattle.city_doc.specs.inside.Pieces.{joined}
+use Rattle.city_doc.specs.internal.Pieces.{joined}
 use Rattle.city_doc.proofs.report.in_pieces.joined.Given as goal
 
 -- what is left ends the report

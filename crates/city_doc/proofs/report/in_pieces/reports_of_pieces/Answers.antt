@@ -5,7 +5,7 @@ use Rattle.std.proofs.MapsCrossing as maps
 use Rattle.serde_json.proofs.value.Value.TheLaws.TheKnot as json
 use denote.Param.Send.{sendable}
 use Rattle.city_model.proofs.Crossing.{text_syncs, object_syncs}
-use Rattle.city_doc.specs.inside.Reports.{IsReport}
+use Rattle.city_doc.specs.internal.Reports.{IsReport}
 use Rattle.city_doc.proofs.EachPiece.{each_made}
 use Rattle.city_doc.proofs.report.in_pieces.reports_of_pieces.Goals as goal
 

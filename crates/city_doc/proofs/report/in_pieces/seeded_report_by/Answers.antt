@@ -1,6 +1,6 @@
 use Rattle.city_doc.proofs.Prelude.{◌∙◌, sym, subst}
 use Rattle.city_doc.specs.report.JsonLines.{AreJsonLines}
-use Rattle.city_doc.specs.inside.Reports.{IsReport}
+use Rattle.city_doc.specs.internal.Reports.{IsReport}
 use Rattle.city_doc.proofs.EachPiece.{all_made}
 use Rattle.city_doc.proofs.report.JoinedReports.{reports_joined}
 use Rattle.city_doc.proofs.report.in_pieces.seeded_report_by.Goals as goal

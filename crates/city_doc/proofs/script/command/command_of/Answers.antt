@@ -1,6 +1,6 @@
 use Rattle.city_doc.proofs.Prelude.{sym, ap, IfOk-weaker, object, items_view, members_view, view}
 use Rattle.city_tokens.specs.script.CommandForms.{PutForm, AddForm, SetForm, UnsetForm, ReshapeForm, ExpectForm}
-use Rattle.city_doc.specs.inside.script.Forms.{texts_among}
+use Rattle.city_doc.specs.internal.script.Forms.{texts_among}
 use Rattle.city_doc.proofs.script.GivenForms.{given_read}
 use Rattle.city_doc.proofs.script.command.command_of.Goals as goal
 

@@ -1,6 +1,6 @@
 use Rattle.city_doc.proofs.Prelude.{Some, sym, ap, ◌∙◌, view}
 use Rattle.std.proofs.Common.{option_map}
-use Rattle.city_doc.specs.inside.script.Forms.{form_view}
+use Rattle.city_doc.specs.internal.script.Forms.{form_view}
 use Rattle.city_doc.proofs.script.Reshapes.{reshape_bad}
 use Rattle.city_doc.proofs.script.command_faults.is_bad_command.Goals as goal
 

@@ -1,6 +1,6 @@
 use Rattle.city_doc.proofs.Prelude.{Some, sym, ap, ◌∙◌, view}
 use Rattle.std.proofs.Common.{option_map}
-use Rattle.city_doc.specs.inside.script.Forms.{form_view}
+use Rattle.city_doc.specs.internal.script.Forms.{form_view}
 use Rattle.city_doc.proofs.script.Reshapes.{reshape_misplaced}
 use Rattle.city_doc.proofs.script.command_faults.names_bad_vertex.Goals as goal
 

@@ -1,5 +1,5 @@
 use Rattle.city_doc.proofs.Prelude.{◌≡◌, ◌++◌, map, drop}
-use Rattle.city_doc.specs.inside.script.Told.{told_each, numbered_view}
+use Rattle.city_doc.specs.internal.script.Told.{told_each, numbered_view}
 use Rattle.city_doc.proofs.script.each_fault.tell_each.Given as goal
 
 abbrev pub invariant-loop-numbered : goal.invariant-loop-numbered

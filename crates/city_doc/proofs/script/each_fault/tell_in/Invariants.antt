@@ -1,5 +1,5 @@
 use Rattle.city_doc.proofs.Prelude.{◌≡◌, ◌++◌, map, drop, view}
-use Rattle.city_doc.specs.inside.script.Told.{told, command_at, told_in, numbered_view}
+use Rattle.city_doc.specs.internal.script.Told.{told, command_at, told_in, numbered_view}
 use Rattle.city_doc.proofs.script.each_fault.tell_in.Given as goal
 
 -- what is told, and then what the commands that are left have

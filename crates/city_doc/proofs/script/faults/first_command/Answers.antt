@@ -1,5 +1,5 @@
 use Rattle.city_doc.proofs.Prelude.{sym, refl, index_in}
-use Rattle.city_doc.specs.inside.script.Forms.{parts_view}
+use Rattle.city_doc.specs.internal.script.Forms.{parts_view}
 use Rattle.city_doc.proofs.script.FirstAt.{first_at-drop, first_at-found, first_at-end}
 use Rattle.city_doc.proofs.script.faults.first_command.Goals as goal
 

@@ -1,6 +1,6 @@
 use Rattle.city_doc.proofs.Prelude.{◌≡◌, ◌++◌, map, into_iter_items, view}
 use Rattle.std.specs.Iterator.Adapters.{enumerate_source, enumerate_count}
-use Rattle.city_doc.specs.inside.script.Told.{bad_scripts, numbered, numbered_view}
+use Rattle.city_doc.specs.internal.script.Told.{bad_scripts, numbered, numbered_view}
 use Rattle.city_doc.proofs.script.numbered.numbered_forms.Given as goal
 
 -- what is found, and then what is left

@@ -5,31 +5,31 @@ use Rattle.city_locks.proofs.table.LockTable.ask.Goals as goal
 
 pub invariant_of-self : goal.invariant_of-self
 invariant_of-self c =
-    let adds : Adds c.self.inside.holders.entries c.take.new.holders.entries c.args.stamp c.args.id.now c.args.mode =
-    record { holders = c.in_ok-take.ensures.ok } in
+    let adds : Adds c.self.inside.holders.entries c.acquire.new.holders.entries c.args.stamp c.args.id.now c.args.mode =
+    record { holders = c.in_ok-acquire.ensures.ok } in
     record {
-      lawful = lawful_added adds c.self.invariant.lawful (sym c.standing_at-there.ensures.answer ∙ c.in-Granted.is);
-      listed = c.take.ensures.listed;
+      lawful = lawful_added adds c.self.invariant.lawful (sym c.request_at-there.ensures.answer ∙ c.in-Granted.is);
+      listed = c.acquire.ensures.listed;
       once = once_added adds c.self.invariant.once;
     }
 
-pub returns-in_ok-take : goal.returns-in_ok-take
-returns-in_ok-take c =
-    let adds : Adds c.self.inside.holders.entries c.take.new.holders.entries c.args.stamp c.args.id.now c.args.mode =
-    record { holders = c.in_ok-take.ensures.ok } in
+pub returns-in_ok-acquire : goal.returns-in_ok-acquire
+returns-in_ok-acquire c =
+    let adds : Adds c.self.inside.holders.entries c.acquire.new.holders.entries c.args.stamp c.args.id.now c.args.mode =
+    record { holders = c.in_ok-acquire.ensures.ok } in
     record {
       answer = search rules;
-      wait_die = wait_die_seen c.self.view_is (c.self.invariant.once c.args.id.now) c.standing_at-there.ensures.answer;
+      wait_die = wait_die_seen c.self.view_is (c.self.invariant.once c.args.id.now) c.request_at-there.ensures.answer;
       granted = λ h. rw (← c.self.view_is) (mode_added adds);
       holders = λ h q. search rules;
       own = rw (← c.self.view_is) (own_added adds);
       refused = λ h. search rules;
       err = tt;
       memory = tt;
-      lawful = lawful_added adds c.self.invariant.lawful (sym c.standing_at-there.ensures.answer ∙ c.in-Granted.is);
+      lawful = lawful_added adds c.self.invariant.lawful (sym c.request_at-there.ensures.answer ∙ c.in-Granted.is);
       once = once_added adds c.self.invariant.once;
     }
 
 pub returns-in_default-clause-wait_die : goal.returns-in_default-clause-wait_die
 returns-in_default-clause-wait_die c =
-    wait_die_seen c.self.view_is (c.self.invariant.once c.args.id.now) c.standing_at-there.ensures.answer
+    wait_die_seen c.self.view_is (c.self.invariant.once c.args.id.now) c.request_at-there.ensures.answer

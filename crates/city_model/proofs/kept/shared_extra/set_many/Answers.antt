@@ -3,7 +3,7 @@ use Rattle.serde_json.specs.Data.{object, put}
 use Rattle.city_model.specs.Attributes.{attributes, attributes_in, put_each, with_set}
 use Rattle.city_model.specs.Kept.{kept_at_object}
 use Rattle.city_model.specs.Members.{AreOrdered}
-use Rattle.city_model.specs.inside.KeptIn.{kept_in, with_own}
+use Rattle.city_model.specs.internal.KeptIn.{kept_in, with_own}
 use Rattle.city_model.proofs.AttributeLaws.{with_set_kept}
 use Rattle.city_model.proofs.KeptIn.{set_own}
 use Rattle.city_model.proofs.MemberLists.{ordered_put}

@@ -2,7 +2,7 @@ use Rattle.city_model.proofs.Prelude.{◌≡◌, ◌∙◌, Some, ap, arc_value,
 use Rattle.city_model.specs.Attributes.{attributes_in, with_attributes, with_unset}
 use Rattle.city_model.specs.Kept.{kept_at_object}
 use Rattle.city_model.specs.Members.{AreOrdered, without_each}
-use Rattle.city_model.specs.inside.KeptIn.{kept_in, with_own}
+use Rattle.city_model.specs.internal.KeptIn.{kept_in, with_own}
 use Rattle.city_model.proofs.AttributeLaws.{with_unset_kept}
 use Rattle.city_model.proofs.KeptIn.{unset_own, ordered_attributes}
 use Rattle.city_model.proofs.kept.shared_extra.unset_many.Goals as goal

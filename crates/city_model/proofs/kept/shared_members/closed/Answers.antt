@@ -1,6 +1,6 @@
 use Rattle.city_model.proofs.Prelude.{◌≡◌, arith, subst, sym}
 use Rattle.city_model.specs.Members.{AreOrdered}
-use Rattle.city_model.specs.inside.MemberLists.{all_joined, joined}
+use Rattle.city_model.specs.internal.MemberLists.{all_joined, joined}
 use Rattle.city_model.proofs.ListPlaces.{all_joined-append}
 use Rattle.city_model.proofs.MemberLists.{joined-none}
 use Rattle.city_model.proofs.kept.shared_members.closed.Goals as goal

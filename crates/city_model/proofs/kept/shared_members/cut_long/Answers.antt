@@ -1,5 +1,5 @@
 use Rattle.city_model.proofs.Prelude.{◌∙◌, ap, arith, drop, suc, take}
-use Rattle.city_model.specs.inside.MemberLists.{all_joined, joined}
+use Rattle.city_model.specs.internal.MemberLists.{all_joined, joined}
 use Rattle.city_model.proofs.ListPlaces.{inserted_before, inserted_behind}
 use Rattle.city_model.proofs.MemberLists.{joined-assoc}
 use Rattle.city_model.proofs.Prelude.{sym}

@@ -1,7 +1,7 @@
 use Rattle.city_model.proofs.Prelude.{◌∙◌, ap, arc_value, subst, sym}
 use Rattle.std.proofs.lemmas.Option.{IfSome_then}
 use Rattle.city_model.specs.Members.{AreOrdered}
-use Rattle.city_model.specs.inside.MemberLists.{reaches}
+use Rattle.city_model.specs.internal.MemberLists.{reaches}
 use Rattle.city_model.proofs.ListPlaces.{below_more, ordered_at, place_last, place_reached}
 use Rattle.city_model.proofs.kept.shared_members.place.Goals as goal
 

@@ -2,7 +2,7 @@ use Rattle.city_model.proofs.Prelude.{◌∙◌, ap, string_bytes}
 use Rattle.serde_json.specs.Data.{member, no_members}
 use Rattle.serde_json.specs.View.{view}
 use Rattle.std.proofs.lemmas.Result.{on_ok_weaker}
-use Rattle.city_model.specs.inside.MemberLists.{all_joined, joined}
+use Rattle.city_model.specs.internal.MemberLists.{all_joined, joined}
 use Rattle.city_model.proofs.MemberLists.{joined-assoc}
 use Rattle.city_model.proofs.kept.shared_members.push_last.Goals as goal
 

@@ -2,7 +2,7 @@ use Rattle.city_model.proofs.Prelude.{◌∙◌, ap, arc_value, drop, subst, suc
 use Rattle.serde_json.specs.Data.{put}
 use Rattle.serde_json.specs.View.{view}
 use Rattle.city_model.specs.Members.{AreOrdered}
-use Rattle.city_model.specs.inside.MemberLists.{all_joined, joined}
+use Rattle.city_model.specs.internal.MemberLists.{all_joined, joined}
 use Rattle.city_model.proofs.ListPlaces.{put_place}
 use Rattle.city_model.proofs.MemberLists.{ordered_put}
 use Rattle.city_model.proofs.kept.shared_members.put_at.Goals as goal

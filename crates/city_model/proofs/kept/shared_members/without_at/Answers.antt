@@ -1,6 +1,6 @@
 use Rattle.city_model.proofs.Prelude.{◌∙◌, ap, arc_value, drop, subst, suc, sym, take}
 use Rattle.city_model.specs.Members.{without, AreOrdered}
-use Rattle.city_model.specs.inside.MemberLists.{all_joined, joined}
+use Rattle.city_model.specs.internal.MemberLists.{all_joined, joined}
 use Rattle.city_model.proofs.ListPlaces.{without_place}
 use Rattle.city_model.proofs.MemberLists.{ordered_without}
 use Rattle.city_model.proofs.kept.shared_members.without_at.Goals as goal

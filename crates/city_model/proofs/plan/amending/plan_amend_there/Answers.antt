@@ -1,6 +1,6 @@
 use Rattle.city_model.proofs.Prelude.{rules}
 use Rattle.city_model.proofs.Planned.{amend_writes}
-use Rattle.city_model.specs.inside.BorrowedAmendments.{amendment_view}
+use Rattle.city_model.specs.internal.BorrowedAmendments.{amendment_view}
 use Rattle.city_model.proofs.plan.amending.plan_amend_there.Goals as goal
 
 pub returns-in_ok-writes-in-Ok : goal.returns-in_ok-writes-in-Ok

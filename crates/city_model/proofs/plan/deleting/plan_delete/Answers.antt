@@ -9,7 +9,7 @@ first_write id = (id, None)
 
 pub returns : goal.returns
 returns g c =
-    let m = g.V.View.map c.args.view.now in
+    let m = g.V.ObjectLookup.map c.args.view.now in
     let none : (length c.in-Some.object.now.children == 0) ≡ true = search rules in
     let first : c.push.new.self ≡ first_write c.args.id.now ∷ [] = search rules in
     delete_writes m c.args.id.now c.in-Some.object.now c.unlink_each.new.writes c.requires.sound (sym c.in-Some.ensures)

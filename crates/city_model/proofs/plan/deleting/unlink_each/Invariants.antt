@@ -4,5 +4,5 @@ use Rattle.city_model.proofs.plan.deleting.unlink_each.Given as goal
 -- what was written, and then what is left
 abbrev pub invariant-loop-parent : goal.invariant-loop-parent
 invariant-loop-parent g l =
-    l.writes ++ map (unlinked (g.V.View.map l.view) l.child) (ids_left l.parent-iterator)
-    ≡ l.initial.writes ++ map (unlinked (g.V.View.map l.view) l.child) (ids_left l.fn.parents)
+    l.writes ++ map (unlinked (g.V.ObjectLookup.map l.view) l.child) (ids_left l.parent-iterator)
+    ≡ l.initial.writes ++ map (unlinked (g.V.ObjectLookup.map l.view) l.child) (ids_left l.fn.parents)

@@ -4,5 +4,5 @@ use Rattle.city_model.proofs.plan.reading.plan_expect.Goals as goal
 
 pub returns : goal.returns
 returns g c =
-    let m = g.V.View.map c.args.view.now in
+    let m = g.V.ObjectLookup.map c.args.view.now in
     search (rules, expect_writes m c.args.id.now c.args.named.now c.in-Some.object.now)

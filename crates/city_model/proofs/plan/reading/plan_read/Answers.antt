@@ -5,7 +5,7 @@ use Rattle.city_model.proofs.plan.reading.plan_read.Goals.{in-None, in-Some+in_o
 
 pub returns : goal.returns
 returns g c =
-    let m = g.V.View.map c.args.view.now in
+    let m = g.V.ObjectLookup.map c.args.view.now in
     elim c.match-look.branch [
       | in-None w ↦ search (rules, read_writes m c.args.id.now None)
       | in-Some+in_ok-copy-in-Some w ↦ search (rules, read_writes m c.args.id.now (Some w.in-Some.object.now))

@@ -4,11 +4,11 @@ use Rattle.city_model.proofs.Planned.{attach_writes}
 use Rattle.city_model.proofs.plan.relating.plan_attach.Goals as goal
 
 pub is_attached-requires : goal.is_attached-requires
-is_attached-requires g c = search (rules, parent_and_child (g.V.View.map c.args.view.now))
+is_attached-requires g c = search (rules, parent_and_child (g.V.ObjectLookup.map c.args.view.now))
 
 pub returns : goal.returns
 returns g c =
-    let m = g.V.View.map c.args.view.now in
+    let m = g.V.ObjectLookup.map c.args.view.now in
     let below = c.in_ok-below.below in
     let above = c.in_ok-above.above in
     let ws = c.in_ok-writes.writes in

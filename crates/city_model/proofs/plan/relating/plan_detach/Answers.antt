@@ -4,7 +4,7 @@ use Rattle.city_model.proofs.Planned.{detach_writes}
 use Rattle.city_model.proofs.plan.relating.plan_detach.Goals as goal
 
 pub is_attached-requires : goal.is_attached-requires
-is_attached-requires g c = search (rules, parent_and_child (g.V.View.map c.args.view.now))
+is_attached-requires g c = search (rules, parent_and_child (g.V.ObjectLookup.map c.args.view.now))
 
 pub without_parent-requires : goal.without_parent-requires
 without_parent-requires g c = (c.requires.sound _ _ (sym c.in-Some.ensures)).0.parents_once
@@ -14,7 +14,7 @@ without_child-requires g c = (c.requires.sound _ _ (sym c.in-Some-look.ensures))
 
 pub returns : goal.returns
 returns g c =
-    let m = g.V.View.map c.args.view.now in
+    let m = g.V.ObjectLookup.map c.args.view.now in
     let below = c.in_ok-below.below in
     let above = c.in_ok-above.above in
     let ws = c.in_ok-writes.writes in

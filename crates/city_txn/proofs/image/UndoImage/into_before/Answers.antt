@@ -1,6 +1,6 @@
 use Rattle.city_txn.proofs.Prelude.{◌≡◌, Option, None, true, false, arith, Object, UndoImage}
 use Rattle.std.proofs.Common.{not}
-use Rattle.city_txn.specs.inside.Images.{before_image}
+use Rattle.city_txn.specs.internal.Images.{before_image}
 use Rattle.city_txn.proofs.image.UndoImage.into_before.Goals as goal
 
 under_a_placeholder : (x : Option Object) (i : UndoImage) → not i.unwritten ≡ false → i.deleted ≡ true

@@ -1,5 +1,5 @@
 use Rattle.city_txn.proofs.Prelude.{◌≡◌, ℕ, List, true, take, write_of, store_written, Touches, plans}
-use Rattle.city_txn.specs.inside.State.{IsReady}
+use Rattle.city_txn.specs.internal.State.{IsReady}
 use Rattle.city_txn.proofs.store.Store.make_ready.Given as goal
 
 abbrev pub invariant-loop-write : goal.invariant-loop-write

@@ -1,6 +1,6 @@
 use Rattle.city_txn.proofs.Prelude.{◌∙◌, ap, refl, arith, State}
 use Rattle.std.proofs.Common.{is_ok}
-use Rattle.city_txn.specs.inside.State.{is_begun}
+use Rattle.city_txn.specs.internal.State.{is_begun}
 use Rattle.city_txn.proofs.AtOneId.{image}
 use Rattle.city_txn.proofs.FirstWrites.{FirstWritten, put_written}
 use Rattle.city_txn.proofs.store.Store.put.Goals.{After-put}

@@ -1,5 +1,5 @@
 use Rattle.city_txn.proofs.Prelude.{◌∙◌, true, false, sym, refl}
-use Rattle.city_txn.specs.inside.Prelude.{Wait, Die}
+use Rattle.city_txn.specs.internal.Prelude.{Wait, Die}
 use Rattle.city_txn.proofs.ActDone.{Call, not_open_acted, asked_failed, asked_refused, may_perform, perform_failed}
 use Rattle.city_txn.proofs.ActDone.{performed}
 use Rattle.city_txn.proofs.txn_core.Core.act.Goals.{After-lock}

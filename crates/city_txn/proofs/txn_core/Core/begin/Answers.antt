@@ -1,5 +1,5 @@
 use Rattle.city_txn.proofs.Prelude.{◌∙◌, arith, ap, sym, is_some, rules, Kept}
-use Rattle.city_txn.specs.inside.Prelude.{write_of}
+use Rattle.city_txn.specs.internal.Prelude.{write_of}
 use Rattle.city_txn.proofs.CoreFields.{Begun, begun, open_is}
 use Rattle.city_txn.proofs.SeenWrites.{by_own}
 use Rattle.city_txn.proofs.txn_core.Core.begin.Goals.{In-Ok}

@@ -1,5 +1,5 @@
 use Rattle.city_txn.proofs.Prelude.{◌∙◌, arith, sym, ap, subst, CoreState, is_open, IsConsistent}
-use Rattle.city_txn.specs.inside.Prelude.{write_of}
+use Rattle.city_txn.specs.internal.Prelude.{write_of}
 use Rattle.city_txn.proofs.CoreFields.{open_is, sound_view, sound_seen, open_only}
 use Rattle.city_txn.proofs.SeenWrites.{by_own}
 use Rattle.city_txn.proofs.txn_core.Core.is_open.Goals as goal

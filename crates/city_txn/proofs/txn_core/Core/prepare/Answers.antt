@@ -1,5 +1,5 @@
 use Rattle.city_txn.proofs.Prelude.{sym, subst, CoreState, snapshot, IsChangeOf, set_by, core_state}
-use Rattle.city_txn.specs.inside.Prelude.{Orphan, IsLeastOrphan, RefusesCommit}
+use Rattle.city_txn.specs.internal.Prelude.{Orphan, IsLeastOrphan, RefusesCommit}
 use Rattle.city_model.proofs.Endings.{commit_refused}
 use Rattle.city_txn.proofs.ChangeMade.{is_change_of, least_of_view}
 use Rattle.city_txn.proofs.CoreFields.{sound_view}

@@ -1,5 +1,5 @@
 use Rattle.city_txn.proofs.Prelude.{subst, CoreState, IsChangeOf, core_state}
-use Rattle.city_txn.specs.inside.Prelude.{change_in}
+use Rattle.city_txn.specs.internal.Prelude.{change_in}
 use Rattle.city_txn.proofs.ChangeMade.{is_change_of, no_orphan_listed}
 use Rattle.city_txn.proofs.CoreFields.{sound_view}
 use Rattle.city_txn.proofs.txn_core.Core.refusal.Goals as goal

@@ -1,5 +1,5 @@
 use Rattle.city_txn.proofs.Prelude.{◌≡◌, length}
-use Rattle.city_txn.specs.inside.Ending.{EndedBut}
+use Rattle.city_txn.specs.internal.Ending.{EndedBut}
 use Rattle.city_txn.proofs.undo.Undo.end_all.Given as goal
 
 abbrev pub invariant-loop-id : goal.invariant-loop-id

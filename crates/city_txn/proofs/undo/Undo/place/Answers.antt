@@ -1,7 +1,7 @@
 use Rattle.city_txn.proofs.Prelude.{arith, ◌≡◌, refl, Some, true, same_id, same_id_itself, object_at, image_at, unwrap_or, Became}
 use Rattle.std.proofs.Common.{is_none}
 use Rattle.city_txn.specs.Placeholder.{placeholder}
-use Rattle.city_txn.specs.inside.FirstWrites.{first_image}
+use Rattle.city_txn.specs.internal.FirstWrites.{first_image}
 use Rattle.city_txn.proofs.FirstWrites.{placed, kept_over}
 use Rattle.city_txn.proofs.undo.Undo.place.Goals as goal
 

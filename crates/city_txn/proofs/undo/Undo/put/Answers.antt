@@ -1,6 +1,6 @@
 use Rattle.city_txn.proofs.Prelude.{◌≡◌, None, arith, object_at, image_at}
 use Rattle.std.proofs.Common.{is_none}
-use Rattle.city_txn.specs.inside.FirstWrites.{image_put}
+use Rattle.city_txn.specs.internal.FirstWrites.{image_put}
 use Rattle.city_txn.proofs.FirstWrites.{first_taken_back}
 use Rattle.city_txn.proofs.undo.Undo.put.Goals as goal
 

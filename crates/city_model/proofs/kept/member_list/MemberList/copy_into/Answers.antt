@@ -1,7 +1,7 @@
 use Rattle.city_model.proofs.Prelude.{◌≡◌, ◌∙◌, [], ap, arith, drop, members_view, rules, subst, sym}
 use Rattle.std.proofs.lemmas.List.{drop_all}
 use Rattle.city_model.specs.Members.{AreOrdered}
-use Rattle.city_model.specs.inside.MemberLists.{entries_view, joined}
+use Rattle.city_model.specs.internal.MemberLists.{entries_view, joined}
 use Rattle.city_model.proofs.MemberLists.{joined-none, next_put}
 use Rattle.city_model.proofs.kept.member_list.MemberList.copy_into.Goals as goal
 

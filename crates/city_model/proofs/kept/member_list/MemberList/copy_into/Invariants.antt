@@ -1,5 +1,5 @@
 use Rattle.city_model.proofs.Prelude.{◌≡◌, drop, members_view}
-use Rattle.city_model.specs.inside.MemberLists.{entries_view, joined}
+use Rattle.city_model.specs.internal.MemberLists.{entries_view, joined}
 use Rattle.city_model.proofs.kept.member_list.MemberList.copy_into.Given as goal
 
 abbrev pub invariant-loop-entry : goal.invariant-loop-entry

@@ -1,7 +1,7 @@
 use Rattle.city_model.proofs.Prelude.{◌≡◌, ◌∙◌, ap, arith, rules, subst, sym, slice_cmp, nat_cmp, not, is_lt}
 use Rattle.city_model.proofs.Prelude.{string_bytes}
 use Rattle.city_model.specs.Members.{AreOrdered}
-use Rattle.city_model.specs.inside.MemberLists.{entries_view, reaches}
+use Rattle.city_model.specs.internal.MemberLists.{entries_view, reaches}
 use Rattle.city_model.proofs.MemberLists.{reaches_last, ge_is}
 use Rattle.city_model.proofs.kept.member_list.MemberList.reaches.Goals as goal
 

@@ -1,7 +1,7 @@
 use Rattle.city_model.proofs.Prelude.{◌≡◌, ◌∙◌, [], ap, arith, drop, rules, sym}
 use Rattle.std.proofs.lemmas.List.{drop_all}
 use Rattle.city_model.specs.Members.{without}
-use Rattle.city_model.specs.inside.MemberLists.{entries_view, joined}
+use Rattle.city_model.specs.internal.MemberLists.{entries_view, joined}
 use Rattle.city_model.proofs.MemberLists.{joined-none}
 use Rattle.city_model.proofs.kept.member_list.MemberList.without.Goals as goal
 

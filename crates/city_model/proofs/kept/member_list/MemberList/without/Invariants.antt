@@ -1,6 +1,6 @@
 use Rattle.city_model.proofs.Prelude.{◌≡◌, drop}
 use Rattle.city_model.specs.Members.{without}
-use Rattle.city_model.specs.inside.MemberLists.{entries_view, joined}
+use Rattle.city_model.specs.internal.MemberLists.{entries_view, joined}
 use Rattle.city_model.proofs.kept.member_list.MemberList.without.Given as goal
 
 abbrev pub invariant-loop-entry : goal.invariant-loop-entry

@@ -1,6 +1,6 @@
 use Rattle.city_model.proofs.Prelude.{◌≡◌, rules, subst, sym, members_view}
 use Rattle.city_model.specs.Members.{AreOrdered}
-use Rattle.city_model.specs.inside.MemberLists.{all_joined, joined}
+use Rattle.city_model.specs.internal.MemberLists.{all_joined, joined}
 use Rattle.city_model.proofs.MemberLists.{joined-none}
 use Rattle.city_model.proofs.kept.shared_members.SharedMembers.from_map.Goals as goal
 

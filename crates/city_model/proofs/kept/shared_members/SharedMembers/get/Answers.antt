@@ -1,6 +1,6 @@
 use Rattle.city_model.proofs.Prelude.{◌∙◌, ap, arc_value, subst}
 use Rattle.serde_json.specs.Find.{get_member}
-use Rattle.city_model.specs.inside.MemberLists.{IsPlace}
+use Rattle.city_model.specs.internal.MemberLists.{IsPlace}
 use Rattle.city_model.proofs.ListPlaces.{get_place}
 use Rattle.city_model.proofs.kept.shared_members.SharedMembers.get.Goals as goal
 

@@ -1,7 +1,7 @@
 use Rattle.city_model.proofs.Prelude.{◌≡◌, ◌∙◌, ◌+◌, [], ap, arith, drop, subst, sym, members_view}
 use Rattle.std.proofs.lemmas.List.{drop_all}
 use Rattle.city_model.specs.Members.{AreOrdered}
-use Rattle.city_model.specs.inside.MemberLists.{all_joined, joined}
+use Rattle.city_model.specs.internal.MemberLists.{all_joined, joined}
 use Rattle.city_model.proofs.ListPlaces.{next_list}
 use Rattle.city_model.proofs.MemberLists.{joined-none, ordered_left}
 use Rattle.city_model.proofs.kept.shared_members.SharedMembers.to_map.Goals as goal

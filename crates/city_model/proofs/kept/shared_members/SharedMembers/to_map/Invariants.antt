@@ -1,5 +1,5 @@
 use Rattle.city_model.proofs.Prelude.{◌≡◌, drop, members_view}
-use Rattle.city_model.specs.inside.MemberLists.{all_joined, joined}
+use Rattle.city_model.specs.internal.MemberLists.{all_joined, joined}
 use Rattle.city_model.proofs.kept.shared_members.SharedMembers.to_map.Given as goal
 
 abbrev pub invariant-loop-list : goal.invariant-loop-list

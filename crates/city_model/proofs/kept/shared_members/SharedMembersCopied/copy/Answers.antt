@@ -1,6 +1,6 @@
 use Rattle.city_model.proofs.Prelude.{◌≡◌, ◌∙◌, rules, subst, sym}
 use Rattle.city_model.specs.Members.{AreOrdered}
-use Rattle.city_model.specs.inside.MemberLists.{all_joined}
+use Rattle.city_model.specs.internal.MemberLists.{all_joined}
 use Rattle.city_model.proofs.ListPlaces.{all_joined-alike}
 use Rattle.city_model.proofs.kept.shared_members.SharedMembersCopied.copy.Goals as goal
 

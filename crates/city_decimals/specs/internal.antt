@@ -1,0 +1,11 @@
+-- What private clauses and proofs speak of, and no public contract.
+pub mod Changes
+pub mod Compact
+pub mod Copies
+pub mod Directions
+pub mod Forms
+pub mod Inner
+pub mod Newlines
+pub mod Objects
+pub mod PlainNumbers
+pub mod Streams

@@ -1,9 +1,0 @@
--- What holds of every lock table.
-use Rattle.city_locks.specs.declared.table.LockTable.TheInside.{Inside}
-use Rattle.city_locks.specs.Locks.{Lawful, HoldOnce}
-use Rattle.city_locks.specs.inside.Listing.{IsListed}
-
-pub record IsTable (a : Inside) : Type 0 where
-  pub lawful : Lawful a.holders.entries
-  pub listed : IsListed a.holders.entries a.locked
-  pub once : HoldOnce a.holders.entries

@@ -1,0 +1,28 @@
+-- Parts of a text that several workers read beforehand, and what they stand for.
+use Rattle.std.specs.Prelude.{◌≡◌, ◌++◌, ◌⊎◌, ℕ, List, [], Option, Some, None}
+use Rattle.json.specs.Token.{Token}
+use Rattle.city_reader.specs.Positions.{tokens_from}
+use Rattle.city_tokens.specs.declared.run.Run.{Run}
+use Rattle.city_tokens.specs.internal.Parts.{AreNext}
+
+-- the parts stand in the text between the two positions
+abbrev pub IsRun : {A : Type 0} → (A → List Token → List Token → Type 0) → List ℕ → Run A → Type 0
+IsRun R text r = AreNext R r.parts.items (tokens_from r.from text) (tokens_from r.to text)
+
+-- the next run was put after the old one, if an answer says so; nothing changed otherwise
+abbrev pub IsAppended : {A : Type 0} → Option (Unit {0}) → Run A → Run A → Run A → Type 0
+IsAppended None old next new =
+    (new.from ≡ old.from) × (new.to ≡ old.to) × (new.parts.items ≡ old.parts.items)
+IsAppended (Some _) old next new =
+    (new.from ≡ old.from) × (old.to ≡ next.from) × (new.to ≡ next.to)
+    × (new.parts.items ≡ old.parts.items ++ next.parts.items)
+
+-- what is left of a run is all of it, or its end
+abbrev pub IsLeft : {A : Type 0} → Run A → Run A → Type 0
+IsLeft old new = (new ≡ old) ⊎ ((new.from ≡ old.to) × (new.to ≡ old.to) × (new.parts.items ≡ []))
+
+-- the parts that were passed are none, or all of a run, which begins where the reader stood
+abbrev pub ArePassed : {A : Type 0} → List ℕ → Run A → List A → List Token → List Token → Type 0
+ArePassed text run more before after =
+    ((more ≡ []) × (after ≡ before))
+    ⊎ ((more ≡ run.parts.items) × (before ≡ tokens_from run.from text) × (after ≡ tokens_from run.to text))

@@ -1,0 +1,39 @@
+-- What was read of a document's top, so far and whole.
+use Rattle.std.specs.Prelude.{◌≡◌, List, Some, codes}
+use Rattle.serde_json.specs.Data.{Data, Members, object}
+use Rattle.serde_json.specs.Find.{get_member}
+use Rattle.serde_json.specs.View.{members_view}
+use Rattle.city_model.specs.CityMap.{CityValue, Entries, object_at}
+use Rattle.city_model.specs.internal.Faultless.{IsFaultless}
+use Rattle.city_model.specs.Members.{without, AreOrdered}
+use Rattle.city_tokens.specs.declared.document.Top.{Top}
+use Rattle.city_tokens.specs.declared.document.TopParts.{TopParts}
+use Rattle.city_tokens.specs.declared.in_pieces.TopInPieces.{TopInPieces}
+use Rattle.city_tokens.specs.declared.vertices.Vertex.{Vertex}
+use Rattle.city_tokens.specs.document.Cities.{city_of}
+use Rattle.city_tokens.specs.internal.Objects.{AreObjects, IsPlacedObject}
+use Rattle.city_tokens.specs.internal.Positions.{IsVertex, points_of}
+use Rattle.city_tokens.specs.internal.Standing.{Pairs, IsArrayOf, IsSlot}
+
+pub record IsTopSoFar (parts : TopParts) (found kept : Members) : Type 0 where
+  pub objects : IsSlot AreObjects parts.objects (get_member (codes "CityObjects") found)
+  pub vertices : IsSlot (IsArrayOf IsVertex) parts.vertices (get_member (codes "vertices") found)
+  pub ordered : AreOrdered found
+  pub extra : kept ≡ without (codes "vertices") (without (codes "CityObjects") found)
+
+-- the objects of a top, with points in the places of their positions
+abbrev pub ArePlaced : TopParts → Entries → Type 0
+ArePlaced parts placed =
+    (vertices : List Vertex) × (listed : Entries) × (parts.vertices ≡ Some vertices) × (parts.objects ≡ Some listed)
+    × Pairs (IsPlacedObject (points_of vertices)) listed placed
+
+-- what is read beforehand stands for nothing of itself
+abbrev pub IsTopInPieces : TopInPieces → Members → Members → Type 0
+IsTopInPieces top found kept = IsTopSoFar top.parts found kept
+
+abbrev pub IsTop : Top → Data → Type 0
+IsTop top d = (found : Members) × (d ≡ object found) × IsTopSoFar top.parts found (members_view top.rest.entries)
+
+-- the city that a document's tree stands for, none of whose bodies has a fault
+abbrev pub IsCity : CityValue → Data → Type 0
+IsCity c d = (city_of d ≡ Some c) × IsFaultless (object_at c.1)
