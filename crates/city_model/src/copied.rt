@@ -1,4 +1,4 @@
-//! Values that can be copied, unless memory runs out.
+//! Fallible copies: memory may run out.
 ghost use Rattle.std.specs.Prelude.{◌≡◌, IfOk};
 
 use crate::OutOfMemory;
@@ -11,7 +11,7 @@ use crate::text::{Id, Text};
 use std::alloc::Global;
 use std::collections::BTreeMap;
 
-/// A value that can be copied.
+/// A value with a fallible copy.
 pub trait Copied {
     fn copy(&self, alloc: Global) -> Result<Self, OutOfMemory>
         ensures { IfOk result (λ c. c ≡ self.now) };

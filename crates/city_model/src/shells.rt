@@ -11,7 +11,7 @@ use crate::object::{Shape, Shell, Solid};
 use crate::shape::Bounds;
 use std::alloc::Global;
 
-/// Whether an item is repeated, where the items are in order.
+/// Whether an item is repeated; the items are in order.
 fn has_repeats<T: Ord>(items: &[T]) -> bool
     requires { IsSorted T.cmp items.now }
     ensures { result ≡ not (list_all (occurs_once (eq_by_cmp T.cmp) items.now) items.now) }
