@@ -162,8 +162,8 @@ fn release(held: &mut BTreeMap<Id, Holders>, stamp: u64, id: &Id)
     }
 }
 
-/// Removes the stamp from the holders of the id. Returns true if the id is in the map, with no holder
-/// left.
+/// Removes the stamp from the holders of the id. Returns true if the id is in the map, with no
+/// holder left.
 fn remove_holder(held: &mut BTreeMap<Id, Holders>, stamp: u64, id: &Id) -> bool
     ensures empty { result ≡ true → holders_of held.new.entries id.now ≡ [] }
     ensures after { (q : List ℕ) → holders_of held.new.entries q ≡ cond (same_id id.now q) (without (holders_of held.old.entries id.now) stamp) (holders_of held.old.entries q) }

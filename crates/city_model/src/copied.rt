@@ -118,7 +118,7 @@ impl<A: Copied + Drop, B: Copied> Copied for (A, B) {
     }
 }
 
-/// A copy of a map from ids. It fails only when out of memory.
+/// A copy of a map from ids. Fails only when out of memory.
 ///
 /// The ids ascend, so the copies go into their map all at once.
 pub fn copy_map<V: Copied + Drop>(

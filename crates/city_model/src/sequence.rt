@@ -29,7 +29,7 @@ impl<T> Sequence<T> {
         }
     }
 
-    /// A list of no items, with room for as many as are named. It fails only when out of memory.
+    /// A list of no items, with room for as many as are named. Fails only when out of memory.
     pub fn with_capacity(alloc: Global, room: usize) -> Result<Self, OutOfMemory>
         ensures { IfOk result (λ s. s ≡ []) }
     {

@@ -29,7 +29,7 @@ impl<T> Model for Shared<T> {
 }
 
 impl<T> Shared<T> {
-    /// The value, for all copies to share. It fails only when out of memory.
+    /// The value, for all copies to share. Fails only when out of memory.
     pub fn new(alloc: Global, value: T) -> Result<Self, OutOfMemory>
     where
         T: Drop,

@@ -115,7 +115,7 @@ impl SharedIds {
         }
     }
 
-    /// The ids but this one, in their order. It fails only when out of memory.
+    /// The ids but this one, in their order. Fails only when out of memory.
     ///
     /// It is looked for as `has` does, and the chunks without it are shared.
     pub fn without(&self, id: &Id) -> Result<SharedIds, OutOfMemory>

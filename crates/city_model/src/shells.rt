@@ -25,7 +25,7 @@ fn has_repeats<T: Ord>(items: &[T]) -> bool
 }
 
 /// Whether each edge of the shell is run once each way. For n edges it takes time in proportion to
-/// n log n. It fails only when out of memory.
+/// n log n. Fails only when out of memory.
 pub fn shell_closed(alloc: Global, shell: &Shell) -> Result<bool, OutOfMemory>
     ensures { IfOk result (λ b. b ≡ is_closed shell.now) }
 {
@@ -36,7 +36,7 @@ pub fn shell_closed(alloc: Global, shell: &Shell) -> Result<bool, OutOfMemory>
     Ok(!has_repeats(up) && up == edges.down.as_slice())
 }
 
-/// Whether a shell of one of the shape's solids isn't closed. It fails only when out of memory.
+/// Whether a shell of one of the shape's solids isn't closed. Fails only when out of memory.
 pub fn has_open_shell(alloc: Global, shape: &Shape) -> Result<bool, OutOfMemory>
     ensures { IfOk result (λ b. b ≡ has_open_shell shape.now) }
 {

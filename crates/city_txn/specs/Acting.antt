@@ -70,9 +70,9 @@ pub record IsAct (stamp : ℕ) (command : Command) (result : Result Step TxnFaul
   -- done if each lock is granted, and else the answer of the first not granted
   pub step : IfOk result (λ step. step ≡ step_of (answer_in old stamp command) reply)
   pub fault : IfErr result (λ fault. fault ≡ (if is_open old stamp then OutOfMemory else NotOpen stamp))
-  -- if the stamp isn't open, this is the answer, and nothing changes
+  -- if the stamp isn't open, the answer is NotOpen, and nothing changes
   pub not_open : is_open old stamp ≡ false → (result ≡ Err (NotOpen stamp)) × (new ≡ old)
-  -- if the locks before are held, being out of memory hides no Wait and no Die
+  -- if it holds the locks before that one, being out of memory hides no Wait and no Die
   pub answered : is_open old stamp ≡ true → answer_in old stamp command ≢ Granted
       → AllHeld (held old stamp) (granted_in old stamp command) → IsOk result
   -- nor does it keep the transaction from going back to a mark of its own
