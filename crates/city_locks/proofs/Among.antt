@@ -1,4 +1,4 @@
--- Among the holders of one id: what a holder added or taken out leaves, and that the holders stay lawful.
+-- Among the holders of one id: their modes after a holder is added or taken out, and that they stay lawful.
 use Rattle.city_locks.proofs.Prelude.{◌≡◌, ◌≢◌, ℕ, ◌==◌, cond, true, false, List, [], ◌∷◌, ◌++◌, take, drop, None, Some}
 use Rattle.city_locks.proofs.Prelude.{refl, arith, ◌+◌, list_any, list_all, Mode, Granted, Holder, stronger}
 use Rattle.city_locks.proofs.Prelude.{in_conflict, gives_way, answer_among, mode_among, with_holder, without}
@@ -15,12 +15,12 @@ pub mode_without : (hs : List Holder) (s t : ℕ) → mode_among (without hs s) 
 mode_without [] s t = grind arith
 mode_without (h ∷ hs) s t = grind (arith, mode_without hs s t)
 
--- a stamp that isn't among them is taken out in vain
+-- without a stamp that isn't among them, they stay
 pub without_absent : (hs : List Holder) (s : ℕ) → mode_among hs s ≡ None → without hs s ≡ hs
 without_absent [] s h = refl
 without_absent (x ∷ xs) s h = grind (arith, without_absent xs s)
 
--- where no other is among them, none is left
+-- if no other is among them, none is left
 pub without_others : (hs : List Holder) (s : ℕ) → ((t : ℕ) → is_some (mode_among hs t) ≡ true → t ≡ s) → without hs s ≡ []
 without_others [] s h = refl
 without_others (x ∷ xs) s h =
@@ -30,7 +30,7 @@ without_others (x ∷ xs) s h =
 pub without_twice : (hs : List Holder) (s : ℕ) → without (without hs s) s ≡ without hs s
 without_twice hs s = grind (arith, without_absent, mode_without)
 
--- a loop that finds the stamp at place i
+-- a loop with the stamp at place i
 pub with_holder_here : (hs : List Holder) (i s : ℕ) (m : Mode) (h : Holder) (d : List Holder) → d ≡ h ∷ drop (i + 1) hs
     → (h.stamp == s) ≡ true →
     take i hs ++ with_holder d s m ≡ with_holder hs s m →
@@ -45,7 +45,7 @@ pub granted_clear : (hs : List Holder) (s : ℕ) (m : Mode) → answer_among hs 
     → list_any (in_conflict s m) hs ≡ false
 granted_clear hs s m h = grind arith
 
--- where no holder is in conflict, another has what goes with the mode asked for
+-- if no holder is in conflict, another has no mode, or both are shared
 none_or_shared : (hs : List Holder) (s : ℕ) (m : Mode) (t : ℕ) → (t == s) ≡ false
     → list_any (in_conflict s m) hs ≡ false
     → (mode_among hs t ≡ None) ⊎ ((mode_among hs t ≡ Some Shared) × (m ≡ Shared))
@@ -62,7 +62,7 @@ lawful_with hs s m l a r t ne x =
 pub lawful_without : (hs : List Holder) (s : ℕ) → LawfulAmong hs → LawfulAmong (without hs s)
 lawful_without hs s l r t ne x = grind (arith, mode_without)
 
--- ---- what the stamp gained changes none of its own answers
+-- ---- the locks gained by a stamp change none of its own answers
 any_with : (s : ℕ) (n : Mode) (hs : List Holder) (m : Mode)
     → list_any (in_conflict s n) (with_holder hs s m) ≡ list_any (in_conflict s n) hs
 any_with s n [] m = grind arith

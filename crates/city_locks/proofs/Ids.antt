@@ -1,4 +1,4 @@
--- What a lookup by an id finds.
+-- Lookups by an id.
 use Rattle.city_locks.proofs.Prelude.{arith, rules, true, ◌≡◌, ℕ, cond, false, List, ◌||◌, ◌+◌, ◌<◌, ◌==◌, length, take}
 use Rattle.city_locks.proofs.Prelude.{get_or, is_at, same_id, has_id, same_id_true, same_id_back}
 use Rattle.std.specs.Ordering.{nat_cmp}
@@ -11,7 +11,7 @@ stamp_apart s t e = grind arith
 pub stamp_here : (s : ℕ) → is_at (nat_cmp s) s ≡ true
 stamp_here s = search rules
 
--- a choice at one id, where it is the old value anyway
+-- a choice at one id, equal to the old value there
 pub same_at_id : {A : Type 0} (f : List ℕ → A) (x : A) (id q : List ℕ) → x ≡ f id → f q ≡ cond (same_id id q) x (f q)
 same_at_id {A} f x id q e = grind (arith, same_id_true id q)
 

@@ -1,4 +1,4 @@
--- Locks asked for in turn: one granted, and those after it.
+-- Locks asked for in turn: one granted, and the locks after it.
 use Rattle.city_locks.proofs.Prelude.{◌≡◌, ◌==◌, ◌&&◌, ℕ, List, [], ◌∷◌, true, None, Some, refl, ap, ◌≢◌, arith, Result}
 use Rattle.city_locks.proofs.Prelude.{Ok, cond, same_id, same_id_true, same_id_itself, same_id_back, Mode, Answer}
 use Rattle.city_locks.proofs.Prelude.{Granted, Wait, Die, stronger, Locks, mode_of, answer_of, Lawful, first_answer}
@@ -11,12 +11,12 @@ use Rattle.std.proofs.lemmas.Result.{IfOk-weaker}
 
 -- ---- the locks of a list
 
--- where all are granted, all are before the first that isn't
+-- if all are granted, all are before the first not granted
 pub all_granted : (hs : Locks) (s : ℕ) (ls : List Lock) → first_answer hs s ls ≡ Granted → granted_before hs s ls ≡ ls
 all_granted hs s [] e = refl
 all_granted hs s (l ∷ ls) e = let rest = all_granted hs s ls in grind arith
 
--- locks that give a stamp the same answers
+-- locks with the same answers to a stamp
 same_asked : (s : ℕ) (hs ks : Locks) (ls : List Lock)
     → ((q : List ℕ) (n : Mode) → answer_of ks s q n ≡ answer_of hs s q n)
     → (first_answer ks s ls ≡ first_answer hs s ls) × (granted_before ks s ls ≡ granted_before hs s ls)
@@ -27,7 +27,7 @@ same_asked s hs ks (l ∷ ls) own = grind arith
 pub gains_nothing : (s : ℕ) (ls : List Lock) (hs : Locks) → GainsFirst s ls hs hs
 gains_nothing s ls hs = grind arith
 
--- ---- who holds a lock that the stamp is refused
+-- ---- the holder of a lock refused to the stamp
 
 pub blocked_weaker : (P Q : ℕ → Type 0) (s : ℕ) → ((t : ℕ) → s ≢ t → P t → Q t) → (a : Answer) → IsBlocked P s a
     → IsBlocked Q s a
@@ -43,9 +43,9 @@ wait_die_blocked hs s id m Die w =
     let found = w.die.0 refl in
     (found.0, found.1.1, (id, ap is_some found.1.0.holds))
 
--- ---- one lock asked for, of which the lock table tells, and then others
+-- ---- one lock asked for, with the promises of the lock table, and then others
 
--- what the lock table ensures of a lock that is granted
+-- the lock table's promise for a granted lock
 pub record Adds (s : ℕ) (id : List ℕ) (m : Mode) (hs ks : Locks) : Type 0 where
   pub modes : (t : ℕ) (q : List ℕ) → mode_of ks t q
       ≡ cond ((s == t) && same_id id q) (Some (stronger m (mode_of hs s id))) (mode_of hs t q)
@@ -98,7 +98,7 @@ module _ {s : ℕ} {id : List ℕ} {m : Mode} {hs ks : Locks} {ls : List Lock} w
       → Asked {E = E} s ((id, m) ∷ ls) (Ok a) hs ks
   asked_refused {E} {a} is refused same w = grind (arith, gains_nothing, wait_die_blocked hs s id m a w)
 
-  -- no memory for it, which would be granted and wasn't held
+  -- no memory for it: it would be granted, and wasn't held
   pub asked_failed : {E : Type 0} {r : Result Answer E} → IsErr r → ks ≡ hs → answer_of hs s id m ≡ Granted
       → mode_of hs s id ≡ None → Asked s ((id, m) ∷ ls) r hs ks
   asked_failed {E} {r} bad same is_granted unheld = grind (arith, gains_nothing)

@@ -1,5 +1,4 @@
--- Each stamp stands once among the holders of an id, so that its mode there says all; and what the answer says of the
--- modes.
+-- Each stamp stands once among the holders of an id, so its mode there says all; and the answer, by the modes.
 use Rattle.city_locks.proofs.Prelude.{◌≡◌, ℕ, ◌<◌, cond, true, false, List, [], ◌∷◌, Some, refl, arith, list_any}
 use Rattle.city_locks.proofs.Prelude.{list_all, Mode, Answer, Granted, Wait, Die, Holder, in_conflict, gives_way}
 use Rattle.city_locks.proofs.Prelude.{mode_among, with_holder, without, Locks, holders_of, answer_of, mode_of}
@@ -41,7 +40,7 @@ all_is p (x ∷ xs) = grind (arith, all_is p xs)
 
 -- ---- the answer, by the stamps in conflict
 
--- what the answer tells, where one test finds a stamp that is in conflict, and another that all of these are younger
+-- wait-die, if one test finds a stamp in conflict, and another that all of these are younger
 told : (P : ℕ → Type 0) (s : ℕ) (any all : Bool) (a : Answer) → a ≡ cond any (cond all Wait Die) Granted
     → (any ≡ true → (t : ℕ) × P t) → ((t : ℕ) → P t → any ≡ true) → (all ≡ false → (t : ℕ) × (P t × (t < s)))
     → (all ≡ true → (t : ℕ) → P t → s < t) → IsWaitDie P s a
@@ -75,7 +74,7 @@ module _ (v : Locks) (id : List ℕ) (s : ℕ) (m : Mode) where
   wait_die a o h =
       told (IsInConflict v s id m) s _ _ a h (conflict_found o) conflict_any (older_found o) younger_all
 
--- the same of a table that is seen as u
+-- the same of a table equal to u
 pub wait_die_seen : {v u : Locks} {id : List ℕ} {s : ℕ} {m : Mode} {a : Answer} → v ≡ u → Once (holders_of v id) →
     a ≡ answer_of v s id m → IsWaitDie (IsInConflict u s id m) s a
 wait_die_seen {v} {u} {id} {s} {m} {a} e o h = rw (← e) (wait_die v id s m a o h)

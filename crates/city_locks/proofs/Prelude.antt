@@ -1,4 +1,4 @@
--- The words that proofs of this crate share, from std, from the libraries and from its own definitions.
+-- The words shared by the proofs of this crate: from std, from the libraries and from its own definitions.
 pub use Rattle.std.proofs.Common.{List, None, Ok, Result, Some, [], ap, arith, cond, drop, false, get_or, length, refl}
 pub use Rattle.std.proofs.Common.{rules, sym, take, true, ℕ, ◌&&◌, ◌++◌, ◌+◌, ◌<◌, ◌==◌, ◌||◌, ◌∙◌, ◌∷◌, ◌≡◌, ◌≢◌}
 pub use Rattle.std.proofs.lemmas.Map.Steps.{set_value_same}

@@ -14,7 +14,7 @@ use Rattle.city_locks.proofs.Once.{once_with, once_without}
 use Rattle.city_model.proofs.IdLists.{more_has, more_has_last}
 use Rattle.city_locks.proofs.Ids.{has_id_more, stamp_apart, stamp_here}
 
--- w has the lock that v lacks
+-- w is v with the lock added
 pub record Adds (v w : Locks) (s : ℕ) (id : List ℕ) (m : Mode) : Type 0 where
   pub holders : (q : List ℕ) → holders_of w q ≡ cond (same_id id q) (with_holder (holders_of v id) s m) (holders_of v q)
 
@@ -34,13 +34,13 @@ module _ {v w : Locks} {s : ℕ} {id : List ℕ} {m : Mode} (h : Adds v w s id m
   pub once_added : HoldOnce v → HoldOnce w
   once_added o q = grind (arith, h.holders q, once_with, same_id_true)
 
-  -- each lock stays listed where the new one is
+  -- if the new lock is listed, each lock stays listed
   pub listed_added : (l : BTreeMap ℕ (List (List ℕ))) → IsListed v l → has_id (ids_of l s) id ≡ true → IsListed w l
   listed_added l i own = record {
     listed = λ t q x. grind (arith, mode_added t q, i.listed t q, same_id_true id q);
   }
 
--- an id listed at its stamp, last: it is there, and what is listed stays so
+-- an id listed at its stamp, last: it is there, and the others stay listed
 pub listed_last : (v : Locks) (l k : BTreeMap ℕ (List (List ℕ))) (s : ℕ) (id : List ℕ) →
     ((t : ℕ) → get nat_cmp k t ≡ (if is_at (nat_cmp s) t then Some (ids_of l s ++ id ∷ []) else get nat_cmp l t))
     → IsListed v l → (has_id (ids_of k s) id ≡ true) × IsListed v k
@@ -68,7 +68,7 @@ module _ {v w : Locks} {s : ℕ} (h : Frees v w s) where
       → ((t : ℕ) → (s == t) ≡ false → ids_of k t ≡ ids_of l t) → IsListed w k
   listed_freed l k i others = record { listed = λ t q x. grind (arith, mode_freed t q, i.listed t q, others t) }
 
--- where all ids of the stamp were in the list, it holds nothing more
+-- if all ids of the stamp were in the list, it holds nothing more
 pub freed_listed : (v w : Locks) (l : BTreeMap ℕ (List (List ℕ))) (s : ℕ) → IsListed v l →
     ((q : List ℕ) → holders_of w q ≡ cond (has_id (ids_of l s) q) (without (holders_of v q) s) (holders_of v q))
     → Frees v w s

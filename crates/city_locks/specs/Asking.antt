@@ -1,4 +1,4 @@
--- Locks asked for in turn, up to the first that isn't granted.
+-- Locks asked for in turn, up to the first not granted.
 use Rattle.std.specs.Prelude.{◌≡◌, ◌⊎◌, ◌==◌, ◌<◌, ℕ, List, [], ◌∷◌, ◌++◌, Bool, true, false, is_some}
 use Rattle.std.specs.Prelude.{Result, IfOk, IsOk, OnOk}
 use Rattle.city_model.specs.declared.mode.Mode.{Mode}
@@ -17,7 +17,7 @@ go_on Granted next = next
 go_on Wait next = Wait
 go_on Die next = Die
 
--- the answer of the first lock that isn't granted, or Granted
+-- the answer of the first lock not granted, or Granted
 abbrev pub first_answer : Locks → ℕ → List Lock → Answer
 first_answer locks stamp [] = Granted
 first_answer locks stamp (l ∷ ls) =
@@ -28,7 +28,7 @@ first_if Granted l ls = l ∷ ls
 first_if Wait l ls = []
 first_if Die l ls = []
 
--- the locks before the first that isn't granted
+-- the locks before the first not granted
 abbrev pub granted_before : Locks → ℕ → List Lock → List Lock
 granted_before locks stamp [] = []
 granted_before locks stamp (l ∷ ls) =
@@ -39,8 +39,8 @@ is_wait Granted = false
 is_wait Wait = true
 is_wait Die = false
 
--- the stamp gained locks that these name, in no stronger mode, and lost none; the others keep theirs, and
--- what the stamp would be answered stays
+-- the stamp gained locks on ids of these, in no stronger mode, and lost none; the others keep theirs, and the answers
+-- to the stamp stay
 pub record MoreLocks (stamp : ℕ) (ls : List Lock) (old new : Locks) : Type 0 where
   pub others : (t : ℕ) (id : List ℕ) → (stamp == t) ≡ false → mode_of new t id ≡ mode_of old t id
   pub more : (id : List ℕ) (mode : Mode) → covers (held_in old stamp id) mode ≡ true
@@ -59,7 +59,7 @@ pub record GainsFirst (stamp : ℕ) (ls : List Lock) (old new : Locks) : Type 0 
   pub held : AllHeld (held_in new stamp) gained
   pub locks : MoreLocks stamp gained old new
 
--- told to wait, the stamp is older than another of which P holds; told to die, it is younger than one
+-- on Wait, the stamp is older than another with P; on Die, it is younger than one
 abbrev pub IsBlocked : (ℕ → Type 0) → ℕ → Answer → Type 0
 IsBlocked P stamp Granted = Unit {0}
 IsBlocked P stamp Wait = (t : ℕ) × (stamp < t) × P t
@@ -68,13 +68,13 @@ IsBlocked P stamp Die = (t : ℕ) × (t < stamp) × P t
 abbrev pub HoldsLock : Locks → ℕ → Type 0
 HoldsLock locks stamp = (id : List ℕ) × (is_some (mode_of locks stamp id) ≡ true)
 
--- The locks asked for in turn: the answer is that of the first that isn't granted, and those before it are
--- gained; if memory runs out, the first few of them.
+-- The locks asked for in turn: the answer is of the first not granted, and the locks before it are gained; if memory
+-- runs out, the first few of them.
 pub record Asked {E : Type 0} (stamp : ℕ) (ls : List Lock) (result : Result Answer E)
     (old new : Locks) : Type 0 where
   pub answer : IfOk result (λ a. a ≡ first_answer old stamp ls)
   pub gains : GainsFirst stamp (granted_before old stamp ls) old new
   pub held : OnOk result (AllHeld (held_in new stamp) (granted_before old stamp ls))
   pub blocked : IfOk result (IsBlocked (HoldsLock old) stamp)
-  -- it allocates only for a lock that the stamp didn't hold
+  -- it allocates only for a lock not yet held by the stamp
   pub answered : AllHeld (held_in old stamp) (granted_before old stamp ls) → IsOk result

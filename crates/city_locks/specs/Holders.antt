@@ -17,7 +17,7 @@ in_conflict stamp mode h = not (h.stamp == stamp) && (is_exclusive mode || is_ex
 abbrev pub gives_way : ℕ → Mode → Holder → Bool
 gives_way stamp mode h = not (in_conflict stamp mode h) || nat_lt stamp h.stamp
 
--- granted where no holder is in conflict, wait where the asker is older than all in conflict, else die
+-- granted if no holder is in conflict, wait if the asker is older than all in conflict, else die
 abbrev pub answer_among : List Holder → ℕ → Mode → Answer
 answer_among holders stamp mode =
     cond (list_any (in_conflict stamp mode) holders)

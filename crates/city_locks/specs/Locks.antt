@@ -1,4 +1,4 @@
--- What contracts see of a lock table: each locked id with its holders, ids in the order of their bytes.
+-- A lock table as contracts see it: each locked id with its holders, ids in byte order.
 use Rattle.std.specs.Prelude.{◌≡◌, ◌≢◌, ℕ, List, [], Option, None, Some, unwrap_or}
 use Rattle.std.specs.Map.{lookup}
 use Rattle.std.specs.Ordering.{nat_cmp}
@@ -21,7 +21,7 @@ holders_of locks id = unwrap_or (lookup (is_at (slice_cmp nat_cmp id)) locks) []
 abbrev pub answer_of : Locks → ℕ → List ℕ → Mode → Answer
 answer_of locks stamp id mode = answer_among (holders_of locks id) stamp mode
 
--- the mode in which the stamp holds the id
+-- the mode of the stamp at the id
 abbrev pub mode_of : Locks → ℕ → List ℕ → Option Mode
 mode_of locks stamp id = mode_among (holders_of locks id) stamp
 

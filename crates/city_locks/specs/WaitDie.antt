@@ -1,4 +1,4 @@
--- The wait-die rule, in terms of the stamps that are in conflict with an asker.
+-- The wait-die rule, by the stamps in conflict with an asker.
 use Rattle.std.specs.Prelude.{◌≡◌, ◌≢◌, ℕ, ◌<◌, ◌↔◌, ◌||◌, true, List, Some}
 use Rattle.city_model.specs.declared.mode.Mode.{Mode}
 use Rattle.city_locks.specs.declared.answer.Answer.{Answer}
@@ -13,11 +13,11 @@ pub record IsInConflict (locks : Locks) (stamp : ℕ) (id : List ℕ) (mode : Mo
   pub holds : mode_of locks t id ≡ Some held
   pub clash : (is_exclusive mode || is_exclusive held) ≡ true
 
--- the answer to the stamp, where `Conflict` says which stamps are in conflict with it
+-- the answer to the stamp, if the stamps in `Conflict` are in conflict with it
 pub record IsWaitDie (Conflict : ℕ → Type 0) (stamp : ℕ) (answer : Answer) : Type 0 where
-  -- granted exactly where no stamp is in conflict
+  -- granted exactly if no stamp is in conflict
   pub granted : (answer ≡ Granted) ↔ ((t : ℕ) → Conflict t → ⊥)
-  -- wait exactly where some stamp is, and the asker is older than all of them
+  -- wait exactly if some stamp is, and the asker is older than all of them
   pub wait : (answer ≡ Wait) ↔ (((t : ℕ) × Conflict t) × ((t : ℕ) → Conflict t → stamp < t))
-  -- die exactly where some stamp in conflict is older than the asker
+  -- die exactly if some stamp in conflict is older than the asker
   pub die : (answer ≡ Die) ↔ ((t : ℕ) × (Conflict t × (t < stamp)))

@@ -1,3 +1,3 @@
--- What only the crate's own clauses and proofs name.
+-- Specs for the crate's own clauses and proofs only.
 pub mod Listing
 pub mod Table

@@ -1,4 +1,4 @@
-//! Locks asked for in turn, up to the first that isn't granted.
+//! Locks asked for in turn, up to the first not granted.
 ghost use Rattle.std.specs.Prelude.{◌≡◌, ◌∷◌};
 ghost use Rattle.city_model.specs.Chunks.{ids_left};
 ghost use Rattle.city_model.specs.Meaning.{exclusively};
@@ -12,8 +12,8 @@ use city_model::mode::Mode;
 use city_model::text::Id;
 
 impl LockTable {
-    /// Asks for the id in the mode, and then for the others exclusively, in their order, up to the first that
-    /// isn't granted. If memory runs out, those that were granted stay granted.
+    /// Asks for the id in the mode, and then for the others exclusively, in their order, up to the
+    /// first lock not granted. If memory runs out, the locks granted so far stay.
     pub fn ask_in_turn(
         &mut self,
         stamp: u64,
@@ -44,7 +44,7 @@ impl LockTable {
         Ok(Answer::Granted)
     }
 
-    /// What `ask_in_turn` would answer, unless memory runs out. Doesn't allocate.
+    /// The answer of `ask_in_turn`, unless memory runs out. Doesn't allocate.
     pub fn would_answer_in_turn(&self, stamp: u64, id: &Id, mode: Mode, others: Ids<'_>) -> Answer
         ensures { result ≡ first_answer self.now stamp ((id.now, mode) ∷ exclusively (ids_left others.entry)) }
     {
@@ -55,7 +55,7 @@ impl LockTable {
         }
     }
 
-    /// What exclusive locks on the ids would be answered, in their order.
+    /// The answer to exclusive locks on the ids, in their order.
     fn would_answer_each(&self, stamp: u64, ids: Ids<'_>) -> Answer
         ensures { result ≡ first_answer self.now stamp (exclusively (ids_left ids.entry)) }
     {

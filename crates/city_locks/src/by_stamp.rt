@@ -9,8 +9,8 @@ use city_model::sequence::Sequence;
 use std::alloc::Global;
 use std::collections::BTreeMap;
 
-/// Adds the item at the end of the stamp's list, which begins with it where the stamp has none. If
-/// memory runs out, the lists stay as they are, and the item is dropped.
+/// Adds the item at the end of the stamp's list, or begins the list with it. If memory runs out,
+/// the lists stay as they are, and the item is dropped.
 pub fn push<T: Drop>(
     lists: &mut BTreeMap<u64, Sequence<T>>,
     alloc: Global,
@@ -32,7 +32,7 @@ pub fn push<T: Drop>(
     }
 }
 
-/// Begins the list of a stamp that has none.
+/// Begins the list of a stamp without one.
 fn begin_with<T: Drop>(
     lists: &mut BTreeMap<u64, Sequence<T>>,
     alloc: Global,
@@ -50,8 +50,8 @@ fn begin_with<T: Drop>(
     Ok(())
 }
 
-/// Adds the item at the end of the list of a stamp that has one. If memory runs out, the lists stay as they are, and
-/// the item comes back.
+/// Adds the item at the end of the stamp's list, which is there. If memory runs out, the lists stay
+/// as they are, and the item comes back.
 pub fn push_at<T: Drop>(
     lists: &mut BTreeMap<u64, Sequence<T>>,
     stamp: u64,

@@ -21,7 +21,7 @@ use std::collections::BTreeMap;
 pub struct LockRequest {
     /// The answer to it.
     pub answer: Answer,
-    /// The mode in which it holds the id.
+    /// Its mode at the id, if it is a holder.
     pub own: Option<Mode>,
     /// Whether the id has holders.
     pub is_held: bool,
@@ -57,7 +57,7 @@ pub fn answer_at(held: &BTreeMap<Id, Holders>, stamp: u64, id: &Id, mode: Mode) 
     }
 }
 
-/// The mode in which the stamp holds the id.
+/// The mode of the stamp at the id, if it is a holder.
 pub fn mode_at(held: &BTreeMap<Id, Holders>, stamp: u64, id: &Id) -> Option<Mode>
     ensures { result ≡ mode_of held.now.entries stamp id.now }
 {
@@ -67,8 +67,8 @@ pub fn mode_at(held: &BTreeMap<Id, Holders>, stamp: u64, id: &Id) -> Option<Mode
     }
 }
 
-/// Makes the stamp a holder of the id, given whether it has holders. If memory runs out, all
-/// holders stay as they are; that happens only if the stamp doesn't hold the id yet.
+/// Makes the stamp a holder of the id; `is_held` says whether the id has holders. If memory runs
+/// out, all holders stay as they are; this happens only if the stamp doesn't hold the id yet.
 pub fn grant(
     held: &mut BTreeMap<Id, Holders>,
     alloc: Global,
@@ -90,7 +90,7 @@ pub fn grant(
     Ok(())
 }
 
-/// Makes the stamp a holder of an id that has holders.
+/// Makes the stamp a holder of an id with holders.
 fn grant_beside(
     held: &mut BTreeMap<Id, Holders>,
     stamp: u64,
@@ -111,7 +111,7 @@ fn grant_beside(
     }
 }
 
-/// Makes the stamp the only holder of an id that has none.
+/// Makes the stamp the only holder of an id without holders.
 fn grant_first(
     held: &mut BTreeMap<Id, Holders>,
     alloc: Global,
@@ -130,8 +130,8 @@ fn grant_first(
     Ok(())
 }
 
-/// Removes the stamp from the holders of all ids, given those that it holds, and whether no other stamp
-/// holds any: then no id is looked up.
+/// Removes the stamp from the holders of all ids. `ids` has at least the ids that it holds. If it
+/// is `alone`, no other stamp holds any, and no id is looked up.
 pub fn release_all(held: &mut BTreeMap<Id, Holders>, stamp: u64, ids: &[Id], alone: bool)
     requires listed { (q : List ℕ) → is_some (mode_of held.old.entries stamp q) ≡ true → has_id ids.now q ≡ true }
     requires alone { alone ≡ true → (t : ℕ) (q : List ℕ) → is_some (mode_of held.old.entries t q) ≡ true → t ≡ stamp }
@@ -162,8 +162,8 @@ fn release(held: &mut BTreeMap<Id, Holders>, stamp: u64, id: &Id)
     }
 }
 
-/// Removes the stamp from the holders of the id, and says whether that leaves
-/// the id without holders.
+/// Removes the stamp from the holders of the id. Returns true if the id is in the map, with no
+/// holder left.
 fn remove_holder(held: &mut BTreeMap<Id, Holders>, stamp: u64, id: &Id) -> bool
     ensures empty { result ≡ true → holders_of held.new.entries id.now ≡ [] }
     ensures after { (q : List ℕ) → holders_of held.new.entries q ≡ cond (same_id id.now q) (without (holders_of held.old.entries id.now) stamp) (holders_of held.old.entries q) }

@@ -9,7 +9,7 @@ use city_model::mode::Mode;
 use std::alloc::Global;
 use std::marker::Model;
 
-/// A stamp that holds an id, and its mode.
+/// A stamp with a lock on an id, and its mode.
 #[derive(Clone, Copy)]
 pub struct Holder {
     pub stamp: u64,
@@ -74,7 +74,7 @@ impl Holders {
         if waits { Answer::Wait } else { Answer::Granted }
     }
 
-    /// The mode in which the stamp holds the id.
+    /// The mode of the stamp, if it is a holder.
     pub fn mode(&self, stamp: u64) -> Option<Mode>
         ensures { result ≡ mode_among self.now stamp }
     {
@@ -86,9 +86,8 @@ impl Holders {
         None
     }
 
-    /// Makes the stamp a holder, in the stronger of the mode and the one that it has. If
-    /// memory runs out, the holders stay as they are; that happens only if the stamp isn't
-    /// one of them yet.
+    /// Makes the stamp a holder, in the stronger of the mode and its own. If memory runs out, the
+    /// holders stay as they are; this happens only if the stamp isn't one of them yet.
     pub fn grant(&mut self, stamp: u64, mode: Mode) -> Result<(), OutOfMemory>
         ensures ok { OnOk result (self.new ≡ with_holder self.old stamp mode) }
         ensures err { OnErr result (self.new ≡ self.old) }
@@ -114,7 +113,7 @@ impl Holders {
     }
 }
 
-/// The stronger of a mode that is asked for and one that is held already.
+/// The stronger of the mode asked for and the mode held.
 fn stronger(mode: Mode, held: Mode) -> Mode
     ensures { result ≡ stronger mode (Some held) }
 {

@@ -1,9 +1,9 @@
-//! The lock table: who holds which id, in which mode, and the wait-die answer to each asker.
+//! The lock table: the holders of each id, their modes, and the wait-die answer to each asker.
 //!
 //! - `table`: the lock table
 //! - `asking`: locks asked for in turn
-//! - `answer`: what is answered
-//! - `holders`, `held`: the holders of one id, those of every id
+//! - `answer`: the answers
+//! - `holders`, `held`: the holders of one id, and of every id
 //! - `by_stamp`: lists by stamps
 #![tactic(auto)]
 

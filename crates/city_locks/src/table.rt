@@ -25,16 +25,15 @@ use std::alloc::Global;
 use std::collections::BTreeMap;
 use std::marker::Model;
 
-/// Who holds which id, in which mode.
+/// The holders of each id, with their modes.
 ///
-/// Contracts see the locked ids, in the order of their bytes, each with its holders.
-/// The ids that each stamp has locked are listed beside them, so that a release goes
-/// straight to the stamp's own locks.
+/// Contracts see the locked ids, in byte order, each with its holders. Beside them the table lists
+/// the ids of each stamp, so that a release goes straight to the stamp's own locks.
 #[derive(Drop)]
 pub struct LockTable {
     alloc: Global,
     holders: BTreeMap<Id, Holders>,
-    /// At each stamp, at least the ids that it holds.
+    /// The ids held by each stamp, and maybe more.
     locked: BTreeMap<u64, Sequence<Id>>,
 }
 
@@ -62,13 +61,13 @@ impl LockTable {
         }
     }
 
-    /// Asks for the id in the mode, and says what came of it.
+    /// Asks for the id in the mode, and returns the answer.
     ///
-    /// The other holders of the id are in conflict where the mode or theirs is exclusive. With none
-    /// in conflict the answer is `Granted`, and the stamp holds the id in the stronger of the mode
-    /// and the one that it had. If the stamp is less than all in conflict the answer is `Wait`, and
-    /// otherwise `Die`; both leave the table as it is. So does `OutOfMemory`, which comes only in
-    /// place of `Granted`, and never if the stamp holds the id already.
+    /// The other holders of the id are in conflict if the mode or theirs is exclusive. With none in
+    /// conflict the answer is `Granted`, and the stamp holds the id in the stronger of the mode and
+    /// its own. If the stamp is less than all in conflict, the answer is `Wait`, and otherwise
+    /// `Die`; both leave the table as it is. So does `OutOfMemory`, which comes only in place of
+    /// `Granted`, and never if the stamp holds the id already.
     pub fn ask(&mut self, stamp: u64, id: &Id, mode: Mode) -> Result<Answer, OutOfMemory>
         ensures answer { IfOk result (λ a. a ≡ answer_of self.old stamp id.now mode) }
         ensures wait_die { IfOk result (IsWaitDie (IsInConflict self.old stamp id.now mode) stamp) }
@@ -98,8 +97,8 @@ impl LockTable {
         Ok(there.answer)
     }
 
-    /// Releases all locks of the stamp, and no others. Doesn't allocate. For a stamp that
-    /// holds nothing, nothing changes.
+    /// Releases all locks of the stamp, and no others. If it has none, nothing changes. Doesn't
+    /// allocate.
     pub fn release_all(&mut self, stamp: u64)
         ensures modes { (t : ℕ) (q : List ℕ) → mode_of self.new t q ≡ cond (stamp == t) None (mode_of self.old t q) }
         ensures holders { (q : List ℕ) → holders_of self.new q ≡ without (holders_of self.old q) stamp }
@@ -109,7 +108,7 @@ impl LockTable {
         release(&mut self.holders, &mut self.locked, stamp);
     }
 
-    /// The mode in which the stamp holds the id, if it does.
+    /// The mode of the stamp at the id, if it is a holder.
     pub fn mode(&self, stamp: u64, id: &Id) -> Option<Mode>
         ensures value { result ≡ mode_of self.now stamp id.now }
         ensures lawful { Lawful self.now }
@@ -118,7 +117,7 @@ impl LockTable {
         held::mode_at(&self.holders, stamp, id)
     }
 
-    /// What `ask` would answer, unless memory runs out. Doesn't allocate.
+    /// The answer of `ask`, unless memory runs out. Doesn't allocate.
     pub fn would_answer(&self, stamp: u64, id: &Id, mode: Mode) -> Answer
         ensures answer { result ≡ answer_of self.now stamp id.now mode }
         ensures wait_die { IsWaitDie (IsInConflict self.now stamp id.now mode) stamp result }
@@ -129,7 +128,7 @@ impl LockTable {
     }
 }
 
-/// Makes the stamp, whose standing is given, a holder of the id, and lists the id at the stamp.
+/// Makes the stamp, whose request is given, a holder of the id, and lists the id at the stamp.
 ///
 /// If memory runs out, all holders stay as they are. The id may then be listed and not held: a
 /// release passes over it.
@@ -181,7 +180,7 @@ fn list_unheld(
     }
 }
 
-/// Removes the stamp from the holders of each id that is listed at it, and drops its list.
+/// Removes the stamp from the holders of each id in its list, and drops the list.
 fn release(
     holders: &mut BTreeMap<Id, Holders>,
     locked: &mut BTreeMap<u64, Sequence<Id>>,

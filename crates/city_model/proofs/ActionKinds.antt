@@ -1,4 +1,4 @@
--- The six kinds of action: which commands have each, and what each leaves.
+-- The six kinds of action: the commands of each, and the map after each.
 use Rattle.city_model.proofs.Prelude.{arith, ◌≡◌, List, ℕ, Bool, true, false, Option, None, Some, refl, Object, Body}
 use Rattle.city_model.proofs.Prelude.{Command, Put, Attach, Mark, Back, Commit, Abort, Cause, Reply, Committed, Aborted}
 use Rattle.city_model.proofs.Prelude.{WentBack, Refused, CityMap, Action, Refuses, Edits, Marks, GoesBack, action}
@@ -12,12 +12,12 @@ use Rattle.city_model.specs.Amendments.{NewBody, Setting, Unsetting, Reshaping}
 use Rattle.city_model.specs.Shells.{geometry_fault}
 use Rattle.city_model.specs.Scripts.{is_mark}
 
--- the map that it leaves, marks aside
+-- the map after it, marks aside
 abbrev pub map_after : CityMap → Action → CityMap
 map_after m (Edits reply ids n) = n
 map_after m a = m
 
--- the reply is to a command that neither ends its script nor is about marks, and isn't refused
+-- the reply of a command other than marks, going back and ends, and no refusal
 abbrev pub is_done_reply : Reply → Bool
 is_done_reply Marked = false
 is_done_reply WentBack = false
@@ -35,7 +35,7 @@ IsKindOf c (GoesBack name) = c ≡ Back name
 IsKindOf c actions.Commits = c ≡ Commit
 IsKindOf c actions.Aborts = c ≡ Abort
 
--- ---- commands that neither end their script nor are about marks
+-- ---- commands other than marks, going back and ends
 
 abbrev is_plain : Action → Bool
 is_plain (Refuses cause) = true

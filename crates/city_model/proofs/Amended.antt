@@ -1,4 +1,4 @@
--- An object that is amended keeps its type and its relations, and stays without fault.
+-- An amended object keeps its type and its relations, and stays without fault.
 use Rattle.city_model.proofs.Prelude.{arith, ◌≡◌, ℕ, List, Option, None, ap, ◌∙◌, Object, Body, Cause, Amendment}
 use Rattle.city_model.proofs.Prelude.{amended, amendment_fault, body_fault}
 use Rattle.city_model.proofs.IdLists.{bool_cases}
@@ -49,7 +49,7 @@ body_faultless id (Unsetting names) body new is given there =
     ap geometry_fault (with_same id body new _ (attributes_in body.extra) is).1 ∙ there
 body_faultless id (Reshaping geometry) body new is given there = grind arith
 
--- what it gives is without fault, and so was the object
+-- the amendment is without fault, and so was the object
 pub amended_faultless : (id : List ℕ) (a : Amendment) (o q : Object) → amended id a o ≡ Ok q
     → amendment_fault a ≡ None → body_fault o.body ≡ None → body_fault q.body ≡ None
 amended_faultless id a o q is given there =

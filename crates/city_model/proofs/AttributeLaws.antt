@@ -1,4 +1,5 @@
--- Members with one put among them, or with some taken out: their order, their numbers, and that they may still be kept.
+-- Members with one put among them, or with some taken out: their order, their numbers, and whether they may still be
+-- kept.
 use Rattle.city_model.proofs.Prelude.{◌≡◌, ℕ, List, [], ◌∷◌, true, false, Option, None, Some, Ordering, Less}
 use Rattle.city_model.proofs.Prelude.{Equal, refl, sym, ap, subst, ◌∙◌, arith, slice_cmp}
 use Rattle.city_model.proofs.Prelude.{codes, no_members, member, same_id}
@@ -17,7 +18,7 @@ use Rattle.city_model.proofs.Ids.{same_id_of_equal}
 use Rattle.city_model.proofs.MemberLists.{above_below, put-above, without-above}
 use Rattle.city_model.proofs.MemberLaws.{members_integral-without, get_member-without}
 
--- ---- a member put where another of its name was taken out
+-- ---- a member put over another one of its name
 
 put_without_at : (o : Ordering) (k l : List ℕ) (d e : Data) (ms : Members) → slice_cmp nat_cmp k l ≡ o
     → AreOrdered (member l e ms) → put k d (without k ms) ≡ put k d ms
@@ -68,12 +69,12 @@ pub attributes_integral : (extra found : Members) → members_integral extra ≡
 attributes_integral extra found h is =
     object_integral (get_member attributes extra) found (λ d there. integral_there attributes extra d h there) is
 
--- ---- what an object keeps
+-- ---- the kept members of an object
 
 whole_of : (extra : Members) → kept_at_object extra ≡ true → members_integral extra ≡ true
 whole_of extra kept = grind arith
 
--- members that differ in `attributes` alone may be kept where their numbers are whole
+-- members different in `attributes` alone may be kept if their numbers are whole
 kept_like : (ms ns : Members) → members_integral ns ≡ true
     → ((name : List ℕ) → same_id name attributes ≡ false → get_member name ns ≡ get_member name ms)
     → kept_at_object ms ≡ true → kept_at_object ns ≡ true
@@ -102,7 +103,7 @@ kept_without extra kept =
     kept_like extra _ (members_integral-without attributes extra (whole_of extra kept))
     (λ name. get_member-without name attributes extra) kept
 
--- what is put back among the members that are left is what is set
+-- putting the filled attributes back among the other members is a set
 pub set_is : (extra named found left filled after : Members) → AreOrdered extra → left ≡ without attributes extra
     → filled ≡ put_each named found → after ≡ put attributes (object filled) left → after ≡ with_set extra named found
 set_is extra named found left filled after ordered rest set done =
@@ -119,7 +120,7 @@ with_left_kept : (extra left : Members) → kept_at_object extra ≡ true → me
 with_left_kept extra no_members kept whole = kept_without extra kept
 with_left_kept extra (member k d left) kept whole = kept_with extra (member k d left) kept whole
 
--- what is put back among the members that are left, if there is any, is what an unset leaves
+-- putting the attributes left, if any, back among the other members is an unset
 left_is : (extra left rest : Members) → AreOrdered extra → rest ≡ without attributes extra
     → (if has_no_member left then rest else put attributes (object left) rest) ≡ with_attributes extra left
 left_is extra no_members rest ordered is = is

@@ -1,4 +1,4 @@
--- A history under locks holds from each other map that agrees where anything is held, marks too.
+-- A history under locks holds from each other map with the same objects at all held ids, marks too.
 use Rattle.city_model.proofs.Prelude.{arith, ◌≡◌, ℕ, List, [], ◌∷◌, Bool, true, false, ap, sym, subst, ◌∙◌, if◌then◌else◌}
 use Rattle.city_model.proofs.Prelude.{length, Option, refl, is_some, Command, Reply, Exclusive, CityMap, has_id, Action}
 use Rattle.city_model.proofs.Prelude.{Refuses, Edits, Marks, GoesBack, action, Effect, Answers, applied, effect}
@@ -18,7 +18,7 @@ use Rattle.city_model.proofs.History.{Next, held_named, held_exclusively, not_na
 use Rattle.city_model.proofs.Ids.{same_id_itself}
 
 module _ (held : Held) (other : CityMap) where
-  -- what is held is carried as it is
+  -- held ids are carried as they are
   abbrev pub IsCarried : CityMap → Type 0
   IsCarried m = (q : List ℕ) → is_some (held q) ≡ true → m q ≡ carried_map held other m q
 
@@ -72,7 +72,7 @@ module _ (held : Held) (other : CityMap) where
       → (if b then x else (if d then y else z)) ≡ (if d then x else z)
   picked b d x y z f g = grind arith
 
-  -- ids that it writes are held exclusively
+  -- the ids of its writes are held exclusively
   taken_is_carried : (m : CityMap) (ids : List (List ℕ)) (a : Action) → WritesAt ids a
       → ((q : List ℕ) → has_id ids q ≡ true → covers (held q) Exclusive ≡ true)
       → ((q : List ℕ) → covers (held q) Exclusive ≡ true → has_id ids q ≡ false → map_after m a q ≡ m q)
@@ -123,7 +123,7 @@ module _ (held : Held) (other : CityMap) where
       is_carried_next =
           rw (answered_next v c reply u answers) (is_carried_left (action v.map c) is_carried_after)
 
-  -- a history under locks holds from the view that is carried, and leads to the carried one
+  -- a history under locks holds from the carried view, and leads to the carried one
   pub history_carried : (v : Snapshot) (ds : List Answered) (w : Snapshot) → IsSoundView v → IsSoundView (carried held other v)
       → IsCarriedView v
       → IsTraceUnderLocks held v ds w → IsTraceUnderLocks held (carried held other v) ds (carried held other w)
@@ -139,8 +139,8 @@ module _ (held : Held) (other : CityMap) where
         )) f.1,
   )
 
--- with its locks held, a history that begins without marks holds from each other sound map that agrees where
--- anything is held
+-- with its locks held, a history from a map without marks holds from each other sound map with the same objects at all
+-- held ids
 pub history_kept : (held : Held) (m other : CityMap) (ds : List Answered) (w : Snapshot) → IsSound m → IsSound other
     → ((q : List ℕ) → is_some (held q) ≡ true → m q ≡ other q)
     → IsTraceUnderLocks held (unmarked m) ds w → IsTraceUnderLocks held (unmarked other) ds (carried held other w)
@@ -151,12 +151,12 @@ history_kept held m other ds w s t agree f =
     subst (λ (k : CityMap). IsTraceUnderLocks held (unmarked k) ds (carried held other w)) same
     (history_carried held other (unmarked m) ds w (s, tt) (subst IsSound (sym same) t, tt) (is, tt) f)
 
--- ---- commands run from two maps that agree on what their locks name do the same
+-- ---- commands do the same from two maps with the same objects at the ids of their locks
 
 covers_right : (x y : Option Mode) (b : Mode) → covers y b ≡ true → covers (stronger_of x y) b ≡ true
 covers_right x y b h = grind arith
 
--- ---- what locks name, taken as held, holds them
+-- ---- the ids of locks, taken as held, hold the locks
 
 all_held : (held : Held) (ls : List Lock) → ((q : List ℕ) → locks_id ls q ≡ true → is_some (held q) ≡ true)
     → ((q : List ℕ) → locks_id_exclusively ls q ≡ true → covers (held q) Exclusive ≡ true) → AllHeld held ls
@@ -169,7 +169,7 @@ named_in ls q = as_named (locks_id_exclusively ls q) (locks_id ls q)
 named_held : (ls : List Lock) → AllHeld (named_in ls) ls
 named_held ls = all_held (named_in ls) ls (λ q h. grind arith) (λ q h. grind arith)
 
--- ---- the commands with what they are answered
+-- ---- the commands with their replies
 
 trace_long : (v : Snapshot) (cs : List Command) (rs : List Reply) (w : Snapshot) → Trace v cs rs w → length cs ≡ length rs
 trace_long v [] [] w f = refl

@@ -1,4 +1,4 @@
--- What a change whose ids ascend makes of a map.
+-- The effect on a map of a change with ascending ids.
 use Rattle.city_model.proofs.Prelude.{arith, ◌≡◌, ℕ, List, [], ◌∷◌, true, false, Option, Some, None, Less, refl}
 use Rattle.city_model.proofs.Prelude.{if◌then◌else◌, nat_cmp, AllByRecursion, slice_cmp, keys_of, ap, ◌∙◌, AreDistinct}
 use Rattle.city_model.proofs.Prelude.{false≢true, Object}
@@ -13,11 +13,11 @@ use Rattle.city_model.proofs.IdLists.{bool_cases, not_both}
 use Rattle.city_model.proofs.Ids.{same_id_true, same_id_back, same_id_itself}
 use Rattle.city_model.proofs.Writing.{same_map}
 
--- each id is below those after it
+-- each id is below the ids after it
 abbrev pub Ascends : Change → Type 0
 Ascends c = IsStrictlySortedBy (slice_cmp nat_cmp) (keys_of c)
 
--- an id that is below others is none of them
+-- an id below others is none of them
 below_is_none : (id : List ℕ) (ids : List (List ℕ)) (q : List ℕ)
     → AllByRecursion (λ k. slice_cmp nat_cmp id k ≡ Less) ids → has_id ids q ≡ true → same_id id q ≡ false
 below_is_none id [] q below h = absurd (false≢true h)
@@ -41,8 +41,8 @@ unwritten : (c : Change) (q : List ℕ) → has_id (keys_of c) q ≡ false → w
 unwritten [] q h = refl
 unwritten (w ∷ ws) q h = grind (arith, unwritten ws q)
 
--- where each id is written once, it makes no difference that `write_in` takes the first pair of an id, and
--- `after_change` the last: at an id the map has what the change writes there, or else what it had
+-- if each id is written once, it makes no difference that `write_in` takes the first pair of an id, and `after_change`
+-- the last: at an id the map has the write, or else its previous object
 pub one_rule : (c : Change) (m : CityMap) (q : List ℕ) → AreDistinct (keys_of c)
     → after_change m c q ≡ unwrap_or (write_in c q) (m q)
 one_rule [] m q once = refl
@@ -57,13 +57,13 @@ pub at_change : (c : Change) (m : CityMap) (q : List ℕ) → Ascends c
     → after_change m c q ≡ unwrap_or (write_in c q) (m q)
 at_change c m q ascends = one_rule c m q (each_once c ascends)
 
--- one more write, in place of what was written at its id
+-- one more write, over an earlier one at its id
 pub written_more : (c d : Change) (id : List ℕ) (w : Option Object) → Ascends c → Ascends d
     → ((q : List ℕ) → write_in d q ≡ (if same_id id q then Some w else write_in c q))
     → (m : CityMap) → after_change m d ≡ changed (after_change m c) id w
 written_more c d id w s t h m = same_map _ _ (λ q. grind (arith, at_change c m q s, at_change d m q t, h q))
 
--- ---- orphans among the objects that it sets
+-- ---- orphans among the objects set by it
 
 abbrev pub first_orphan_in : Change → Option (List ℕ)
 first_orphan_in c = first_that (λ _ object. is_orphan_there object) c

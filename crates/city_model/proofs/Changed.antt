@@ -1,4 +1,4 @@
--- What a changed map holds at an id.
+-- A changed map at an id.
 use Rattle.city_model.proofs.Prelude.{arith, ◌≡◌, ℕ, List, [], ◌∷◌, true, false, Option, None, refl, ap, if◌then◌else◌}
 use Rattle.city_model.proofs.Prelude.{option_map, keys_of, or_parts, Object, Entries, CityMap, found_in, changed}
 use Rattle.city_model.proofs.Prelude.{same_id, has_id, attached, deleted, without_child}

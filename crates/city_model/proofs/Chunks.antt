@@ -1,4 +1,4 @@
--- A list in parts: what stands in it where a part is another one, or is searched.
+-- A list in parts: its items after a part is replaced, and search by parts.
 use Rattle.city_model.proofs.Prelude.{◌≡◌, ℕ, ◌<◌, ◌≤◌, List, [], ◌∷◌, ◌++◌, Bool, true, false, suc, length, get_or}
 use Rattle.city_model.proofs.Prelude.{take, drop, flat_map, refl, sym, append_assoc, arith, Option, None, Some}
 use Rattle.city_model.proofs.Prelude.{arc_value, AllZip, list_any, append-nil, list_any-append, same_id, has_id}
@@ -12,7 +12,7 @@ use Rattle.std.proofs.lemmas.List.{drop_all, set-get_or, set_split}
 use Rattle.city_model.specs.internal.ChunkSearch.{HasIdAt}
 use Rattle.city_model.proofs.IdLists.{without_middle}
 
--- parts that are alike make the same list
+-- equal parts make the same list
 pub alike_parts : {A X : Type 0} (f : X → List A) (xs ys : List X) → AllZip (λ x y. f y ≡ f x) xs ys
     → flat_map f ys ≡ flat_map f xs
 alike_parts f [] [] zip = refl
@@ -28,7 +28,7 @@ pub this_part : {A X : Type 0} (f : X → List A) (xs : List X) (i : ℕ) (d : X
     → flat_map f xs ≡ flat_map f (take i xs) ++ (f (get_or xs i d) ++ flat_map f (drop (suc i) xs))
 this_part f xs i d within = grind (arith, set-get_or xs i d, other_part f xs i (get_or xs i d) within)
 
--- what is in one part is in the list
+-- an item of one part is in the list
 pub in_part : {A X : Type 0} (f : X → List A) (p : A → Bool) (xs : List X) (i : ℕ) (d : X) → i < length xs
     → list_any p (f (get_or xs i d)) ≡ true → list_any p (flat_map f xs) ≡ true
 in_part f p xs i d within h = grind (arith, this_part f xs i d within, list_any-append p)
@@ -50,7 +50,7 @@ found_in_chunk [] id (Some at) some none = absurd (omega (arith, some.within))
 found_in_chunk (c ∷ cs) id (Some at) some none =
     sym (in_part arc_value (same_id id) (c ∷ cs) at c some.within (some.has c))
 
--- an id is taken out of the chunk that has it
+-- an id is taken out of its chunk
 pub without_in_chunk : (chunks : List (Arc (List (List ℕ)) Global)) (id : List ℕ) (at : ℕ)
     (d : Arc (List (List ℕ)) Global) → HasIdAt chunks id at → AreDistinct (flat_map arc_value chunks)
     → flat_map arc_value (take at chunks) ++ (without_id id (arc_value (get_or chunks at d))

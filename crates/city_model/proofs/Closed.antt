@@ -1,4 +1,4 @@
--- A shell is closed where the edges that are run up are each there once, and are the ones that are run down, turned.
+-- A shell is closed if each edge run up is there once, and these edges, turned, are the edges run down.
 use Rattle.city_model.proofs.Prelude.{◌≡◌, ◌≤◌, List, [], ◌∷◌, Bool, true, false, not, map, Ordering, refl, sym, ◌∙◌}
 use Rattle.city_model.proofs.Prelude.{subst, arith, Decides, IsTotalOrder, list_all, IsSorted, IsPermutation, eq_by_cmp}
 use Rattle.city_model.proofs.Prelude.{Point, Edge, flipped, times, occurs_once, rising}
@@ -61,7 +61,7 @@ times-flipped : (q : Edge) (es : List Edge) → times same_edge q (map flipped e
 times-flipped q [] = refl
 times-flipped q (e ∷ es) = grind (arith, times-flipped q es)
 
--- an edge that doesn't rise does so turned
+-- an edge not rising does so turned
 rises_back : (e : Edge) → rises e ≡ false → rises (flipped e) ≡ true
 rises_back e h = grind (arith, point_order_total.antisymm e.0 e.1)
 
@@ -80,8 +80,7 @@ module _ (es : List Edge) where
         × (1 ≤ times same_edge q es → times same_edge q es ≡ 1)
     paired q h = search (arith, up_times, down_times)
 
-    -- where the edges that are run up are each there once, and are the ones that are run down, each is run once each
-    -- way
+    -- if each edge run up is there once, and these edges, turned, are the edges run down, each is run once each way
     closed_from_lists : list_all (runs_both_ways es) es ≡ true
     closed_from_lists = counted_all edge_decides (runs_both_ways es) es (λ q many.
         grind (arith, paired q, paired (flipped q), rises_back q))

@@ -82,7 +82,7 @@ object_sends = search (text_sends, text_syncs, body_sends, body_syncs, values.cr
 pub object_syncs : IsSync Object.the_field.row
 object_syncs = search (text_sends, text_syncs, body_sends, body_syncs, values.crosses, sendable) depth 60 fits 20000
 
--- where a city is a field of another struct
+-- for a city as a field of another struct
 pub city_field_sends : IsSend City.the_field.row
 city_field_sends =
     search (object_sends, maps.crosses, values.crosses, json.crosses, sendable) depth 60 fits 20000

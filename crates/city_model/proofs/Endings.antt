@@ -1,4 +1,4 @@
--- Where the first command that ends a script stands, and what it is answered.
+-- The place of the first ending command of a script, and its reply.
 use Rattle.city_model.proofs.Prelude.{◌≡◌, ℕ, ◌-◌, ◌≤◌, arith, ◌==◌, List, false, refl, Command, Commit, Abort, Orphan}
 use Rattle.city_model.proofs.Prelude.{Committed, Aborted, Refused, Snapshot, effect, IsReply, Does, HasNoOrphan}
 use Rattle.city_model.proofs.Prelude.{IsLeastOrphan, is_end}
@@ -8,7 +8,7 @@ use Rattle.city_model.proofs.GoingOn.{effect_is, answered_no_ending}
 pub zero_rest : (n m k : ℕ) → n ≤ m → k ≡ m - n → (k == 0) ≡ (n == m)
 zero_rest n m k h e = grind (arith, h, e)
 
--- ---- the replies that end a script
+-- ---- the ending replies of a script
 
 not_committed : {X : Type 0} (v : Snapshot) (c : Command) → is_end c ≡ false → IsReply v (effect v c) Committed → X
 not_committed v c on h = let is = effect_is v c on in grind (arith, answered_no_ending v c _ _ is)

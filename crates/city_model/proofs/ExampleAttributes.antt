@@ -1,4 +1,4 @@
--- What add, set, unset, reshape and expect do to a small city.
+-- The effect of add, set, unset, reshape and expect on a small city.
 use Rattle.city_model.proofs.Prelude.{arith, ◌≡◌, refl, ap, inl, codes, List, [], ◌∷◌, ℕ, true, false, Option, Some}
 use Rattle.city_model.proofs.Prelude.{if◌then◌else◌, LandUse, Building, Command, Put, Commit, Mark, Back, Cause, Reply}
 use Rattle.city_model.proofs.Prelude.{Added, WentBack, Outcome, Object, CityMap, found_in, changed, is_orphan, is_orphan_there}
@@ -21,7 +21,7 @@ whole n = number (unsigned n)
 abbrev one : List ℕ → Data → Members
 one name d = member name d no_members
 
--- a land use that keeps these members
+-- a land use with these kept members
 abbrev keeping : Members → Object
 keeping extra =
     record { body = record { kind = LandUse; geometry = []; extra = extra }; parents = []; children = [] }
@@ -50,15 +50,15 @@ numbered_field = field (with (one (codes "n") (whole 1)))
 abbrev bare_field : CityMap
 bare_field = field (alone LandUse)
 
--- whose attributes are a list
+-- with a list as its attributes
 abbrev listed_field : CityMap
 listed_field = field (keeping (one (codes "attributes") (array no_items)))
 
--- a building b that is a cube
+-- a building b, a cube
 abbrev cube_house : CityMap
 cube_house = found_in ((codes "b", house cube) ∷ [])
 
--- what stands at x after the command, by itself in a script
+-- the object at x after the command, by itself in a script
 abbrev left_at_x : CityMap → Command → Option Object
 left_at_x m c = map_left m (c ∷ Commit ∷ []) Outcome.Committed (codes "x")
 
@@ -114,7 +114,7 @@ set_wants_an_object = (refl, (refl, refl))
 pub set_is_taken_back : IsTakenBack numbered_field set_m AttributesSet
 set_is_taken_back = (refl, (refl, (refl, refl)))
 
--- a put that is taken back leaves the set before it
+-- going back over a put leaves the set before it
 abbrev set_then_put : List Command
 set_then_put = set_m ∷ Mark (codes "k") ∷ Put (codes "x") (bare LandUse) ∷ Back (codes "k") ∷ Commit ∷ []
 
@@ -215,7 +215,7 @@ two_sets_are_committed = (
 pub both_sets_are_kept : model_after two_sets bare_field set_by_both (codes "x") ≡ Some (with both)
 both_sets_are_kept = refl
 
--- the second expects what the first has changed
+-- the second expects the value before the first one's set
 abbrev set_then_expect : List Scripted
 set_then_expect =
     (codes "a", Set (codes "x") (one (codes "n") (whole 2)) ∷ Commit ∷ [])

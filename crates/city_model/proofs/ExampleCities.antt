@@ -1,4 +1,4 @@
--- Words for small cities, of which the worked examples speak.
+-- Words for small cities, for the worked examples.
 use Rattle.city_model.proofs.Prelude.{arith, ◌≡◌, ℕ, List, [], ◌∷◌, Bool, true, false, Option, Less, refl, ◌≤◌}
 use Rattle.city_model.proofs.Prelude.{if◌then◌else◌, option_map, slice_get, codes, nat_cmp, slice_cmp, Object, Entries}
 use Rattle.city_model.proofs.Prelude.{CityMap, found_in, changed, same_id, is_orphan, is_orphan_there, HasNoOrphan}
@@ -24,7 +24,7 @@ object kind parents children = record { body = bare kind; parents = parents; chi
 abbrev pub alone : ObjectType → Object
 alone kind = object kind [] []
 
--- a land use whose attributes have this number n
+-- a land use with the number n as its attribute
 abbrev pub numbered : ℕ → Body
 numbered n = record {
   kind = LandUse;
@@ -32,12 +32,12 @@ numbered n = record {
   extra = member (codes "attributes") (Data.object (member (codes "n") (number (unsigned n)) no_members)) no_members;
 }
 
--- the end of a script that commits, which began its last attempt at this place
+-- the end of a committed script, with its last attempt begun at this place
 abbrev pub committed : ℕ → List ℕ → ℕ → List Reply → End
 committed script name since replies =
     record { script = script; name = name; since = since; replies = replies; outcome = Outcome.Committed }
 
--- an end is one that its script has at this map
+-- an end is a result of its script at this map
 pub in_turn : {scripts : List Scripted} {m : CityMap} {place : ℕ} {e : End} {cs : List Command}
     → slice_get scripts e.script ≡ Some (e.name, cs) → e.since ≤ place → IsScriptResult m cs e.replies e.outcome
     → IsEndOf scripts m place e
@@ -74,7 +74,7 @@ pub no_orphan_attached : (m : CityMap) (child parent q : List ℕ)
     → (same_id child q ≡ false → is_orphan_there (m q) ≡ false) → is_orphan_there (attached m child parent q) ≡ false
 no_orphan_attached m child parent q of_child of_parent here = grind arith
 
--- where another object is put
+-- at another id
 pub orphan_apart : (m : CityMap) (id : List ℕ) (w : Option Object) (q : List ℕ) → same_id id q ≡ false
     → is_orphan_there (m q) ≡ false → is_orphan_there (changed m id w q) ≡ false
 orphan_apart m id w q apart h = rw apart h
@@ -85,7 +85,7 @@ pub no_orphan_detached : (m : CityMap) (child parent q : List ℕ)
     → is_orphan_there (detached m child parent q) ≡ false
 no_orphan_detached m child parent q of_child of_parent here = grind arith
 
--- below a child that is detached
+-- below a detached child
 pub no_orphan_detached_below : (m : CityMap) (child parent q : List ℕ) → slice_cmp nat_cmp q child ≡ Less
     → is_orphan_there (option_map (without_child child) (m parent)) ≡ false → is_orphan_there (m q) ≡ false
     → is_orphan_there (detached m child parent q) ≡ false

@@ -1,4 +1,4 @@
--- What single commands are refused by, and what scripts leave of a small city.
+-- The refusals of single commands, and a small city after scripts.
 use Rattle.city_model.proofs.Prelude.{arith, ◌≡◌, inl, refl, codes, Building, BuildingPart, Bridge, LandUse, Road}
 use Rattle.city_model.proofs.Prelude.{Command, Put, Delete, Attach, Detach, Commit, Abort, Read, Mark, Back, Cause}
 use Rattle.city_model.proofs.Prelude.{Orphan, NoMark, Added, Deleted, Attached, Detached, WentBack, Refused, Outcome}
@@ -49,7 +49,7 @@ nothing_to_delete = (refl, (refl, refl))
 pub no_such_parent : IsRefusedBy (Attach (codes "p") (codes "z")) (NoObject (codes "z"))
 no_such_parent = (refl, (refl, refl))
 
--- a part that loses its only parent is an orphan at the end
+-- a part without its only parent is an orphan at the end
 abbrev detach_only : List Command
 detach_only = Detach (codes "p") (codes "b") ∷ Commit ∷ []
 
@@ -89,7 +89,7 @@ attached_part_is_committed =
     let none : HasNoOrphan left = search (arith, no_orphan, no_orphan_attached, orphan_apart, alone, no_orphan_at) in
     (refl, refl, (refl, refl, (inl (refl, none), refl)))
 
--- ---- a script that gives up
+-- ---- a script with an abort
 
 abbrev meadow : Entries
 meadow = (codes "x", alone LandUse) ∷ []
@@ -105,7 +105,7 @@ abort_answers_as_if_it_stayed = (refl, refl, (refl, refl, (refl, refl, (refl, re
 pub abort_leaves_the_map : map_left (found_in meadow) give_up Outcome.Aborted ≡ found_in meadow
 abort_leaves_the_map = refl
 
--- ---- scripts that mark and go back over a small city: what they reply, and what they leave
+-- ---- marks and going back in scripts over a small city: the replies, and the city after them
 
 -- the meadow's object with this number
 abbrev with_number : ℕ → Object
@@ -114,7 +114,7 @@ with_number n = record { body = numbered n; parents = []; children = [] }
 abbrev put_number : ℕ → Command
 put_number n = Put (codes "x") (numbered n)
 
--- ---- going back takes back what was written since
+-- ---- going back undoes the writes since the mark
 
 abbrev goes_back : List Command
 goes_back = Mark (codes "m") ∷ put_number 1 ∷ Back (codes "m") ∷ Commit ∷ []
@@ -181,7 +181,7 @@ pub no_mark_is_a_refusal : (m : CityMap)
     → Does (unmarked m) (Back (codes "m")) (Refused (NoMark (codes "m"))) (unmarked m)
 no_mark_is_a_refusal m = (refl, refl)
 
--- ---- an object that was deleted and put again is the first one after going back
+-- ---- an object deleted and put again is the first one after going back
 
 abbrev puts_again : List Command
 puts_again =

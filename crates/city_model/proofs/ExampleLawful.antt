@@ -1,4 +1,4 @@
--- Cities that are lawful, and cities whose relations break a rule.
+-- Lawful cities, and cities with a broken rule in their relations.
 use Rattle.city_model.proofs.Prelude.{arith, ◌≡◌, refl, sym, codes, false≢true, Building, BuildingPart, Bridge, Command}
 use Rattle.city_model.proofs.Prelude.{Put, Attach, Commit, Added, Attached, Outcome, Entries, CityMap, found_in}
 use Rattle.city_model.proofs.Prelude.{changed, attached, is_orphan_there, IsSound, IsLawful, IsScriptResult, map_left}
@@ -15,7 +15,7 @@ no_objects = []
 pub empty_city_is_lawful : IsLawful (found_in no_objects)
 empty_city_is_lawful = (λ id o is. cc, λ id o is. cc)
 
--- a building with a part, which has a room
+-- a building with a part, and a room in the part
 abbrev builds : List Command
 builds =
     Put (codes "b") (bare Building)

@@ -1,5 +1,5 @@
--- Scripts run one after another over small cities: what they reply, and what they leave. First a part with two parents,
--- detached from one of them and then deleted.
+-- Scripts run one after another over small cities: their replies, and the cities after them. First a part with two
+-- parents, detached from one of them and then deleted.
 use Rattle.city_model.proofs.Prelude.{◌≡◌, take, inl, refl, arith, codes, Building, BuildingPart, Road, Put, Delete}
 use Rattle.city_model.proofs.Prelude.{Attach, Detach, Commit, Read, Added, Deleted, Attached, Detached, End, Entries}
 use Rattle.city_model.proofs.Prelude.{CityMap, found_in, changed, has_id, attached, detached, Scripted, model_after}
@@ -128,7 +128,7 @@ both_parts =
 both_parts_no_orphan : (q : List ℕ) → is_orphan_there (both_parts q) ≡ false
 both_parts_no_orphan q = search (arith, no_orphan_attached, orphan_apart, alone, no_orphan_at)
 
--- these ends are those of the scripts, run one at a time
+-- these are the ends of the scripts, run one at a time
 pub attach_then_delete_fits : IsSerialHistory delete_and_attach (found_in two_buildings) attach_then_delete
 attach_then_delete_fits = (
   in_turn refl (omega arith) (refl, refl, (refl, refl, (inl (refl, no_orphan both_parts both_parts_no_orphan), refl))),
@@ -172,7 +172,7 @@ pub no_other_object_comes : (id : List ℕ) → has_id (codes "b1" ∷ codes "b2
 no_other_object_comes id h =
     search (arith, or_parts, at_absent, update_other, alone, same_id_back, attached_apart, deleted_apart)
 
--- ---- an object that is read twice, and put by another script after it
+-- ---- an object read twice, and put by another script after it
 
 abbrev no_objects : Entries
 no_objects = []

@@ -92,11 +92,11 @@ repeated_first_point_is_the_same_twice = refl
 pub one_triangle_is_an_open_shell : body_fault (body_of (solid ((triangle ∷ []) ∷ []) ∷ [])) ≡ Some OpenShell
 one_triangle_is_an_open_shell = refl
 
--- a triangle that no shell has is no fault
+-- a triangle outside of a shell is no fault
 pub one_triangle_is_a_surface : body_fault (body_of (flat triangle ∷ [])) ≡ None
 one_triangle_is_a_surface = refl
 
--- of the faults of two geometries the first in the causes' order counts, and not that of the first geometry
+-- of the faults of two geometries the first in the causes' order counts, not the fault of the first geometry
 pub short_ring_comes_before_an_open_shell : body_fault (body_of (solid ((triangle ∷ []) ∷ []) ∷ flat two_points ∷ []))
     ≡ Some ShortRing
 short_ring_comes_before_an_open_shell = refl

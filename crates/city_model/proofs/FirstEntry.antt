@@ -1,4 +1,4 @@
--- The first entry that passes a test, of entries in byte order, is the one with the least id.
+-- The first passing entry, of entries in byte order, is the one with the least id.
 use Rattle.city_model.proofs.Prelude.{arith, ◌≡◌, ℕ, Bool, true, false, cond, List, [], ◌∷◌, Option, Some, None, Less}
 use Rattle.city_model.proofs.Prelude.{refl, ◌∙◌, nat_cmp, AllByRecursion, list_all, slice_cmp, entries, is_at, keys_of}
 use Rattle.city_model.proofs.Prelude.{lookup, and_from, nat_list_cmp_total, lookup-none, Object, Objects, Entries}
@@ -16,11 +16,11 @@ abbrev pub first_that : {X : Type 0} → Test X → List (List ℕ × X) → Opt
 first_that test [] = None
 first_that test (e ∷ es) = cond (test e.0 e.1) (Some e.0) (first_that test es)
 
--- what stands at this id passes the test
+-- the object at this id passes the test
 abbrev pub Passes : {X : Type 0} → Test X → (List ℕ → Option X) → List ℕ → Type 0
 Passes {X} test m id = (x : X) × (m id ≡ Some x) × (test id x ≡ true)
 
--- what stands at an id of the entries
+-- the object at an id of the entries
 abbrev at : {X : Type 0} → List (List ℕ × X) → List ℕ → Option X
 at es id = lookup (is_at (slice_cmp nat_cmp id)) es
 
@@ -41,7 +41,7 @@ module _ {X : Type 0} where
 
   -- ---- the least
 
-  -- an id that is found is above an id that is below them all
+  -- an id found is above each id below them all
   found_above : (test : Test X) (es : List (List ℕ × X)) (first id : List ℕ)
       → AllByRecursion (λ k. slice_cmp nat_cmp first k ≡ Less) (keys_of es) → first_that test es ≡ Some id
       → slice_cmp nat_cmp first id ≡ Less

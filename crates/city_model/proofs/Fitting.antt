@@ -1,4 +1,4 @@
--- One more end after those that fit.
+-- One more end after ends in serial order.
 use Rattle.city_model.proofs.Prelude.{list_any-append, ◌≡◌, ℕ, ◌+◌, false, ◌||◌, List, [], ◌∷◌, ◌++◌, length, refl, sym}
 use Rattle.city_model.proofs.Prelude.{subst, arith, ◌==◌, or_parts, End, CityMap, Scripted, left_by, model_after}
 use Rattle.city_model.proofs.Prelude.{IsEndOf, IsSerialHistoryFrom}
@@ -18,7 +18,7 @@ place_moved : (scripts : List Scripted) (m : CityMap) (p q : ℕ) (e : End) → 
     → IsEndOf scripts m q e
 place_moved scripts m p q e same is = subst (λ k. IsEndOf scripts m k e) same is
 
--- an end of a script that hasn't ended yet goes last
+-- an end of a script without one goes last
 pub fits_more : (scripts : List Scripted) (es : List End) (e : End) (m : CityMap) (p : ℕ)
     → IsSerialHistoryFrom scripts m p es → has_end e.script es ≡ false
     → IsEndOf scripts (model_after scripts m es) (p + length es) e → IsSerialHistoryFrom scripts m p (es ++ e ∷ [])

@@ -1,4 +1,4 @@
--- A command reads and writes only what it locks.
+-- A command reads and writes only locked ids.
 use Rattle.city_model.proofs.Prelude.{arith, ◌≡◌, ℕ, List, [], ◌∷◌, true, false, refl, sym, ap, ◌∙◌, Reply, Command}
 use Rattle.city_model.proofs.Prelude.{CityMap, Action, Edits, action, has_id, applied, left, step, answer, locks_of}
 use Rattle.city_model.proofs.Prelude.{IsSound, unmarked, is_end, Lock, locks_id, locks_id_exclusively, AgreeOn}
@@ -14,7 +14,7 @@ pub exclusive_is_named : (ls : List Lock) (id : List ℕ) → locks_id_exclusive
 exclusive_is_named [] id h = h
 exclusive_is_named (l ∷ ls) id h = grind (arith, exclusive_is_named ls id)
 
--- ---- what isn't locked exclusively stays
+-- ---- ids not locked exclusively stay
 
 left_beside : (m n : CityMap) (a : Action) (ids : List (List ℕ)) (q : List ℕ) → WritesAt ids a → has_id ids q ≡ false
     → map_after n (taken_to n a) q ≡ n q
@@ -26,14 +26,14 @@ frame m c q s h =
     ap (λ (a : Action). map_after m a q) (framed m m c s (λ id k. refl))
     ∙ left_beside m m (action m c) (exclusive_ids (locks_of m c)) q (writes_locked m c) h
 
--- what an edit doesn't write stays
+-- an id not written by an edit stays
 pub unwritten_stays : (m : CityMap) (c : Command) (reply : Reply) (ids : List (List ℕ)) (n : CityMap) (q : List ℕ)
     → IsSound m → action m c ≡ Edits reply ids n → has_id ids q ≡ false → n q ≡ m q
 unwritten_stays m c reply ids n q s is h =
     ap (λ (a : Action). map_after m a q) (sym is)
     ∙ frame m c q s (ap (λ js. has_id js q) (edits_locked m c reply ids n is) ∙ h)
 
--- ---- two maps that agree where the first one's locks name an id
+-- ---- two maps with the same objects at the ids of the first one's locks
 
 pub same_locks : (m n : CityMap) (c : Command) → AgreeOn (locks_of m c) m n → locks_of m c ≡ locks_of n c
 same_locks m n c a = grind (arith, same_id_itself)
@@ -42,7 +42,7 @@ left_there : (m n : CityMap) (a : Action) (ids : List (List ℕ)) (q : List ℕ)
     → m q ≡ n q → map_after m a q ≡ map_after n (taken_to n a) q
 left_there m n a ids q w h e = grind arith
 
--- what is locked exclusively becomes the same
+-- an id locked exclusively becomes the same
 pub same_after : (m n : CityMap) (c : Command) (q : List ℕ) → IsSound n → AgreeOn (locks_of m c) m n
     → locks_id_exclusively (locks_of m c) q ≡ true → map_after m (action m c) q ≡ map_after n (action n c) q
 same_after m n c q t a h =

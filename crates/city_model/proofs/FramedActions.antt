@@ -1,4 +1,4 @@
--- A command's action at another map that agrees where its locks name an id: the same, with the same written.
+-- A command's action at another map with the same objects at the ids of its locks: the same, with the same writes.
 use Rattle.city_model.proofs.Prelude.{arith, ◌≡◌, ℕ, List, [], ◌∷◌, Bool, true, false, Option, None, Some, refl, ap}
 use Rattle.city_model.proofs.Prelude.{sym, subst, ◌==◌, length, if◌then◌else◌, option_map, Object, Body, Command, Put}
 use Rattle.city_model.proofs.Prelude.{Read, Delete, Attach, Detach, Reply, Deleted, Attached, Detached, Cause}
@@ -20,7 +20,7 @@ use Rattle.city_model.proofs.Ids.{same_id_itself, same_id_back}
 use Rattle.city_model.proofs.IdLists.{bool_cases, without_absent}
 use Rattle.city_model.proofs.Soundness.{sound_agrees}
 
--- the action at another map: at its ids it leaves the same, and elsewhere what is there
+-- the action at another map: the same result at its ids, and that map elsewhere
 abbrev pub taken_to : CityMap → Action → Action
 taken_to n (Edits reply ids k) = Edits reply ids (λ q. if has_id ids q then k q else n q)
 taken_to n a = a
@@ -78,7 +78,7 @@ locked_ids_of (x ∷ xs) = grind (arith, locked_ids_of xs)
 childless : (id : List ℕ) (w : Option Object) → has_id (children_of w) id ≡ false → option_map (without_child id) w ≡ w
 childless id w h = grind (arith, without_absent)
 
--- of the object o, which has no children
+-- of the object o, without children
 deleted_taken : (m n : CityMap) (id : List ℕ) (o : Object) (q : List ℕ) → n id ≡ Some o → IsSound n
     → ((p : List ℕ) → has_id (id ∷ o.parents) p ≡ true → m p ≡ n p)
     → deleted n id q ≡ (if has_id (id ∷ o.parents) q then deleted m id q else n q)
@@ -131,7 +131,8 @@ first_agrees : (m n : CityMap) (id : List ℕ) (mode : Mode) (ls : List Lock) �
     → m id ≡ n id
 first_agrees m n id mode ls a = a id (grind (arith, same_id_itself id))
 
--- where the maps agree on what the command locks at the first, its action at the second, a sound one, is the same
+-- if the maps have the same at the ids of the command's locks at the first, its action at the second, a sound one, is
+-- the same
 pub framed : (m n : CityMap) (c : Command) → IsSound n → AgreeOn (locks_of m c) m n
     → action n c ≡ taken_to n (action m c)
 framed m n (Read id) t a = grind (arith, first_agrees m n id Shared [] a)
@@ -157,9 +158,9 @@ framed m n (Detach child parent) t a =
     rw (← both.0, ← both.1) (detach_taken m n child parent (m child) (m parent) both.0 both.1)
 framed m n c t a = refl
 
--- ---- the ids that an action writes
+-- ---- the ids written by an action
 
--- where it edits, these are its ids
+-- if it edits, these are its ids
 abbrev pub WritesAt : List (List ℕ) → Action → Type 0
 WritesAt ids (Edits reply js n) = ids ≡ js
 WritesAt ids a = Unit {0}
@@ -231,7 +232,7 @@ writes_locked m (Attach child parent) = at_attach m child parent (m child) (m pa
 writes_locked m (Detach child parent) = at_detach m child parent (m child) (m parent)
 writes_locked m c = tt
 
--- an edit writes just the ids that its command locks exclusively
+-- an edit writes just the ids locked exclusively by its command
 pub edits_locked : (m : CityMap) (c : Command) (reply : Reply) (ids : List (List ℕ)) (n : CityMap)
     → action m c ≡ Edits reply ids n → exclusive_ids (locks_of m c) ≡ ids
 edits_locked m c reply ids n is = subst (WritesAt (exclusive_ids (locks_of m c))) is (writes_locked m c)

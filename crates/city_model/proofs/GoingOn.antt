@@ -1,4 +1,4 @@
--- A command that doesn't end its script is answered, and goes on.
+-- A command other than an end of its script is answered, and goes on.
 use Rattle.city_model.proofs.Prelude.{arith, ◌≡◌, Bool, true, false, Command, Reply, Committed, Aborted, Snapshot, Action}
 use Rattle.city_model.proofs.Prelude.{Effect, Answers, applied, effect, action, answer, left, step, GoesOn, is_end}
 use Rattle.city_model.specs.Meaning.{reply_of}
@@ -8,7 +8,7 @@ pub goes_on_case : {X : Type 0} (P : Reply → Snapshot → Type 0) (e : Effect)
     → ((reply : Reply) (u : Snapshot) → e ≡ Answers reply u → P reply u → X) → GoesOn e P → X
 goes_on_case P e f g = grind arith
 
--- what holds then of the reply and of what is seen gives something else of them
+-- from one property of the reply and the snapshot after it to another
 pub goes_on_to : (P Q : Reply → Snapshot → Type 0) (e : Effect)
     → ((reply : Reply) (u : Snapshot) → e ≡ Answers reply u → P reply u → Q reply u) → GoesOn e P → GoesOn e Q
 goes_on_to P Q e f g = grind arith
@@ -22,7 +22,7 @@ answered_next v c reply u is = grind arith
 
 -- ---- an action of the command
 
--- a reply that ends a script
+-- the ending replies of a script
 abbrev pub is_ending : Reply → Bool
 is_ending Committed = true
 is_ending Aborted = true
@@ -39,7 +39,7 @@ applied_no_end v c a reply u k is = grind arith
 pub effect_is : (v : Snapshot) (c : Command) → is_end c ≡ false → effect v c ≡ Answers (answer v c) (step v c)
 effect_is v c on = applied_goes_on v c (action v.map c) (kind_of v.map c) on
 
--- a command that is answered doesn't end its script
+-- an answered command doesn't end its script
 pub answered_no_end : (v : Snapshot) (c : Command) (reply : Reply) (u : Snapshot) → effect v c ≡ Answers reply u
     → is_end c ≡ false
 answered_no_end v c reply u is = (applied_no_end v c (action v.map c) reply u (kind_of v.map c) is).0

@@ -1,4 +1,4 @@
--- The commands of an open script over a view, what they hold, and one more of them.
+-- The commands of an open script over a view, their locks, and one more of them.
 use Rattle.city_model.proofs.Prelude.{arith, ◌≡◌, ℕ, List, [], ◌∷◌, ◌++◌, true, false, sym, subst, is_some, false≢true}
 use Rattle.city_model.proofs.Prelude.{Command, Reply, Mode, Exclusive, Answers, effect, locks_of, Snapshot, IsSoundView}
 use Rattle.city_model.proofs.Prelude.{Held, Lock, covers, AllHeld, Answered, IsTraceUnderLocks, locks_id}
@@ -7,13 +7,13 @@ use Rattle.city_model.proofs.Ids.{same_id_true}
 use Rattle.city_model.proofs.GoingOn.{goes_on_case, goes_on_to}
 use Rattle.city_model.proofs.MarksKept.{sound_effect}
 
--- what is named is held
+-- an id of the locks is held
 pub held_named : (held : Held) (ls : List Lock) (q : List ℕ) → AllHeld held ls → locks_id ls q ≡ true
     → is_some (held q) ≡ true
 held_named held [] q a h = absurd (false≢true h)
 held_named held (l ∷ ls) q a h = grind (arith, same_id_true q l.0, held_named held ls q a.1)
 
--- what is named exclusively is held so
+-- an id of the exclusive locks is held so
 pub held_exclusively : (held : Held) (ls : List Lock) (q : List ℕ) → AllHeld held ls → locks_id_exclusively ls q ≡ true
     → covers (held q) Exclusive ≡ true
 held_exclusively held [] q a h = absurd (false≢true h)
@@ -32,7 +32,7 @@ pub more_held : (held more : Held) (ls : List Lock) → HoldsMore held more → 
 more_held held more [] h a = tt
 more_held held more (l ∷ ls) h a = (h l.0 l.1 a.0, more_held held more ls h a.1)
 
--- what stands after a command that was answered so
+-- after a command with this reply
 abbrev pub Next : Held → Reply → List Answered → Snapshot → Reply → Snapshot → Type 0
 Next held r ds w reply u = (reply ≡ r) × IsTraceUnderLocks held u ds w
 
@@ -59,7 +59,7 @@ pub follows_same : (held more : Held) (v other : Snapshot) (ds : List Answered) 
     → v ≡ other → w ≡ k → IsTraceUnderLocks held v ds w → IsTraceUnderLocks more other ds k
 follows_same held more v other ds w k h e g f = search (arith, follows_held)
 
--- where a history leads is sound
+-- a history leads to a sound view
 pub follows_sound : (held : Held) (v : Snapshot) (ds : List Answered) (w : Snapshot) → IsSoundView v
     → IsTraceUnderLocks held v ds w → IsSoundView w
 follows_sound held v [] w s f = subst IsSoundView (sym f) s

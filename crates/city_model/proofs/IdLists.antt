@@ -1,4 +1,4 @@
--- Lists of ids: what is in them, with one taken out or one put last.
+-- Lists of ids, with one taken out or one put last: the ids in them.
 use Rattle.city_model.proofs.Prelude.{arith, ◌≡◌, ℕ, List, [], ◌∷◌, ◌++◌, Bool, true, false, ◌||◌, refl, ap, sym, ◌∙◌}
 use Rattle.city_model.proofs.Prelude.{◌<◌, length, get_or, Ordering, Less, Equal, false≢true, or_parts, and_parts}
 use Rattle.city_model.proofs.Prelude.{and_from, filter-append, list_any-append, same_id, has_id, without_id}
@@ -50,7 +50,7 @@ later_distinct : (xs ys : List (List ℕ)) → AreDistinct (xs ++ ys) → AreDis
 later_distinct [] ys d = d
 later_distinct (x ∷ xs) ys d = later_distinct xs ys d.1
 
--- an id is taken out of the part that has it, and the others stay
+-- an id is taken out of its part, and the others stay
 pub without_middle : (id : List ℕ) (before part after : List (List ℕ)) → AreDistinct (before ++ (part ++ after))
     → has_id part id ≡ true → without_id id (before ++ (part ++ after)) ≡ before ++ (without_id id part ++ after)
 without_middle id before part after d h =
@@ -82,12 +82,12 @@ pub distinct_more : (ids : List (List ℕ)) (id : List ℕ) → AreDistinct ids 
 distinct_more [] id d h = (refl, tt)
 distinct_more (x ∷ xs) id d h = grind (arith, list_any-append, same_id_back, distinct_more xs id)
 
--- ---- lists of ids in byte order: none recurs, and what a binary search finds is there
+-- ---- lists of ids in byte order: none recurs, and an id found by a binary search is there
 
 is_less : (o : Ordering) → is_lt o ≡ true → o ≡ Less
 is_less o h = grind arith
 
--- an id that the first one is above isn't among them
+-- an id below the first one isn't among them
 not_above : (id last : List ℕ) (ids : List (List ℕ)) → slice_cmp nat_cmp id last ≡ Less
     → are_increasing_from last ids ≡ true → has_id (last ∷ ids) id ≡ false
 not_above id last [] less h = or_from (same_id id last) false (ap is_eq less) refl
@@ -103,7 +103,7 @@ distinct_from id (x ∷ xs) h = grind (arith, and_parts, and_from, not_from_fals
 pub increasing_distinct : (ids : List (List ℕ)) → are_increasing ids ≡ true → are_distinct ids ≡ true
 increasing_distinct ids h = search (arith, distinct_from)
 
--- ---- what is found
+-- ---- ids found
 
 pub found_there : (ids : List (List ℕ)) (id : List ℕ) (i : ℕ) → i < length ids
     → HoldsAt (λ y. slice_cmp nat_cmp y id ≡ Equal) ids i → has_id ids id ≡ true

@@ -18,7 +18,7 @@ same_id_back id q = (eq_by_cmp_equiv nat_list_cmp_total).symm id q
 pub same_id_of_equal : (id q : List ℕ) → id ≡ q → same_id id q ≡ true
 same_id_of_equal id q e = ap (same_id id) (sym e) ∙ same_id_itself id
 
--- an id that another one is below is another one
+-- two ids, one below the other, are different
 pub below_is_apart : (q id : List ℕ) → slice_cmp nat_cmp q id ≡ Less → same_id id q ≡ false
 below_is_apart q id h = same_id_back id q ∙ ap is_eq h
 

@@ -1,11 +1,11 @@
--- What some surface or some shell of a shape has, asked of what bounds it.
+-- A test of some surface or some shell of a shape, on its boundaries.
 use Rattle.city_model.proofs.Prelude.{arith, ◌≡◌, List, [], ◌∷◌, Bool, refl, ap, ◌∙◌, list_any, list_any-append, Shape}
 use Rattle.city_model.proofs.Prelude.{Surface}
 use Rattle.std.specs.Prelude.{◌||◌}
 use Rattle.city_model.specs.Shells.{joined, surfaces_of}
 use Rattle.city_model.specs.internal.BorrowedBounds.{Boundaries, Surfaces, Shells, Solids, boundaries_of}
 
--- some item of the lists passes the test exactly where some list has one that does
+-- some item of the joined lists passes the test exactly if some item of some list does
 list_any-joined : {T : Type 0} (p : T → Bool) (xss : List (List T))
     → list_any p (joined xss) ≡ list_any (list_any p) xss
 list_any-joined p [] = refl

@@ -1,4 +1,4 @@
--- Members put and taken out where one of the name is there, or none.
+-- Members put and taken out, over one of the name or without one.
 use Rattle.city_model.proofs.Prelude.{◌≡◌, ℕ, List, true, Option, None, Some, Ordering, Less, Equal, arith}
 use Rattle.city_model.proofs.Prelude.{refl, sym, ap, ◌∙◌, slice_cmp, nat_cmp, no_members, member}
 use Rattle.city_model.proofs.Prelude.{nat_list_cmp_total}
@@ -70,7 +70,7 @@ pub put_there : (k : List ℕ) (d : Data) (ms : Members) → AreOrdered ms → g
 put_there k d no_members h there = absurd (grind (arith, there))
 put_there k d (member l f ms) h there = put_there_at _ k d l f ms refl h there (put_there k d ms h.1)
 
--- a member that was taken out is put back
+-- a member taken out is put back
 pub put_back : (k : List ℕ) (d : Data) (ms : Members) → AreOrdered ms → get_member k ms ≡ Some d
     → put k d (without k ms) ≡ ms
 put_back k d ms h there = put-without k d ms h ∙ put_there k d ms h there
@@ -86,7 +86,7 @@ without_absent k (member l f ms) none = grind (arith, without_absent k ms)
 pub attributes_own : (ms found : Members) → attributes_in (with_own ms (Some found)) ≡ Some found
 attributes_own ms found = ap members_or_none (get_member-put attributes (object found) ms)
 
--- what is set in the attributes is set in the members
+-- a set in the attributes is a set in the members
 pub set_own : (ms : Members) (own : Option Members) (named found : Members)
     → with_own ms (Some (put_each named found)) ≡ with_set (with_own ms own) named found
 set_own ms None named found = refl

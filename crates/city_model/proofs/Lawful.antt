@@ -1,4 +1,4 @@
--- What a script leaves of a sound map is sound, and of a lawful map lawful.
+-- The map after a script: sound after a sound one, and lawful after a lawful one.
 use Rattle.city_model.proofs.Prelude.{◌≡◌, ◌<◌, ℕ, suc, ◌+◌, List, [], ◌∷◌, length, take, true, false, refl, sym, subst}
 use Rattle.city_model.proofs.Prelude.{arith, false≢true, Command, Reply, End, Outcome, CityMap, Snapshot, unmarked}
 use Rattle.city_model.proofs.Prelude.{IsSoundView, Effect, Answers, GoesOn, effect, is_refusal, HasNoOrphan, IsSound, IsLawful}
@@ -47,7 +47,7 @@ sound_at_end : (v : Snapshot) (cs : List Command) → IsSoundView v → IsSoundV
 sound_at_end v [] s = s
 sound_at_end v (c ∷ cs) s = sound_to v _ _ s (λ reply u is. sound_at_end u cs (sound_effect v c reply u is s))
 
--- how it ends after a command that was answered so
+-- its end after a command with this reply
 abbrev pub EndsFurther : Reply → ℕ → List Command → List Reply → Outcome → Reply → Snapshot → Type 0
 EndsFurther r i cs rs outcome reply u = (reply ≡ r) × (is_refusal reply ≡ false) × EndsFrom u (i + 1) cs rs outcome
 
@@ -63,7 +63,7 @@ no_orphan_from v i (c ∷ cs) [] h = grind (arith, committed_at v c v h)
 no_orphan_from v i (c ∷ cs) (r ∷ rs) h =
     no_orphan_to v (effect v c) r i cs rs (λ u. no_orphan_from u (i + 1) cs rs) h
 
--- a script that commits leaves a lawful map of a sound one
+-- a committed script leaves a lawful map of a sound one
 pub lawful_when_committed : (m : CityMap) (cs : List Command) (rs : List Reply) → IsSound m
     → IsScriptResult m cs rs Outcome.Committed → IsLawful (map_left m cs Outcome.Committed)
 lawful_when_committed m cs rs s h = ((sound_at_end (unmarked m) cs (s, tt)).0, no_orphan_from (unmarked m) 0 cs rs h)

@@ -1,4 +1,4 @@
--- The tests on relations say what the definitions say.
+-- The tests on relations mean the same as the definitions.
 use Rattle.city_model.proofs.Prelude.{arith, ◌≡◌, ℕ, Bool, true, false, List, ◌∷◌, Option, Some, None, ap, [], ◌||◌}
 use Rattle.city_model.proofs.Prelude.{refl, length, is_some, ◌==◌, list_all, entries, false≢true, and_parts, Object}
 use Rattle.city_model.proofs.Prelude.{Objects, Entries, CityMap, object_at, same_id, has_id, children_of, IsLawful}
@@ -101,7 +101,7 @@ faultless_by objects all id o there = grind (arith, all_in has_no_fault objects 
 pub faultless_all : (objects : Objects) → IsFaultless (object_at objects) → all_faultless (entries objects) ≡ true
 faultless_all objects f = in_all has_no_fault objects (λ id o there. ap is_none (f id o there))
 
--- an entry whose body has a fault, among those that are left
+-- an entry with a fault in its body, among the entries left
 pub faulty_entry : (all left : Entries) (e : List ℕ × Object) (rest : Entries) → all_faultless all ≡ all_faultless left
     → left ≡ e ∷ rest → is_some (body_fault e.1.body) ≡ true → all_faultless all ≡ true → false ≡ true
 faulty_entry all left e rest answer left_is some whole = grind arith

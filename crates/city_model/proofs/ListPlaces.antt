@@ -1,4 +1,4 @@
--- Several lists of members one behind the other: the list that is the place of a name, and others in its place.
+-- Several lists of members one behind the other: the list at a name's place, and other lists put there.
 use Rattle.city_model.proofs.Prelude.{◌≡◌, ℕ, ◌<◌, ◌≤◌, ◌+◌, List, [], ◌∷◌, ◌++◌, true, false, suc, length, get_or}
 use Rattle.city_model.proofs.Prelude.{take, drop, refl, sym, ap, ◌∙◌, arith, no_members, AllZip, arc_value, subst}
 use Rattle.std.proofs.Common.{Global, zero, add-one}
@@ -49,7 +49,7 @@ ordered_at lists at c within h =
     ordered_left (arc_value (get_or lists at c)) (all_joined (drop (suc at) lists))
     (ordered_right (all_joined (take at lists)) _ whole)
 
--- a list that reaches the name, where those before it don't, is its place
+-- the first list to reach the name is its place
 pub place_reached : (lists : List (Arc Members Global)) (name : List ℕ) (at : ℕ) (c : Arc Members Global)
     → at < length lists → AreOrdered (all_joined lists) → AllBelow (all_joined (take at lists)) name
     → reaches (arc_value (get_or lists at c)) name ≡ true → IsPlace lists name at
@@ -89,7 +89,7 @@ below_taken (suc n) (l ∷ lists) name h =
     below_joined (arc_value l) _ name (below_first (arc_value l) (all_joined lists) name h)
     (below_taken n lists name (below_second (arc_value l) (all_joined lists) name h))
 
--- where all lists are below the name, the last one is its place
+-- if all lists are below the name, the last one is its place
 pub place_last : (lists : List (Arc Members Global)) (name : List ℕ) (at n : ℕ) → length lists ≤ n
     → AllBelow (all_joined (take n lists)) name → suc at ≡ length lists → IsPlace lists name at
 place_last lists name at n over below is = record {
@@ -145,7 +145,7 @@ module _ (lists : List (Arc Members Global)) (name : List ℕ) (at : ℕ) (c : A
       sym (get_member-joined_above name list behind here.above)
       ∙ sym (get_member-joined_below name before (joined list behind) here.below) ∙ ap (get_member name) (sym whole)
 
--- the next list of those that are left
+-- the next list of the rest
 pub next_list : (lists : List (Arc Members Global)) (i : ℕ) (c : Arc Members Global) (ms : Members) → i < length lists
     → c ≡ get_or lists i c
     → joined ms (all_joined (drop i lists)) ≡ joined (joined ms (arc_value c)) (all_joined (drop (i + 1) lists))

@@ -1,4 +1,4 @@
--- A map from ids that is made of a list has the pairs of the list as if they were put in one after another.
+-- A map from ids, made of a list, has the pairs of the list as if they were put in one after another.
 use Rattle.city_model.proofs.Prelude.{arith, ◌≡◌, ℕ, List, [], ◌∷◌, Option, Some, None, Ordering, cond, refl, sym, ap}
 use Rattle.city_model.proofs.Prelude.{◌∙◌, T, IsStrictlySortedBy, keys_of, eq_by_cmp_equiv, slice_cmp, find, is_sorted}
 use Rattle.city_model.proofs.Prelude.{eq_by_cmp, nat_list_cmp_total, IsDistinct-from_sorted, exact_bytes}
@@ -40,7 +40,7 @@ module _ {X : Type 0} where
       ∙ ap (λ f. update_all (eq_by_cmp cmp) f xs q) (λ i p. (find-put cmp nat_list_cmp_total p x.0 x.1 es
       ∙ ap (λ b. cond b (Some x.1) (find cmp p es)) (same_id_back p x.0)) i)
 
-  -- the entries of the map are the sorted ones in which each id is found as in the list
+  -- the entries of the map are the sorted ones with the same find as the list
   entries_made : (xs es : List (List ℕ × X)) (m : BTreeMap (List ℕ) X) → IsFromIterResult cmp xs m
       → T (is_sorted cmp es) → ((q : List ℕ) → find cmp q es ≡ update_all (eq_by_cmp cmp) (λ p. None) xs q)
       → m.entries ≡ es
@@ -58,7 +58,7 @@ module _ {X : Type 0} where
       entries_made es es m h (in_order cmp es ascend)
       (λ q. grind (arith, find_is_lookup cmp q es, kept q (IsDistinct-from_sorted cmp (keys_of es) ascend)))
 
--- what `collect` makes of sorted entries
+-- the map collected from sorted entries
 pub collected : {S X E : Type 0} {steps : S → Option (List ℕ × X) → S → Type 0} {s : S} (es : List (List ℕ × X))
     (m : BTreeMap (List ℕ) X) (r : Result (BTreeMap (List ℕ) X) E) → r ≡ Ok m
     → IfOk r (λ v. (xs : List (List ℕ × X)) × DrainsIf steps ⊤ s xs × IsFromIterResult cmp xs v)

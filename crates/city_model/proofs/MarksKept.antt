@@ -1,4 +1,4 @@
--- What marks keep: each map sound, and what was seen when they were made.
+-- The maps of marks: each is sound, and is the map of the mark's time.
 use Rattle.city_model.proofs.Prelude.{arith, ◌≡◌, ℕ, List, [], ◌∷◌, ◌++◌, false, map, refl, ap, ◌∙◌, if◌then◌else◌}
 use Rattle.city_model.proofs.Prelude.{Command, Reply, Mark, Back, NoMark, WentBack, Refused, CityMap, Action, action}
 use Rattle.city_model.proofs.Prelude.{Refuses, Edits, Marks, GoesBack, same_id, Marked, Snapshot, marks_from, IsSoundView}
@@ -32,14 +32,14 @@ sound_applied v a s t = grind arith
 pub sound_step : (v : Snapshot) (c : Command) → IsSoundView v → IsSoundView (step v c)
 sound_step v c s = sound_applied v (action v.map c) s (sound_after v.map c s.0)
 
--- each command that is answered keeps the map and every mark's map sound
+-- each answered command keeps the map and every mark's map sound
 pub sound_effect : (v : Snapshot) (c : Command) (reply : Reply) (u : Snapshot) → effect v c ≡ Answers reply u → IsSoundView v
     → IsSoundView u
 sound_effect v c reply u is s = rw (answered_next v c reply u is) (sound_step v c s)
 
 -- ---- going back
 
--- marks of which each is changed the same way
+-- marks, each changed the same way
 pub from_mapped : {X Y : Type 0} (f : X → Y) (name : List ℕ) (ks : List (List ℕ × X))
     → marks_from name (map (λ k. (k.0, f k.1)) ks) ≡ map (λ k. (k.0, f k.1)) (marks_from name ks)
 from_mapped f name [] = refl
@@ -56,7 +56,7 @@ pub newer_dropped : (name : List ℕ) (newer : List Marked) (m : CityMap) (older
 newer_dropped name [] m older h = ap (λ b. if b then (name, m) ∷ older else marks_from name older) (same_id_itself name)
 newer_dropped name (k ∷ ks) m older h = grind (arith, newer_dropped name ks m older h.1)
 
--- going back gives the mark's map, and keeps the mark and those before it
+-- going back gives the mark's map, and keeps the mark and the marks before it
 pub went_back : (v : Snapshot) (name : List ℕ) (newer : List Marked) (m : CityMap) (older : List Marked)
     → HasNone name newer → v.marks ≡ newer ++ (name, m) ∷ older
     → effect v (Back name) ≡ Answers WentBack (record { map = m; marks = (name, m) ∷ older })
@@ -71,7 +71,7 @@ none_from : (name : List ℕ) (ks : List Marked) → HasNone name ks → marks_f
 none_from name [] h = refl
 none_from name (k ∷ ks) h = grind (arith, none_from name ks)
 
--- where there is no mark of the name, going back is refused
+-- without a mark of the name, going back is refused
 pub not_gone_back : (v : Snapshot) (name : List ℕ) → HasNone name v.marks
     → effect v (Back name) ≡ Answers (Refused (NoMark name)) v
 not_gone_back v name h = grind (arith, none_from name v.marks h)

@@ -35,7 +35,7 @@ module _ (name : List ℕ) where
   abbrev is_named : String Global → Bool
   is_named k = same_id name (string_bytes k)
 
-  -- where no member has the name, nothing is taken out
+  -- if no member has the name, nothing is taken out
   without_none : (es : List Entry) → NonePasses is_named es → without name (members_view es) ≡ members_view es
   without_none [] none = refl
   without_none (e ∷ es) none = grind (arith, without_none es)
@@ -45,7 +45,7 @@ module _ (name : List ℕ) where
   taken [] none = refl
   taken (e ∷ es) none = grind (arith, taken es, without_none)
 
-  -- an entry was taken out after which none has the name
+  -- an entry was taken out, and no other has the name
   pub members_view-remove_entry : (es : List Entry)
       → lookup (is_at (λ k. slice_cmp nat_cmp name (string_bytes k)))
       (remove_entry (is_at (λ k. slice_cmp nat_cmp name (string_bytes k))) es) ≡ None
@@ -53,9 +53,9 @@ module _ (name : List ℕ) where
       ≡ without name (members_view es)
   members_view-remove_entry es none = taken es (none_passes_from_lookup is_named (remove_entry is_named es) none)
 
--- ---- looking up what is left
+-- ---- lookup after taking out
 
--- what was taken out isn't there
+-- the member taken out isn't there
 pub get_member-without_same : (name : List ℕ) (ms : Members) → get_member name (without name ms) ≡ None
 get_member-without_same name no_members = refl
 get_member-without_same name (member k d ms) = grind (arith, get_member-without_same name ms)
@@ -69,7 +69,7 @@ get_member-without name other (member k d ms) apart =
 
 -- ---- whole numbers
 
--- what is left has no number that isn't whole either
+-- the others' numbers stay whole
 pub members_integral-without : (name : List ℕ) (ms : Members) → members_integral ms ≡ true
     → members_integral (without name ms) ≡ true
 members_integral-without name no_members h = refl

@@ -1,4 +1,4 @@
--- Lists of members one behind the other: what is found, put and taken out where one of them reaches a name.
+-- Lists of members one behind the other: finding, putting and taking out a name at the list that reaches it.
 use Rattle.city_model.proofs.Prelude.{◌≡◌, ℕ, ◌<◌, ◌==◌, ◌-◌, ◌+◌, cond, List, [], ◌∷◌, ◌++◌, Bool, true, false, length, get_or}
 use Rattle.city_model.proofs.Prelude.{take, drop, refl, sym, ap, ◌∙◌, arith, None, Ordering, Less, Equal}
 use Rattle.city_model.proofs.Prelude.{no_members, member, slice_cmp, nat_cmp, is_lt, nat_list_cmp_total, same_id}
@@ -63,7 +63,7 @@ pub ordered_right : (ms ns : Members) → AreOrdered (joined ms ns) → AreOrder
 ordered_right no_members ns h = h
 ordered_right (member k d ms) ns h = ordered_right ms ns h.1
 
--- those before a later one are below it
+-- the members before a later one are below it
 pub below_later : (ms : Members) (k : List ℕ) (d : Data) (ns : Members) → AreOrdered (joined ms (member k d ns))
     → AllBelow ms k
 below_later no_members k d ns h = tt
@@ -81,7 +81,7 @@ pub below_second : (ms ns : Members) (k : List ℕ) → AllBelow (joined ms ns) 
 below_second no_members ns k h = h
 below_second (member l d ms) ns k h = below_second ms ns k h.1
 
--- ---- a name that isn't reached, and one that is
+-- ---- names not reached, and names reached
 
 is_less : (o : Ordering) → is_lt o ≡ true → o ≡ Less
 is_less o h = grind arith
@@ -90,7 +90,7 @@ pub not_reached : (ms : Members) (k : List ℕ) → reaches ms k ≡ false → A
 not_reached no_members k h = tt
 not_reached (member l d ms) k h = (grind (arith, is_less), not_reached ms k (grind arith))
 
--- what isn't below k, and is below another, has that one above k
+-- if l isn't below k, and is below i, then k is below i
 above_at : (o : Ordering) (k l i : List ℕ) → slice_cmp nat_cmp l k ≡ o → is_lt o ≡ false
     → slice_cmp nat_cmp l i ≡ Less → slice_cmp nat_cmp k i ≡ Less
 above_at Less k l i is not_less h = grind arith
@@ -223,7 +223,7 @@ put_last k d no_members ns h = refl
 put_last k d (member l e ms) ns h =
     rw (turned l k (above_right l ms (member k d ns) h.0).0) (ap (member l e) (put_last k d ms ns h.1))
 
--- the next entry is put behind those before it
+-- the next entry is put behind the others
 pub next_put : (es : Entries) (i : ℕ) (e : Arc (String Global × Value) Global) (old new : Members) → i < length es
     → e ≡ get_or es i e → AreOrdered (joined old (entries_view (drop i es)))
     → new ≡ put (string_bytes (arc_value e).0) (view (arc_value e).1) old
@@ -239,7 +239,7 @@ next_put es i e old new within is ordered done =
 
 -- ---- the last name says whether a name is reached
 
--- what a name below the last one isn't below, the last one isn't below either
+-- if k isn't below the name, nor is l, above k
 kept_reached : (name k l : List ℕ) → slice_cmp nat_cmp k l ≡ Less → is_lt (slice_cmp nat_cmp k name) ≡ false
     → is_lt (slice_cmp nat_cmp l name) ≡ false
 kept_reached name k l below not_less = at (slice_cmp nat_cmp l name) refl

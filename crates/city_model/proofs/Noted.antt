@@ -1,14 +1,14 @@
--- Edges as they are noted: a list of those that are run up, and a list of those that are run down, turned up.
+-- Edges as noted: a list of the edges run up, and a list of the edges run down, turned up.
 use Rattle.city_model.proofs.Prelude.{◌≡◌, ℕ, suc, ◌+◌, ◌<◌, List, [], ◌∷◌, ◌++◌, map, length, get_or, drop, drop-cons}
 use Rattle.city_model.proofs.Prelude.{subst, arith, append_assoc, zip, filter-append, Point, Edge, flipped, rising}
 use Rattle.std.proofs.lemmas.List.{map-append}
 
--- the lists become what they were with the edges es, once those that are left are noted after what is there now
+-- the lists, once the edges left are noted too, are the old lists with the edges es
 pub record Noted (up-was down-was es up down left : List Edge) : Type 0 where
   pub up_is : up-was ++ rising es ≡ up ++ rising left
   pub down_is : down-was ++ rising (map flipped es) ≡ down ++ rising (map flipped left)
 
--- the first of what is left goes to the end of what is there
+-- the first edges of the rest go to the end of the list
 moved : (up some left new : List Edge) → new ≡ up ++ rising some → up ++ rising (some ++ left) ≡ new ++ rising left
 moved up some left new pushed = search (arith, filter-append, append_assoc)
 

@@ -1,4 +1,4 @@
--- The finite map of a city's objects: the entries that it lists, and what it answers after a change.
+-- The finite map of a city's objects: its entries, and its lookups after a change.
 use Rattle.city_model.proofs.Prelude.{arith, ◌≡◌, ℕ, cond, List, [], ◌∷◌, length, Option, Some, None, Ordering, Less}
 use Rattle.city_model.proofs.Prelude.{ap, sym, ◌∙◌, T, nat_cmp, AllByRecursion, slice_cmp, keys_of, lookup, is_at}
 use Rattle.city_model.proofs.Prelude.{entries, find, is_sorted, nat_list_cmp_total, Object, Objects, CityMap, Entries}
@@ -60,7 +60,7 @@ pub of_nothing : (es : Entries) → es ≡ [] → ◌≡◌ {A = Objects} (from_
 of_nothing es nothing = ap (λ (xs : Entries). from_sorted xs) nothing
     ∙ empty_of_len (from_sorted []) (len_of [] (ascending {X = Object} (slice_cmp nat_cmp) [] tt))
 
--- what a city finds at an id
+-- a city's lookup of an id
 pub at_viewed : (es : Entries) (frame : Frame) (v : CityValue) (id : List ℕ)
     → IsStrictlySortedBy (slice_cmp nat_cmp) (keys_of es) → (frame, from_sorted es) ≡ v
     → found_in es id ≡ object_at v.1 id
@@ -69,7 +69,7 @@ at_viewed es frame v id ascend is =
 
 -- ---- answers
 
--- objects that answer alike are the same
+-- objects with equal lookups are the same
 pub same_objects : (m n : Objects) → object_at m ≡ object_at n → m ≡ n
 same_objects m n same =
     same_map nat_list_cmp_total (slice_cmp-IsAntisymmetric nat_cmp-IsAntisymmetric) m n (λ q. ap (λ f. f q) same)
@@ -87,7 +87,7 @@ at_insert objects id o = search (arith, get-insert, nat_list_cmp_total, turned)
 pub at_remove : (objects : Objects) (id : List ℕ) → object_at (remove objects id) ≡ changed (object_at objects) id None
 at_remove objects id = search (arith, get-remove, nat_list_cmp_total, turned)
 
--- ---- entries of which one is set or taken out
+-- ---- entries with one set or taken out
 
 pub at_changed : (es fs : Entries) (id : List ℕ) (w : Option Object)
     → IsStrictlySortedBy (slice_cmp nat_cmp) (keys_of es) → IsStrictlySortedBy (slice_cmp nat_cmp) (keys_of fs)

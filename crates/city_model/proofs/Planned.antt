@@ -1,4 +1,4 @@
--- What is planned for a command is what it writes.
+-- The planned writes of a command are its writes.
 use Rattle.city_model.proofs.Prelude.{arith, ◌≡◌, ℕ, List, [], ◌∷◌, map, length, true, false, None, Some, refl}
 use Rattle.city_model.proofs.Prelude.{sym, ◌∙◌, keys_of, false≢true, or_parts, Object, Body, Command}
 use Rattle.city_model.proofs.Prelude.{Delete, Attach, Detach, Reply, Added, Deleted, Attached, Detached, CityMap}
@@ -20,14 +20,14 @@ one_writes : (m : CityMap) (c : Command) (id : List ℕ) (o : Object) (r : Reply
 one_writes m c id o r ws is items =
     rw items (record { after = changed m id (Some o); edits = is; objects = (grind (arith, same_id_itself id), tt) })
 
--- a put or an add, where nothing is there
+-- a put or an add, without an object there
 pub new_writes : (m : CityMap) (c : Command) (id : List ℕ) (body : Body) (o : Object) (r : Reply) (ws : Change)
     → action m c ≡ creates m id body → r ≡ Added → o ≡ new_object body → ws ≡ (id, Some o) ∷ []
     → AreWritesOf m c r ws
 new_writes m c id body o r ws is reply object items =
     one_writes m c id o r ws (is ∙ (λ i. Edits (sym reply i) (id ∷ []) (changed m id (Some (sym object i))))) items
 
--- an amendment of the object o, which becomes q
+-- an amendment of the object o to q
 pub amend_writes : (m : CityMap) (c : Command) (id : List ℕ) (a : Amendment) (o q : Object) (r : Reply) (ws : Change)
     → action m c ≡ amends m id a o → amended id a o ≡ Ok q → r ≡ amendment_reply a → ws ≡ (id, Some q) ∷ []
     → AreWritesOf m c r ws
@@ -106,7 +106,7 @@ at_written m n [] q is h = absurd (false≢true h)
 at_written m n (w ∷ ws) q is h =
     grind (arith, at_unwritten, same_id_true q w.0, same_id_back, at_written (changed m w.0 w.1) n ws q)
 
--- what is planned makes of a sound map what the command makes of it
+-- the planned writes make of a sound map the map after the command
 pub plan_makes : (m : CityMap) (c : Command) (r : Reply) (ws : Change) → IsSound m → (is : AreWritesOf m c r ws)
     → after_change m ws ≡ is.after
 plan_makes m c r ws s is = λ i q. bool_cases (has_id (keys_of ws) q)

@@ -1,4 +1,4 @@
--- Plans that write nothing.
+-- Plans without writes.
 use Rattle.city_model.proofs.Prelude.{◌≡◌, ℕ, List, [], true, Option, Some, refl, sym, ap, ◌∙◌, Object, Command}
 use Rattle.city_model.proofs.Prelude.{Read, Reply, CityMap, Edits, action, Change}
 use Rattle.serde_json.specs.Data.{Members}

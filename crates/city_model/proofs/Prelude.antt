@@ -1,4 +1,4 @@
--- The words that proofs of this crate share, from std, from the libraries and from its own definitions.
+-- The words shared by the proofs of this crate: from std, from the libraries and from its own definitions.
 pub use Rattle.std.proofs.Common.{Bool, Equal, Less, List, None, Option, Ordering, Some, [], ap, append_assoc, arith}
 pub use Rattle.std.proofs.Common.{cond, drop, drop-cons, false, flat_map, get_or, inl, length, map, not, refl, rules}
 pub use Rattle.std.proofs.Common.{string_bytes, subst, suc, sym, take, true, ℕ, ◌++◌, ◌+◌, ◌-◌, ◌<◌, ◌||◌, ◌∙◌, ◌∷◌}

@@ -1,4 +1,4 @@
--- Replies that refuse, and what a refused command leaves.
+-- Refusals, and the snapshot after a refused command.
 use Rattle.city_model.proofs.Prelude.{arith, ◌≡◌, true, false, List, ℕ, Command, Cause, Reply, Refused, CityMap}
 use Rattle.city_model.proofs.Prelude.{Action, Edits, action, Snapshot, Answers, Does, applied, left, effect, is_refusal}
 use Rattle.city_model.proofs.Prelude.{answer, step}
@@ -10,7 +10,7 @@ edited : (c : Command) (a : Action) (reply : Reply) (ids : List (List ℕ)) (n :
     → a ≡ Edits reply ids n → is_refusal reply ≡ false
 edited c a reply ids n k is = grind arith
 
--- what a command that is done is replied is no refusal
+-- the reply to a command with an edit is no refusal
 pub done_unrefused : (m : CityMap) (c : Command) (reply : Reply) (ids : List (List ℕ)) (n : CityMap)
     → action m c ≡ Edits reply ids n → is_refusal reply ≡ false
 done_unrefused m c reply ids n is = edited c (action m c) reply ids n (kind_of m c) is

@@ -1,4 +1,4 @@
--- Parents and children that agree, and that they still do when an object goes, is attached or is detached.
+-- Parents and children in agreement, and still so when an object goes, is attached or is detached.
 use Rattle.city_model.proofs.Prelude.{arith, ◌≡◌, ℕ, List, [], ◌∷◌, ◌++◌, true, false, if◌then◌else◌, same_id, has_id}
 use Rattle.city_model.proofs.Prelude.{without_id, AreDistinct}
 use Rattle.city_model.proofs.IdLists.{has_more, has_without, in_without, in_more, distinct_without, distinct_more}
@@ -22,12 +22,12 @@ set_distinct : (of : Relatives) (id : List ℕ) (ids : List (List ℕ)) → ((q 
     → AreDistinct ids → (q : List ℕ) → AreDistinct (set_at of id ids q)
 set_distinct of id ids all here q = grind arith
 
--- relatives that are the same at each id agree too
+-- relatives equal at each id agree too
 pub agreed_as : (parents children others young : Relatives) → ((q : List ℕ) → others q ≡ parents q)
     → ((q : List ℕ) → young q ≡ children q) → AreAgreed parents children → AreAgreed others young
 agreed_as parents children others young e f a = grind arith
 
--- a parent in a list with one more is an old one or that one
+-- a parent in a list with one more is an old one or the new one
 pub one_more : {A : Type 0} (parents : Relatives) (child parent id p : List ℕ)
     → has_id (set_at parents child (parents child ++ parent ∷ []) id) p ≡ true
     → (has_id (parents id) p ≡ true → A) → (child ≡ id → parent ≡ p → A) → A

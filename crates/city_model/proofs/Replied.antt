@@ -1,4 +1,4 @@
--- A script whose first commands stand: its result where the next one ends it, and one more reply.
+-- A script after its first commands: its result if the next one ends it, and one more reply.
 use Rattle.city_model.proofs.Prelude.{is_refusal, ◌≡◌, ℕ, ◌+◌, false, true, List, [], ◌∷◌, ◌++◌, length, Some, ap, sym}
 use Rattle.city_model.proofs.Prelude.{◌∙◌, arith, slice_get, if◌then◌else◌, list_any, Command, Commit, Reply, Outcome}
 use Rattle.city_model.proofs.Prelude.{Snapshot, EndsAt, EndsFrom, view_at_end, is_end, ends_once, Held, answered}
@@ -26,7 +26,7 @@ answered_more [] rs c r h = absurd (cc)
 answered_more (d ∷ cs) [] c r h = grind arith
 answered_more (d ∷ cs) (s ∷ rs) c r h = grind (arith, answered_more cs rs c r)
 
--- the result of a script whose first commands stand so, and whose next command ends it so
+-- the result of a script, from its first commands and the next one, which ends it
 ends_more : (held : Held) (e : Effect) (w : Snapshot) (i : ℕ) (cs : List Command) (r : Reply) (rs : List Reply) (o : Outcome)
     → is_refusal r ≡ false
     → ((u : Snapshot) → IsTraceUnderLocks held u (answered cs rs) w → EndsFrom u (i + 1) cs rs o)
@@ -43,7 +43,7 @@ result_from held v w i (d ∷ cs) (r ∷ rs) c o f u h k =
     ends_more held (effect v d) w i cs r rs o parts.0
     (λ x g. result_from held x w (i + 1) cs rs c o g parts.1 h (subst (λ n. EndsAt w c n o) (omega arith) k)) f.1
 
--- a script whose next command is Commit leaves what its first commands lead to
+-- a script with Commit as its next command leaves the view after its first commands
 at_end_more : (held : Held) (v : Snapshot) (e : Effect) (w : Snapshot) (cs : List Command) (r : Reply) (rs : List Reply)
     → is_refusal r ≡ false
     → ((u : Snapshot) → IsTraceUnderLocks held u (answered cs rs) w → view_at_end u cs ≡ w)

@@ -28,7 +28,7 @@ end_is_unique : (v : Snapshot) (c : Command) (i : ℕ) (o p : Outcome) → is_no
     → EndsAt v c i o → EndsAt v c i p → o ≡ p
 end_is_unique v c i o p n l h k = search (arith, reply_is_unique)
 
--- a reply that ends the script isn't one that it goes on with
+-- an ending reply of the script isn't one to go on with
 reply_goes_on : (v : Snapshot) (c : Command) (q : Reply) (P : Reply → Snapshot → Type 0) → is_ending q ≡ true
     → IsReply v (effect v c) q → GoesOn (effect v c) P → ⊥
 reply_goes_on v c q P ending h g = goes_on_case P (effect v c) (λ reply u is f.
@@ -74,8 +74,7 @@ end_of_script_is_unique : (scripts : List Scripted) (m : CityMap) (place : ℕ) 
     → IsEndOf scripts m place f → e ≡ f
 end_of_script_is_unique scripts m place e f script since n l h k = search (arith, result_is_unique)
 
--- the ends at each place are of one script, which began its last attempt at one place, and neither is for want of
--- memory
+-- the ends at each place are of one script, with its last attempt begun at one place, and neither is out of memory
 abbrev pub AreInOneOrder : List End → List End → Type 0
 AreInOneOrder [] [] = Unit {0}
 AreInOneOrder [] (f ∷ fs) = ⊥

@@ -1,4 +1,4 @@
--- Two JSON values are the same where they are equal, and only there.
+-- Two JSON values are the same exactly if they are equal.
 use Rattle.city_model.proofs.Prelude.{arith, ◌≡◌, ℕ, List, Bool, true, refl, ap, and_parts, and_from, member}
 use Rattle.city_model.proofs.Prelude.{no_members, members_integral}
 use Rattle.std.proofs.Common.{◌&&◌}
@@ -46,7 +46,7 @@ mutual
 same_numbers : (m n : Num) → same_number m n ≡ true → m ≡ n
 same_numbers m n h = grind arith
 
--- values that are the same are equal
+-- values with `same_value` are equal
 mutual
   pub same_values : (d e : Data) → same_value d e ≡ true → d ≡ e
   same_values null null h = refl

@@ -1,4 +1,4 @@
--- Attributes that were set are met by an expect, and those that were taken out aren't.
+-- An expect of attributes after a set is met, and after an unset it isn't.
 use Rattle.city_model.proofs.Prelude.{arith, ◌≡◌, ℕ, List, [], ◌∷◌, true, false, None, Some, refl, ap, ◌∙◌}
 use Rattle.city_model.proofs.Prelude.{nat_list_cmp_total, has_id, same_id}
 use Rattle.city_model.proofs.Prelude.{member, no_members, members_integral}
@@ -15,7 +15,7 @@ use Rattle.city_model.proofs.KeptIn.{put_there}
 use Rattle.city_model.proofs.MemberLaws.{get_member-without, get_member-without_same}
 use Rattle.city_model.proofs.SameValues.{value_same}
 
--- ---- a member that is put
+-- ---- a member put
 
 pub get_member-put_same : (k : List ℕ) (d : Data) (ms : Members) → get_member k (put k d ms) ≡ Some d
 get_member-put_same k d no_members = grind (arith, tied_itself nat_list_cmp_total k)
@@ -26,12 +26,12 @@ pub get_member-put : (k l : List ℕ) (d : Data) (ms : Members) → same_id k l 
 get_member-put k l d no_members apart = grind arith
 get_member-put k l d (member j e ms) apart = grind (arith, same_id_true l j, get_member-put k l d ms)
 
--- a set of nothing changes no object that has attributes
+-- a set of nothing changes no object with attributes
 pub set_of_nothing : (extra found : Members) → AreOrdered extra → get_member attributes extra ≡ Some (object found)
     → with_set extra no_members found ≡ extra
 set_of_nothing extra found o is = put_there attributes (object found) extra o is
 
--- ---- members that are put one after another
+-- ---- members put one after another
 
 above_apart : (k : List ℕ) (named ms : Members) → AllAbove k named → get_member k (put_each named ms) ≡ get_member k ms
 above_apart k no_members ms h = refl
@@ -53,13 +53,13 @@ put_each_among (member k d named) ms o whole =
 set_in : (extra named found : Members) → attributes_in (with_set extra named found) ≡ Some (put_each named found)
 set_in extra named found = grind (arith, get_member-put_same attributes (object (put_each named found)) extra)
 
--- an expect of what was set is met
+-- an expect after a set is met
 pub set_is_expected : (extra named found : Members) → AreOrdered named → members_integral named ≡ true
     → has_attributes (with_set extra named found) named ≡ true
 set_is_expected extra named found o whole =
     ap (λ x. are_among named (members_of x)) (set_in extra named found) ∙ put_each_among named found o whole
 
--- ---- members that are taken out
+-- ---- members taken out
 
 absent_without : (k name : List ℕ) (ms : Members) → get_member k ms ≡ None → get_member k (without name ms) ≡ None
 absent_without k name ms none = bool_cases (same_id k name)
@@ -82,7 +82,7 @@ unset_in : (extra left : Members) → attributes_in (with_attributes extra left)
 unset_in extra no_members = ap members_or_none (get_member-without_same attributes extra)
 unset_in extra (member k d ms) = ap members_or_none (get_member-put_same attributes (object (member k d ms)) extra)
 
--- an expect of an attribute that was taken out isn't met
+-- an expect of an attribute after its unset isn't met
 pub unset_is_unexpected : (extra found : Members) (names : List (List ℕ)) (k : List ℕ) (d : Data) (named : Members)
     → has_id names k ≡ true → has_attributes (with_unset extra names found) (member k d named) ≡ false
 unset_is_unexpected extra found names k d named h =

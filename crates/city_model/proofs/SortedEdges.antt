@@ -1,4 +1,4 @@
--- How often each item stands in a list, by a test that decides which are equal, and what that says of sorted lists.
+-- How often each item stands in a list, by a test for equal items, and the consequences for sorted lists.
 use Rattle.city_model.proofs.Prelude.{◌≡◌, ℕ, suc, ◌+◌, ◌-◌, ◌<◌, ◌≤◌, List, [], ◌∷◌, Bool, true, false, length, get_or}
 use Rattle.city_model.proofs.Prelude.{take, Ordering, refl, sym, ap, ◌∙◌, arith, ◌++◌, drop, append_assoc, drop-cons}
 use Rattle.city_model.proofs.Prelude.{◌==◌, Decides, IsTotalOrder, eq_by_cmp_equiv, AllAdjacentBelow, list_any}
@@ -20,7 +20,7 @@ module _ {T : Type 0} {E : T → T → Bool} (decides : (x y : T) → Decides (E
   pub counted_first : (x : T) (xs : List T) → 1 ≤ times E x (x ∷ xs)
   counted_first x xs = grind (arith, decides x x)
 
-  -- what is true of each is true of what is counted
+  -- a test true of all is true of each counted item
   pub all_counted : (f : T → Bool) (xs : List T) → list_all f xs ≡ true → (q : T) → 1 ≤ times E q xs → f q ≡ true
   all_counted f [] h q many = absurd (omega (arith, many))
   all_counted f (x ∷ xs) h q many = grind (arith, decides q x, all_counted f xs)
@@ -68,7 +68,7 @@ module _ {T : Type 0} {E : T → T → Bool} (laws : IsEquivalence E) where
   count_distinct q [] d h = absurd (true≢false (sym h))
   count_distinct q (x ∷ xs) d h = grind (arith, apart_counts q x xs, d.0, count_distinct q xs d.1)
 
-  -- where no item is repeated, a search counts
+  -- without repeats a search counts
   once_is_any : (q : T) (es : List T) → IsDistinct E es → occurs_once E es q ≡ list_any (E q) es
   once_is_any q es d = grind (arith, count_distinct q es d, count_none E q es)
 
@@ -77,11 +77,11 @@ module _ {T : Type 0} {E : T → T → Bool} (laws : IsEquivalence E) where
   all_found before (x ∷ xs) d =
       grind (arith, once_is_any, any_middle, append_assoc before (x ∷ []) xs, all_found (before ++ x ∷ []) xs)
 
-  -- where no item is repeated, each occurs once
+  -- without repeats each item occurs once
   pub all_self : (es : List T) → IsDistinct E es → list_all (occurs_once E es) es ≡ true
   all_self es d = all_found [] es d
 
-  -- an item that stands before is repeated
+  -- an item equal to an earlier one is repeated
   pub repeated_at : (es : List T) (i : ℕ) (x : T) → i < length es → x ≡ get_or es i x
       → list_any (E x) (take i es) ≡ true → list_all (occurs_once E es) es ≡ false
   repeated_at es i x lt is h =
@@ -101,7 +101,7 @@ module _ {T : Type 0} {xs ys : List T} (moved : IsPermutation xs ys) where
 -- ---- in order
 
 module _ {T : Type 0} {R : T → T → Ordering} (o : IsTotalOrder R) (xs : List T) (up : IsSorted R xs) where
-  -- where no item is the same as the next, none is the same as another
+  -- if no item is the same as the next, none is the same as another
   pub distinct_from_neighbours : AllAdjacentBelow (λ x y. eq_by_cmp R x y ≡ false) xs (length xs)
       → IsDistinct (eq_by_cmp R) xs
   distinct_from_neighbours apart = IsDistinct-from_apart (eq_by_cmp R) xs (λ i j d less within.
@@ -126,7 +126,7 @@ module _ {T : Type 0} {R : T → T → Ordering} (o : IsTotalOrder R) (xs : List
       repeated_at laws xs i y there second
       (grind arith)
 
--- ---- in order, by an order that ties equal items alone
+-- ---- in order, by an order with ties for equal items alone
 
 module _ {T : Type 0} {R : T → T → Ordering} (o : IsTotalOrder R) (decides : (x y : T)
     → Decides (eq_by_cmp R x y) (x ≡ y)) where
@@ -148,7 +148,7 @@ module _ {T : Type 0} {R : T → T → Ordering} (o : IsTotalOrder R) (decides :
   sorted_rest : (x : T) (xs : List T) → IsSorted R (x ∷ xs) → IsSorted R xs
   sorted_rest x xs up k d low less = grind (arith, up (suc k) d)
 
-  -- what is in order is told by how often each item stands there
+  -- a sorted list follows from how often each item stands in it
   pub sorted_same : (xs ys : List T) → IsSorted R xs → IsSorted R ys
       → ((q : T) → times (eq_by_cmp R) q xs ≡ times (eq_by_cmp R) q ys) → xs ≡ ys
   sorted_same [] [] up vp counts = refl

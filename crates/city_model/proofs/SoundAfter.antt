@@ -1,4 +1,4 @@
--- A sound map stays sound under each command, and a script that commits leaves a lawful one.
+-- A sound map stays sound under each command, and a committed script leaves a lawful one.
 use Rattle.city_model.proofs.Prelude.{◌≡◌, ℕ, List, [], ◌∷◌, ◌++◌, Bool, true, false, Option, Some, None, refl, ap, subst}
 use Rattle.city_model.proofs.Prelude.{◌∙◌, arith, ◌==◌, length, option_map, or_parts, if◌then◌else◌, Object, Body, Cause}
 use Rattle.city_model.proofs.Prelude.{Command, Put, Delete, Attach, Detach, Reply, CityMap, Action, Edits, action}
@@ -33,13 +33,13 @@ either_sound : (b : Bool) (m : CityMap) (x y : Action) → (b ≡ true → IsSou
 either_sound true m x y f g = f refl
 either_sound false m x y f g = g refl
 
--- ---- commands that keep every body
+-- ---- commands without effect on the bodies
 
--- what is there in the second map has the body that it has in the first
+-- each object of the second map has its body from the first
 abbrev SameBodies : CityMap → CityMap → Type 0
 SameBodies m n = (id : List ℕ) (q : Object) → n id ≡ Some q → (o : Object) × (m id ≡ Some o) × (q.body ≡ o.body)
 
--- a map of the same bodies whose relations agree, and are relations of a sound map
+-- a map is sound if its bodies are of a sound map, its relations agree, and the sound map allows them
 sound_by_bodies : (m n : CityMap) → IsSound m → SameBodies m n → HasTiesOf m n → AreInAgreement n → IsSound n
 sound_by_bodies m n s keep ties a =
     sound_by_ties m n (λ id o q is at. grind (arith, keep id q at)) ties a
@@ -105,7 +105,7 @@ module _ (m : CityMap) (s : IsSound m) (child parent : List ℕ) (apart : same_i
       (λ e f. rw (← e, ← f) right))
       (agreed_attached (parents_in m) (children_in m) (sound_agrees m s) child parent apart new)
 
--- ---- one object written, with the relations that are there
+-- ---- one object written, with the relations there
 
 module _ (m : CityMap) (s : IsSound m) (id : List ℕ) (o : Object) (up : o.parents ≡ parents_of (m id))
     (down : o.children ≡ children_of (m id)) (kind : (p : Object) → m id ≡ Some p → o.body.kind ≡ p.body.kind) where
@@ -156,7 +156,7 @@ sound_amends m s id a o there given =
     sound_rewritten m s id (amendment_reply a) o (amended id a o) there
     (λ q is. (is_amended id a o q is, amended_faultless id a o q is given (s id o there).1))
 
--- ---- every command, by what stands at its ids
+-- ---- every command, by the objects at its ids
 
 sound_put : (m : CityMap) → IsSound m → (id : List ℕ) (body : Body) (w : Option Object) → m id ≡ w
     → body_fault body ≡ None → IsSound (map_after m (put_at m id body w))
@@ -229,7 +229,7 @@ sound_after m (Attach child parent) s = sound_attach m s child parent (m child) 
 sound_after m (Detach child parent) s = sound_detach m s child parent (m child) (m parent) refl refl
 sound_after m c s = s
 
--- and so does one that edits
+-- and so does an edit
 pub sound_edit : (m : CityMap) (c : Command) (reply : Reply) (ids : List (List ℕ)) (n : CityMap) → IsSound m
     → action m c ≡ Edits reply ids n → IsSound n
 sound_edit m c reply ids n s is = subst (λ a. IsSound (map_after m a)) is (sound_after m c s)

@@ -1,4 +1,4 @@
--- A sound map, by its relations: each parent of an object stands where it may.
+-- A sound map, by its relations: each parent of an object is allowed.
 use Rattle.city_model.proofs.Prelude.{arith, ◌≡◌, ℕ, List, [], ◌∷◌, true, false, Option, Some, None, refl, false≢true}
 use Rattle.city_model.proofs.Prelude.{Object, CityMap, same_id, has_id, parents_of, children_of, body_fault}
 use Rattle.city_model.proofs.Prelude.{AreDistinct, same_family, IsSound}
@@ -6,7 +6,7 @@ use Rattle.city_model.specs.Relations.{is_second_level}
 use Rattle.city_model.proofs.Ids.{same_id_itself}
 use Rattle.city_model.proofs.Relatives.{Relatives, AreAgreed}
 
--- the object and this parent are there, of levels and families that allow it
+-- the object and this parent are there, of matching levels and families
 pub record IsRightTie (m : CityMap) (id p : List ℕ) : Type 0 where
   pub child : Object
   pub parent : Object
@@ -62,7 +62,7 @@ sound_has_right_ties m s id p h = tie m id p (m id) (m p) refl refl s h ((sound_
 
 -- ---- to a sound map
 
--- what is there in both maps has one type
+-- an object in both maps has one type
 abbrev pub SameKinds : CityMap → CityMap → Type 0
 SameKinds m n = (id : List ℕ) (o q : Object) → m id ≡ Some o → n id ≡ Some q → q.body.kind ≡ o.body.kind
 
@@ -70,7 +70,7 @@ nothing_in : (ids : List (List ℕ)) → ((p : List ℕ) → has_id ids p ≡ tr
 nothing_in [] f = refl
 nothing_in (x ∷ xs) f = absurd (f x (grind (arith, same_id_itself x)))
 
--- the relations of the second map are allowed by what stands in the first
+-- the relations of the second map are allowed by the objects of the first
 abbrev pub HasTiesOf : CityMap → CityMap → Type 0
 HasTiesOf m n = (id p : List ℕ) → has_id (parents_of (n id)) p ≡ true → IsRightTie m id p
 
@@ -85,7 +85,7 @@ family m n kinds ties id p o q is at h =
     let t = ties id p (rw is h) in
     rw (kinds p t.parent q t.parent_there at, kinds id t.child o t.child_there is) t.one_family
 
--- a map is sound whose parents and children agree, and whose relations are allowed by another map of the same types
+-- a map is sound if its parents and children agree, and its relations are allowed by another map of the same types
 pub sound_by_ties : (m n : CityMap) → SameKinds m n → HasTiesOf m n → AreInAgreement n → HasNoFault n → IsSound n
 sound_by_ties m n kinds ties a faultless id o is =
     grind (arith, no_parents m n kinds ties id o is, family m n kinds ties id, faultless id o is)

@@ -1,11 +1,11 @@
--- What a city's objects answer after a change is written into them, and what is shown after one change more.
+-- Lookups in a city's objects after a change is written into them, and the map after one change more.
 use Rattle.city_model.proofs.Prelude.{arith, ◌≡◌, ℕ, List, [], ◌∷◌, ◌++◌, Option, Some, None, refl, Object, Objects}
 use Rattle.city_model.proofs.Prelude.{CityMap, object_at, changed, Change, after_change}
 use Rattle.city_model.specs.Runs.{after_changes}
 use Rattle.city_model.specs.Writing.{objects_with, objects_after}
 use Rattle.city_model.proofs.Objects.{at_insert, at_remove}
 
--- maps that answer alike are the same
+-- maps with equal lookups are the same
 pub same_map : (m n : CityMap) → ((q : List ℕ) → m q ≡ n q) → m ≡ n
 same_map m n alike = λ i q. alike q i
 

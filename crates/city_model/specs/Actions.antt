@@ -1,4 +1,4 @@
--- What each command does at a map.
+-- The action of each command at a map.
 use Rattle.std.specs.Prelude.{ℕ, ◌==◌, ◌||◌, not, List, [], ◌∷◌, ◌++◌, length, filter, Bool, Option, Some, None}
 use Rattle.std.specs.Prelude.{option_map, Result, Ok, Err, if◌then◌else◌}
 use Rattle.serde_json.specs.Data.{Members}
@@ -25,7 +25,7 @@ pub data Action : Type 0 where
   Refuses : Cause → Action
   -- it gets this reply, writes at these ids, and leaves this map
   Edits : Reply → List (List ℕ) → CityMap → Action
-  -- it marks what is seen under a name, or goes back to the newest mark of one
+  -- it marks the current view under a name, or goes back to the newest mark of one
   Marks : List ℕ → Action
   GoesBack : List ℕ → Action
   -- it ends its script
@@ -51,7 +51,7 @@ expect_at m id named None = Refuses (NoObject id)
 expect_at m id named (Some o) =
     if has_attributes o.body.extra named then answers m Expected else Refuses (Unexpected id)
 
--- ---- Put and Add: an object that is new
+-- ---- Put and Add: a new object
 
 abbrev pub new_object : Body → Object
 new_object body = record { body = body; parents = []; children = [] }
@@ -63,7 +63,7 @@ abbrev pub add_at : CityMap → List ℕ → Body → Option Object → Action
 add_at m id body None = creates m id body
 add_at m id body (Some o) = Refuses (Exists id)
 
--- ---- Put, Set, Unset and Reshape: an object that is there
+-- ---- Put, Set, Unset and Reshape: an object already there
 
 abbrev pub amendment_reply : Amendment → Reply
 amendment_reply (NewBody body) = Replaced
@@ -86,7 +86,7 @@ abbrev pub amend_at : CityMap → List ℕ → Amendment → Option Object → A
 amend_at m id amendment None = Refuses (NoObject id)
 amend_at m id amendment (Some o) = amends m id amendment o
 
--- the geometries that it gives are judged before the object is looked for
+-- its geometries are judged before the object is looked for
 abbrev pub amend : CityMap → List ℕ → Amendment → Action
 amend m id amendment = unless (amendment_fault amendment) (amend_at m id amendment (m id))
 

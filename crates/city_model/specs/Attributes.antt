@@ -9,7 +9,7 @@ use Rattle.serde_json.specs.Find.{get_member, as_object}
 use Rattle.city_model.specs.Kept.{has_no_member}
 use Rattle.city_model.specs.Members.{without, without_each}
 
--- ---- where they stand
+-- ---- their place
 
 abbrev pub attributes : List ℕ
 attributes = codes "attributes"
@@ -18,8 +18,7 @@ abbrev pub members_or_none : Option Data → Option Members
 members_or_none None = Some no_members
 members_or_none (Some d) = as_object d
 
--- the attributes among the kept members of an object: no members where there are none, and None where what stands
--- there is no object
+-- the attributes among the kept members of an object: no members if `attributes` is absent, and None if it is no object
 abbrev pub attributes_in : Members → Option Members
 attributes_in extra = members_or_none (get_member attributes extra)
 
@@ -30,8 +29,8 @@ abbrev pub put_each : Members → Members → Members
 put_each no_members ms = ms
 put_each (member k d others) ms = put_each others (put k d ms)
 
--- the kept members, where the attributes are these and the named ones have the given values; they are there then, if
--- only as an object without members
+-- the kept members, if the attributes are `found`, with the named ones set; `attributes` is then there, if only as an
+-- object without members
 abbrev pub with_set : Members → Members → Members → Members
 with_set extra named found = put attributes (object (put_each named found)) extra
 
@@ -41,7 +40,7 @@ abbrev pub with_attributes : Members → Members → Members
 with_attributes extra left =
     if has_no_member left then without attributes extra else put attributes (object left) extra
 
--- the kept members, where the attributes are these and the named ones are taken out; so is `attributes`, if none is left
+-- the kept members, if the attributes are `found`, without the named ones; if none is left, also without `attributes`
 abbrev pub with_unset : Members → List (List ℕ) → Members → Members
 with_unset extra names found = with_attributes extra (without_each names found)
 
@@ -92,6 +91,6 @@ abbrev pub members_of : Option Members → Members
 members_of None = no_members
 members_of (Some ms) = ms
 
--- the kept members have these attributes, with these values; where `attributes` is no object, there are none
+-- the kept members have these attributes, with these values; if `attributes` is no object, there are none
 abbrev pub has_attributes : Members → Members → Bool
 has_attributes extra named = are_among named (members_of (attributes_in extra))

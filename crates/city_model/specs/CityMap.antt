@@ -1,4 +1,4 @@
--- A city as a map: what each id stands for (CityJSON 2.0, section 2, `CityObjects`).
+-- A city as a map: the object of each id (CityJSON 2.0, section 2, `CityObjects`).
 use Rattle.std.specs.Prelude.{ℕ, List, [], Bool, Option, Some, None}
 use Rattle.std.specs.List.{list_any}
 use Rattle.std.specs.Ordering.{nat_cmp, is_eq}
@@ -13,11 +13,11 @@ use Rattle.city_model.specs.declared.object.Object.{Object}
 abbrev pub Objects : Type 0
 Objects = FinMap (slice_cmp nat_cmp) Object
 
--- what a city is: a frame, and the objects by their ids
+-- a city: a frame, and the objects by their ids
 abbrev pub CityValue : Type 0
 CityValue = Frame × Objects
 
--- what each id stands for
+-- the object of each id
 abbrev pub CityMap : Type 0
 CityMap = List ℕ → Option Object
 
@@ -28,7 +28,7 @@ object_at objects id = get objects id
 abbrev pub Entries : Type 0
 Entries = List (List ℕ × Object)
 
--- what an id stands for in a list: the first of its objects
+-- the object of an id in a list: the first one
 abbrev pub found_in : Entries → CityMap
 found_in es id = lookup (is_at (slice_cmp nat_cmp id)) es
 

@@ -1,4 +1,4 @@
--- A tree all of whose numbers are 64-bit signed integers.
+-- A tree with 64-bit signed integers as its only numbers.
 use Rattle.std.specs.Prelude.{Bool, true, ◌&&◌, is_some}
 use Rattle.serde_json.specs.Data.{Data, null, boolean, number, string, array, object, Items, no_items, item}
 use Rattle.serde_json.specs.Data.{Members, no_members, member}

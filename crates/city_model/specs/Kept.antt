@@ -1,5 +1,5 @@
--- Which members are read at each place of a document, and which are kept: those that this profile doesn't read
--- (CityJSON 2.0, sections 2, 3 and 5).
+-- The members read at each place of a document, and the members kept: all others, unread by this profile (CityJSON 2.0,
+-- sections 2, 3 and 5).
 use Rattle.std.specs.Prelude.{ℕ, List, [], ◌∷◌, Bool, true, false, ◌&&◌, ◌||◌, not, Option, Some, None, codes}
 use Rattle.std.specs.Prelude.{is_some, is_none}
 use Rattle.std.specs.List.{list_all}
@@ -7,7 +7,7 @@ use Rattle.serde_json.specs.Data.{Data, Items, no_items, item, Members, no_membe
 use Rattle.serde_json.specs.Find.{get, get_member, as_array, as_object}
 use Rattle.city_model.specs.Integral.{members_integral}
 
--- ---- the names of the members that are read; all others are kept
+-- ---- the names of the members read; all others are kept
 
 abbrev pub top_members : List (List ℕ)
 top_members =
@@ -30,7 +30,7 @@ lacks name ms = is_none (get_member name ms)
 abbrev pub lacks_each : List (List ℕ) → Members → Bool
 lacks_each names ms = list_all (λ name. lacks name ms) names
 
--- ---- `extensions` and `address`, which are kept under a condition
+-- ---- `extensions` and `address`, kept under a condition
 
 abbrev pub has_no_member : Members → Bool
 has_no_member no_members = true
@@ -47,7 +47,7 @@ abbrev pub is_empty_object_or_absent : Option Data → Bool
 is_empty_object_or_absent None = true
 is_empty_object_or_absent (Some d) = is_empty_object d
 
--- an address that names vertices
+-- an address with a reference to vertices
 abbrev pub is_located : Data → Bool
 is_located d = is_some (get (codes "location") d)
 
@@ -59,12 +59,12 @@ abbrev pub any_located_in : Option Items → Bool
 any_located_in None = false
 any_located_in (Some ds) = any_located ds
 
--- an address, or one of several, that has a location
+-- an address, or one of several, with a location
 abbrev pub has_location : Option Data → Bool
 has_location None = false
 has_location (Some d) = is_located d || any_located_in (as_array d)
 
--- ---- the members that are kept
+-- ---- the kept members
 
 abbrev pub kept_at_top : Members → Bool
 kept_at_top ms =
@@ -81,6 +81,6 @@ kept_at_object ms =
 abbrev pub kept_at_geometry : Members → Bool
 kept_at_geometry ms = members_integral ms && lacks_each geometry_members ms
 
--- attributes that a command names may have any names
+-- attributes in a command may have any names
 abbrev pub kept_at_attributes : Members → Bool
 kept_at_attributes ms = members_integral ms

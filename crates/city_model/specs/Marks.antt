@@ -1,9 +1,9 @@
--- What a script sees as it runs: a map, and the marks that it can go back to.
+-- The snapshot of a running script: a map, and the marks to go back to.
 use Rattle.std.specs.Prelude.{ℕ, List, [], ◌∷◌, if◌then◌else◌}
 use Rattle.city_model.specs.CityMap.{CityMap, same_id}
 use Rattle.city_model.specs.Relations.{IsSound}
 
--- a mark: its name, and the map that stood when it was made
+-- a mark: its name, and the map of its time
 abbrev pub Marked : Type 0
 Marked = List ℕ × CityMap
 
@@ -20,7 +20,7 @@ unmarked m = record { map = m; marks = [] }
 abbrev pub with_map : Snapshot → CityMap → Snapshot
 with_map v m = record { map = m; marks = v.marks }
 
--- the newest mark of the name and those before it
+-- the newest mark of the name and the marks before it
 abbrev pub marks_from : {X : Type 0} → List ℕ → List (List ℕ × X) → List (List ℕ × X)
 marks_from name [] = []
 marks_from name (k ∷ ks) = if same_id name k.0 then k ∷ ks else marks_from name ks

@@ -1,4 +1,4 @@
--- What each command means, on the whole map and its marks.
+-- The meaning of each command, on the whole map and its marks.
 use Rattle.std.specs.Prelude.{◌≡◌, ◌⊎◌, ◌==◌, ℕ, List, [], ◌∷◌, length, map, Bool, true, false, Option, Some, None}
 use Rattle.std.specs.Prelude.{if◌then◌else◌}
 use Rattle.city_model.specs.declared.object.Object.{Object}
@@ -19,7 +19,7 @@ use Rattle.city_model.specs.Actions.{Action, Refuses, Edits, GoesBack, action}
 
 -- ---- every command
 
--- what a command does: it is answered and leaves this to be seen, or it ends its script
+-- the effect of a command: its answer and the snapshot after it, or the end of its script
 pub data Effect : Type 0 where
   Answers : Reply → Snapshot → Effect
   Commits : Effect
@@ -30,7 +30,7 @@ abbrev pub back : List ℕ → Snapshot → List views.Marked → Effect
 back name v [] = Answers (Refused (NoMark name)) v
 back name v (k ∷ ks) = Answers WentBack (record { map = k.1; marks = k ∷ ks })
 
--- the action at what is seen; a refusal leaves it
+-- the action at the snapshot; a refusal leaves it
 abbrev pub applied : Snapshot → Action → Effect
 applied v (Refuses cause) = Answers (Refused cause) v
 applied v (Edits reply ids m) = Answers reply (with_map v m)
@@ -54,7 +54,7 @@ IsReply v (Answers r u) reply = reply ≡ r
 IsReply v Commits reply = IsCommitReply v.map reply
 IsReply v Aborts reply = reply ≡ Aborted
 
--- what is seen after it: to end a script leaves it
+-- the snapshot after it: the end of a script leaves it
 abbrev pub left : Snapshot → Effect → Snapshot
 left v (Answers reply u) = u
 left v Commits = v
@@ -67,13 +67,13 @@ step v c = left v (effect v c)
 abbrev pub Does : Snapshot → Command → Reply → Snapshot → Type 0
 Does v c reply w = IsReply v (effect v c) reply × (w ≡ step v c)
 
--- the command doesn't end its script, and this holds of its reply and of what is seen after it
+-- the command doesn't end its script, and this holds of its reply and of the snapshot after it
 abbrev pub GoesOn : Effect → (Reply → Snapshot → Type 0) → Type 0
 GoesOn (Answers reply u) P = P reply u
 GoesOn Commits P = ⊥
 GoesOn Aborts P = ⊥
 
--- the reply of an effect; what ends a script is answered by no other than this, unless it is refused
+-- the reply of an effect; an end of a script has no other reply, unless it is refused
 abbrev pub reply_of : Effect → Reply
 reply_of (Answers reply u) = reply
 reply_of Commits = Committed

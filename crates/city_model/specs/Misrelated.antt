@@ -1,4 +1,4 @@
--- Where the relations of a map are at fault (CityJSON 2.0, section 2).
+-- Faults in the relations of a map (CityJSON 2.0, section 2).
 use Rattle.std.specs.Prelude.{◌≡◌, ◌⊎◌, ℕ, List, true, Some}
 use Rattle.city_model.specs.declared.object.Object.{Object}
 use Rattle.city_model.specs.CityMap.{CityMap}

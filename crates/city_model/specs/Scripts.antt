@@ -1,4 +1,4 @@
--- Which lists of commands are scripts.
+-- Scripts among the lists of commands.
 use Rattle.std.specs.Prelude.{◌≡◌, ℕ, List, [], ◌∷◌, Bool, true, false, Some, slice_get, if◌then◌else◌}
 use Rattle.city_model.specs.declared.command.Command.{Command}
 use Rattle.city_model.specs.declared.command.Command.TheVariants.{Mark, Back, Commit, Abort}

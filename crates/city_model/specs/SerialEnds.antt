@@ -16,8 +16,8 @@ is_commit outcome = false
 abbrev pub commits_in : List End → ℕ
 commits_in ends = count_by (λ e. is_commit e.outcome) ends
 
--- from place k on, the end at each place is that of the script of that number, which began there, and none
--- ended out of memory
+-- from place k on, the end at each place is of the script of the same number, began at that place, and isn't out of
+-- memory
 abbrev pub IsSerialFrom : ℕ → List End → Type 0
 IsSerialFrom k [] = Unit {0}
 IsSerialFrom k (e ∷ es) =

@@ -63,14 +63,14 @@ runs_both_ways es e = occurs_once same_edge es e && occurs_once same_edge es (fl
 abbrev pub is_closed : Shell → Bool
 is_closed shell = list_all (runs_both_ways (edges_of shell)) (edges_of shell)
 
--- ---- what bounds a geometry
+-- ---- the boundaries of a geometry
 
 -- the lists one after another
 abbrev pub joined : {T : Type 0} → List (List T) → List T
 joined [] = []
 joined (xs ∷ xss) = xs ++ joined xss
 
--- surfaces that needn't close, or those of the shells of its solids
+-- its surfaces; they needn't close, or are of the shells of its solids
 abbrev pub surfaces_of : Shape → List Surface
 surfaces_of (Shape.MultiSurface surfaces) = surfaces
 surfaces_of (Shape.CompositeSurface surfaces) = surfaces
@@ -120,7 +120,7 @@ has_open_shell shape = list_any (list_any is_open_shell) (solids_of shape)
 abbrev pub any_shape : (Shape → Bool) → List Geometry → Bool
 any_shape test gs = list_any (λ g. test g.shape) gs
 
--- the first of the three causes that some geometry has
+-- the first of the three causes in some geometry
 abbrev pub geometry_fault : List Geometry → Option Cause
 geometry_fault gs =
     if any_shape has_short_ring gs then Some ShortRing
@@ -133,6 +133,6 @@ geometry_fault gs =
 abbrev pub some_shape : (Shape → Bool) → Body → Bool
 some_shape test body = any_shape test body.geometry
 
--- the first of the three causes that some geometry of the body has
+-- the first of the three causes in some geometry of the body
 abbrev pub body_fault : Body → Option Cause
 body_fault body = geometry_fault body.geometry

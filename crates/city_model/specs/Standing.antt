@@ -1,5 +1,5 @@
--- The commands of an open transaction stand: run from the committed map they would get the replies that
--- they got, and the locks of each are held.
+-- The commands of an open transaction stand: from the committed map they would get their replies again, and the locks
+-- of each are held.
 use Rattle.std.specs.Prelude.{◌≡◌, ℕ, List, [], ◌∷◌, Bool, true, false, not, Option, Some, None, map}
 use Rattle.std.specs.Prelude.{if◌then◌else◌}
 use Rattle.city_model.specs.declared.command.Command.{Command}
@@ -11,14 +11,14 @@ use Rattle.city_model.specs.Mode.{is_exclusive}
 use Rattle.city_model.specs.Marks.{Snapshot}
 use Rattle.city_model.specs.Meaning.{effect, GoesOn, locks_of}
 
--- in which mode a transaction holds each id, if at all
+-- the mode of a transaction at each id, if it is a holder
 abbrev pub Held : Type 0
 Held = List ℕ → Option Mode
 
 abbrev pub Lock : Type 0
 Lock = List ℕ × Mode
 
--- the lock is held, in that mode or a stronger one
+-- the lock is held, in this mode or a stronger one
 abbrev pub covers : Option Mode → Mode → Bool
 covers None mode = false
 covers (Some Exclusive) mode = true
@@ -28,7 +28,7 @@ abbrev pub AllHeld : Held → List Lock → Type 0
 AllHeld held [] = Unit {0}
 AllHeld held (l ∷ ls) = (covers (held l.0) l.1 ≡ true) × AllHeld held ls
 
--- a command, and the reply that it got
+-- a command and its reply
 abbrev pub Answered : Type 0
 Answered = Command × Reply
 
@@ -38,19 +38,19 @@ answered cs [] = []
 answered [] (r ∷ rs) = []
 answered (c ∷ cs) (r ∷ rs) = (c, r) ∷ answered cs rs
 
--- from the first view the commands, none of which ends a script, get these replies, each with its locks held,
--- and lead to the second
+-- from the first view the commands, without an end of a script, get these replies, each with its locks held, and lead
+-- to the second
 abbrev pub IsTraceUnderLocks : Held → Snapshot → List Answered → Snapshot → Type 0
 IsTraceUnderLocks held v [] w = w ≡ v
 IsTraceUnderLocks held v (d ∷ ds) w =
     AllHeld held (locks_of v.map d.0) × GoesOn (effect v d.0) (λ reply u. (reply ≡ d.1) × IsTraceUnderLocks held u ds w)
 
--- ---- what locks name
+-- ---- the ids of locks
 
 abbrev pub locked_ids : List Lock → List (List ℕ)
 locked_ids ls = map (λ l. l.0) ls
 
--- the ids that are locked exclusively
+-- the ids locked exclusively
 abbrev pub exclusive_ids : List Lock → List (List ℕ)
 exclusive_ids [] = []
 exclusive_ids (l ∷ ls) = if is_exclusive l.1 then l.0 ∷ exclusive_ids ls else exclusive_ids ls

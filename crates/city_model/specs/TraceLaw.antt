@@ -1,5 +1,5 @@
--- Commands that run one after another see and write only what they lock: from another map that agrees there
--- they do the same.
+-- Commands run one after another see and write only locked ids: from another map, equal to this one there, they do the
+-- same.
 use Rattle.std.specs.Prelude.{◌≡◌, ℕ, List, [], ◌∷◌, Bool, true, false, Option, None, Some, is_some, map, if◌then◌else◌}
 use Rattle.city_model.specs.declared.command.Command.{Command}
 use Rattle.city_model.specs.declared.command.Reply.{Reply}
@@ -12,7 +12,7 @@ use Rattle.city_model.specs.Relations.{IsSound}
 use Rattle.city_model.specs.Runs.{Trace}
 use Rattle.city_model.specs.Standing.{Held, covers, locks_id, locks_id_exclusively}
 
--- in which mode locks name an id, by whether they name it exclusively, and at all
+-- the mode of an id among locks, by whether they name it exclusively, and at all
 abbrev pub as_named : Bool → Bool → Option Mode
 as_named true named = Some Exclusive
 as_named false true = Some Shared
@@ -24,14 +24,14 @@ stronger_of (Some Exclusive) y = Some Exclusive
 stronger_of (Some Shared) None = Some Shared
 stronger_of (Some Shared) (Some mode) = Some mode
 
--- how the locks of the commands name each id, the locks of each at the map that it meets
+-- the mode of each id among the commands' locks, each command's at the map before it
 abbrev pub named_by : Snapshot → List Command → Held
 named_by v [] q = None
 named_by v (c ∷ cs) q =
     stronger_of (as_named (locks_id_exclusively (locks_of v.map c) q) (locks_id (locks_of v.map c) q))
     (named_by (step v c) cs q)
 
--- this map at each id that is held exclusively, and the other one elsewhere
+-- this map at each id held exclusively, and the other one elsewhere
 abbrev pub carried_map : Held → CityMap → CityMap → CityMap
 carried_map held other m = λ q. if covers (held q) Exclusive then m q else other q
 
@@ -43,9 +43,9 @@ abbrev pub carried : Held → CityMap → Snapshot → Snapshot
 carried held other v =
     record { map = carried_map held other v.map; marks = carried_marks held other v.marks }
 
--- what the commands are answered here, and what they lead to, they are and do at each other sound map that agrees
--- with this one on the ids that their locks name: what is seen is then the same at each id that they lock
--- exclusively, in the map and in each mark, and at any other id each is as at its own start
+-- at each other sound map, equal to this one on the ids of the commands' locks, the commands get the same replies, and
+-- lead to the same snapshot at each id locked exclusively, in the map and in each mark; at any other id the map and
+-- each mark are as at that map's own start
 abbrev pub TraceLaw : CityMap → List Command → Type 0
 TraceLaw m cs = (replies : List Reply) (w : Snapshot) → Trace (unmarked m) cs replies w
     → (n : CityMap) → IsSound n

@@ -50,7 +50,7 @@ all_types =
     ∷ ObjectType.TunnelPart ∷ ObjectType.TunnelInstallation ∷ ObjectType.TunnelConstructiveElement
     ∷ ObjectType.TunnelHollowSpace ∷ ObjectType.TunnelFurniture ∷ []
 
--- the first of the types whose name is s
+-- the first of the types with the name s
 abbrev pub first_named : List ℕ → List ObjectType → Option ObjectType
 first_named s [] = None
 first_named s (t ∷ ts) = if bytes_eq s (name_of t) then Some t else first_named s ts

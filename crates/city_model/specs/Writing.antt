@@ -1,4 +1,4 @@
--- What a change writes at an id, and a change written into the objects of a city, one id after another.
+-- The write of a change at an id, and a change written into the objects of a city, one id after another.
 use Rattle.std.specs.Prelude.{ℕ, List, [], ◌∷◌, Option, Some, None}
 use Rattle.std.specs.Map.{lookup}
 use Rattle.std.specs.Ordering.{nat_cmp}
@@ -9,13 +9,13 @@ use Rattle.city_model.specs.declared.object.Object.{Object}
 use Rattle.city_model.specs.CityMap.{CityMap, Objects}
 use Rattle.city_model.specs.Runs.{Change, after_change}
 
--- what it writes at the id: an object, or that none is there; or nothing. It is the first pair of the id, and
--- `after_change` ends with the last: a change that a contract shows has each id once, and then the map after it has
--- this at the id, and where it is nothing, what stood there (`Change::iter`, clause `map`)
+-- its write at the id: an object, a delete, or nothing. It is the first pair of the id, and `after_change` ends with
+-- the last. A change in a contract has each id once: the map after it has its write at the id, or, without one, the
+-- previous object (`Change::iter`, clause `map`)
 abbrev pub write_in : Change → List ℕ → Option (Option Object)
 write_in change id = lookup (is_at (slice_cmp nat_cmp id)) change
 
--- the objects that it sets
+-- the objects set by it
 abbrev pub set_by : Change → CityMap
 set_by change = after_change (λ id. None) change
 

@@ -16,8 +16,8 @@ use crate::text::Text;
 use serde_json::{Map, Value};
 use std::alloc::Global;
 
-/// The kept members of an object with these attributes set, or None where its `attributes` is no object.
-/// It fails only when out of memory.
+/// The kept members of an object with these attributes set, or `None` if its `attributes` is no
+/// object. Fails only when out of memory.
 pub(crate) fn with_set(
     alloc: Global,
     extra: &Extra<AtObject>,
@@ -34,8 +34,8 @@ pub(crate) fn with_set(
     Ok(Some(Extra::of_kept(members)))
 }
 
-/// The kept members of an object without the attributes of these names, or None where its `attributes`
-/// is no object. It fails only when out of memory.
+/// The kept members of an object without the attributes of these names, or `None` if its
+/// `attributes` is no object. Fails only when out of memory.
 pub(crate) fn with_unset(
     alloc: Global,
     extra: &Extra<AtObject>,
@@ -73,8 +73,8 @@ fn attributes_of(extra: &Map<String, Value>) -> Option<&Map<String, Value>>
     }
 }
 
-/// Takes `attributes` out of the kept members of an object: no members where it isn't there, and None
-/// where it is no object.
+/// Takes `attributes` out of the kept members of an object. Returns no members if it isn't there,
+/// and `None` if it is no object.
 fn take_attributes(alloc: Global, members: &mut Map<String, Value>) -> Option<Map<String, Value>>
     ensures found { option_map (λ m. members_view m.entries) result ≡ attributes_in (members_view members.old.entries) }
     ensures left { members_view members.new.entries ≡ without attributes (members_view members.old.entries) }

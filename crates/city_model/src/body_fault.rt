@@ -1,4 +1,4 @@
-//! What is wrong with geometries, and with those of a body (CityJSON 2.0, section 3.2).
+//! The faults of geometries and of bodies (CityJSON 2.0, section 3.2).
 ghost use Rattle.std.specs.Prelude.{◌≡◌, false, IfOk, OnErr};
 ghost use Rattle.std.specs.List.{list_any};
 ghost use Rattle.city_model.specs.Shells.{has_short_ring, has_same_twice, has_open_shell, any_shape, geometry_fault, some_shape, body_fault};
@@ -11,8 +11,8 @@ use crate::rings::{RingFault, has_ring_fault};
 use crate::shells::has_open_shell;
 use std::alloc::Global;
 
-/// The first of ShortRing, SameTwice and OpenShell that some geometry of the body has, or None. It
-/// fails only when out of memory, and only if no ring is at fault: judging rings doesn't allocate.
+/// The first of `ShortRing`, `SameTwice` and `OpenShell` in some geometry of the body, or `None`.
+/// Fails only when out of memory, and only if no ring is at fault: judging rings doesn't allocate.
 pub fn body_fault(alloc: Global, body: &Body) -> Result<Option<Cause>, OutOfMemory>
     ensures fault { IfOk result (λ f. f ≡ body_fault body.now) }
     ensures no_short_ring { OnErr result (some_shape has_short_ring body.now ≡ false) }
@@ -21,8 +21,8 @@ pub fn body_fault(alloc: Global, body: &Body) -> Result<Option<Cause>, OutOfMemo
     geometry_fault(alloc, body.geometry.get().as_slice())
 }
 
-/// The first of ShortRing, SameTwice and OpenShell that some of the geometries has, or None. It fails
-/// only when out of memory, and only if no ring is at fault: judging rings doesn't allocate.
+/// The first of `ShortRing`, `SameTwice` and `OpenShell` in some of the geometries, or `None`.
+/// Fails only when out of memory, and only if no ring is at fault: judging rings doesn't allocate.
 pub fn geometry_fault(alloc: Global, geometry: &[Geometry]) -> Result<Option<Cause>, OutOfMemory>
     ensures fault { IfOk result (λ f. f ≡ geometry_fault geometry.now) }
     ensures no_short_ring { OnErr result (any_shape has_short_ring geometry.now ≡ false) }

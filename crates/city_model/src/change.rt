@@ -1,4 +1,4 @@
-//! What a commit writes: a finite map.
+//! The writes of a commit, as a finite map.
 ghost use Rattle.std.specs.Prelude.{◌≡◌, ◌++◌, ℕ, List, [], Some, length, option_to_list, IfNone, OnOk, OnErr, if◌then◌else◌};
 ghost use Rattle.std.specs.List.Sorted.{IsStrictlySortedBy};
 ghost use Rattle.std.specs.Map.{keys_of};
@@ -17,8 +17,8 @@ use std::alloc::Global;
 use std::collections::{BTreeMap, btree_map};
 use std::marker::Model;
 
-/// What a commit writes: ids, each with the object that it has afterwards, or None if
-/// the object is removed.
+/// The writes of a commit: ids, each with its object afterwards, or `None` if the object is
+/// removed.
 ///
 /// Contracts see the pairs of id and object, the ids in byte order, each once.
 #[derive(Drop)]
@@ -47,7 +47,7 @@ impl Model for Change {
 }
 
 impl Change {
-    /// A change that writes nothing. Doesn't allocate.
+    /// A change without writes. Doesn't allocate.
     pub fn new(alloc: Global) -> Self
         ensures { result ≡ [] }
     {
@@ -65,8 +65,8 @@ impl Change {
 
     /// The pairs of id and object, the ids in byte order. Doesn't allocate.
     ///
-    /// Since each id is there once, a map after the change has at an id what is written there, and where nothing is,
-    /// what it had.
+    /// Since each id is there once, a map after the change has its write at a written id, and the
+    /// previous object at any other.
     pub fn iter(&self) -> btree_map::Iter<'_, Id, Option<Object>>
         ensures pairs { result ≡ self.now }
         ensures in_byte_order { IsStrictlySortedBy (slice_cmp nat_cmp) (keys_of self.now) }
@@ -75,7 +75,7 @@ impl Change {
         self.writes.iter()
     }
 
-    /// Writes the object of an id, or that it has none, in place of what was written there.
+    /// Writes the object of an id, or that it has none, over an earlier write.
     ///
     /// If memory runs out, the change stays as it was, and the object is dropped.
     pub fn set(&mut self, id: Id, object: Option<Object>) -> Result<(), OutOfMemory>

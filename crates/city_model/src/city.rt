@@ -96,10 +96,10 @@ impl City {
         self.objects.iter()
     }
 
-    /// Sets the object of an id, and returns the one that it had.
+    /// Sets the object of an id, and returns the previous one.
     ///
-    /// If memory runs out, the city is unchanged. For an id that has an object
-    /// already it doesn't allocate.
+    /// If memory runs out, the city is unchanged. If the id has an object already, it doesn't
+    /// allocate.
     pub fn set(&mut self, id: Id, object: Object) -> Result<Option<Object>, OutOfMemory>
         ensures old { IfOk result (λ old. old ≡ object_at self.old.1 id) }
         ensures objects { OnOk result (self.new ≡ (self.old.0, insert self.old.1 id object)) }
@@ -110,8 +110,8 @@ impl City {
         Ok(self.objects.insert(id, object)?)
     }
 
-    /// Puts another object in place of that of an id, and returns the one that it had. The object comes back where the
-    /// id has none; then the city is unchanged. Doesn't allocate.
+    /// Replaces the object of an id, and returns the previous one. If the id has none, the object
+    /// comes back, and the city is unchanged. Doesn't allocate.
     pub fn replace(&mut self, id: &Id, object: Object) -> Result<Object, Object>
         ensures old { IfOk result (λ old. object_at self.old.1 id.now ≡ Some old) }
         ensures frame { self.new.0 ≡ self.old.0 }

@@ -6,17 +6,17 @@ use crate::sequence::Sequence;
 use crate::shared::Shared;
 use crate::text::{Id, Text};
 
-/// Attributes that a command names, each with a value.
+/// Attributes named by a command, each with a value.
 pub type Attributes = Extra<AtAttributes>;
 
 /// A command of a script.
 #[derive(Drop)]
 pub enum Command {
-    /// Returns the object, or says that none is there.
+    /// Returns the object, or says that there is none.
     Read(Id),
-    /// Gives the object a body: a new object, without relations, where none is there.
+    /// Gives the object a body. If there is none, adds a new object, without relations.
     Put(Id, Shared<Body>),
-    /// Adds an object of this body, without relations. It is refused where an object is there.
+    /// Adds an object of this body, without relations. It is refused if an object is there.
     Add(Id, Shared<Body>),
     /// Gives the named attributes of the object these values; all else stays.
     Set(Id, Attributes),
@@ -32,18 +32,18 @@ pub enum Command {
     Attach(Id, Id),
     /// Makes the first object no longer a child of the second.
     Detach(Id, Id),
-    /// Marks what the script sees now, under a name. A name may be used again.
+    /// Marks the current view of the script under a name. A name may be used again.
     Mark(Text),
-    /// Undoes what the script wrote since the newest mark of the name. That mark
-    /// stays; newer ones go.
+    /// Undoes the writes of the script since the newest mark of the name. That mark stays; newer
+    /// ones go.
     Back(Text),
-    /// Ends the script; what it wrote stays.
+    /// Ends the script; its writes stay.
     Commit,
-    /// Ends the script; what it wrote is undone.
+    /// Ends the script; its writes are undone.
     Abort,
 }
 
-/// Why a command is refused. docs/COMMANDS.md has the order in which a command's causes are judged.
+/// Why a command is refused. docs/COMMANDS.md has the order of judging a command's causes.
 #[derive(Drop)]
 pub enum Cause {
     /// There is no object of this id.
@@ -73,7 +73,7 @@ pub enum Cause {
     Exists(Id),
     /// The `attributes` of the object of this id isn't an object.
     BadAttributes(Id),
-    /// The object of this id lacks an attribute that was expected, or has another value there.
+    /// The object of this id lacks an expected attribute, or has another value there.
     Unexpected(Id),
 }
 

@@ -1,4 +1,4 @@
-//! Values that can be copied, unless memory runs out.
+//! Fallible copies: memory may run out.
 ghost use Rattle.std.specs.Prelude.{◌≡◌, IfOk};
 
 use crate::OutOfMemory;
@@ -11,7 +11,7 @@ use crate::text::{Id, Text};
 use std::alloc::Global;
 use std::collections::BTreeMap;
 
-/// A value that can be copied.
+/// A value with a fallible copy.
 pub trait Copied {
     fn copy(&self, alloc: Global) -> Result<Self, OutOfMemory>
         ensures { IfOk result (λ c. c ≡ self.now) };
@@ -118,7 +118,7 @@ impl<A: Copied + Drop, B: Copied> Copied for (A, B) {
     }
 }
 
-/// A copy of a map from ids. It fails only when out of memory.
+/// A copy of a map from ids. Fails only when out of memory.
 ///
 /// The ids ascend, so the copies go into their map all at once.
 pub fn copy_map<V: Copied + Drop>(

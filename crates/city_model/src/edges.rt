@@ -14,9 +14,9 @@ pub type Edge = (Point, Point);
 /// Edges, each noted from its lower point to its higher one.
 #[derive(Drop)]
 pub struct Edges {
-    /// Those that a ring runs from the lower point to the higher one.
+    /// The edges that a ring runs from the lower point to the higher one.
     pub up: Vec<Edge>,
-    /// Those that a ring runs from the higher point to the lower one.
+    /// The edges that a ring runs from the higher point to the lower one.
     pub down: Vec<Edge>,
 }
 
@@ -64,7 +64,7 @@ fn push_surface(edges: &mut Edges, surface: &Surface) -> Result<(), OutOfMemory>
     Ok(())
 }
 
-/// How many points the rings have, or the greatest number where there are more.
+/// The number of points of the rings, at most `usize::MAX`.
 fn points_of(surface: &Surface) -> usize {
     let mut count: usize = 0;
     let rings = surface.as_slice();
@@ -74,7 +74,7 @@ fn points_of(surface: &Surface) -> usize {
     count
 }
 
-/// How many points the rings of all surfaces have, or the greatest number where there are more.
+/// The number of points of the rings of all surfaces, at most `usize::MAX`.
 fn points_in(shell: &Shell) -> usize {
     let mut count: usize = 0;
     let surfaces = shell.as_slice();

@@ -3,7 +3,7 @@ use crate::command::{Cause, Reply};
 use crate::sequence::Sequence;
 use crate::text::Text;
 
-/// How a script ended. Numbers are those of commands, from 0: of the command that ended the script.
+/// How a script ended. A number is the place, from 0, of the command that ended it.
 #[derive(Drop)]
 pub enum Outcome {
     Committed,
@@ -23,7 +23,7 @@ pub struct End {
     pub name: Text,
     /// How many ends there were when the script began its last attempt.
     pub since: usize,
-    /// The replies to the commands before the one that ended the script.
+    /// The replies to the commands before the ending one.
     pub replies: Sequence<Reply>,
     pub outcome: Outcome,
 }

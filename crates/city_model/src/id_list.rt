@@ -65,8 +65,8 @@ pub fn is_same_id(id: &Id, other: &Id) -> bool
     end_alike(id, other) && id.cmp(other).is_eq()
 }
 
-/// Whether two ids have the same last two bytes, or one of them has fewer. Only the time depends on it
-/// where the ids differ.
+/// Whether two ids have the same last two bytes, or one of them has fewer. For different ids, only
+/// the time depends on it.
 fn end_alike(id: &Id, other: &Id) -> bool
     ensures { id.now ≡ other.now → IsTrue result }
 {
@@ -78,7 +78,7 @@ fn end_alike(id: &Id, other: &Id) -> bool
     }
 }
 
-/// Whether the id is one of these, which are read once. Doesn't allocate.
+/// Whether the id is one of these. Reads them once. Doesn't allocate.
 pub fn is_among(ids: Ids<'_>, id: &Id) -> bool
     ensures { result ≡ has_id (ids_left ids.entry) id.now }
 {
@@ -90,8 +90,7 @@ pub fn is_among(ids: Ids<'_>, id: &Id) -> bool
     false
 }
 
-/// A binary search. In a list that isn't in byte order it may miss an id, but it finds
-/// none that isn't there.
+/// A binary search. In a list out of byte order it may miss an id, but finds no absent one.
 pub(crate) fn is_found_by_binary_search(ids: &[Id], id: &Id) -> bool
     ensures { IsTrue result → IsTrue (has_id ids.now id.now) }
 {
@@ -103,7 +102,7 @@ pub(crate) fn is_found_by_binary_search(ids: &[Id], id: &Id) -> bool
 
 /// Whether no id is there twice. Doesn't allocate.
 ///
-/// Ids in byte order are read once; in any other order each id is looked for among those after it.
+/// Ids in byte order are read once; in any other order each id is sought among the ids after it.
 pub fn are_distinct(ids: Ids<'_>) -> bool
     ensures { result ≡ are_distinct (ids_left ids.entry) }
 {
@@ -128,7 +127,7 @@ pub fn are_increasing(ids: Ids<'_>) -> bool
     true
 }
 
-/// Whether no id is among those after it.
+/// Whether no id is among the ids after it.
 fn none_recurs(ids: Ids<'_>) -> bool
     ensures { result ≡ are_distinct (ids_left ids.entry) }
 {

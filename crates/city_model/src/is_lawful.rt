@@ -12,7 +12,7 @@ use crate::object::Body;
 use crate::relations::relations_fault;
 use std::alloc::Global;
 
-/// Whether every object is in order, none is an orphan, and no body has a fault. It fails only when
+/// Whether every object is in order, none is an orphan, and no body has a fault. Fails only when
 /// out of memory, and only if no relation is at fault: judging relations doesn't allocate.
 pub fn is_lawful(alloc: Global, city: &City) -> Result<bool, OutOfMemory>
     ensures lawful { IfOk result (λ b. IsTrue b → IsLawful (object_at city.now.1)) }
@@ -28,7 +28,7 @@ pub fn is_lawful(alloc: Global, city: &City) -> Result<bool, OutOfMemory>
     }
 }
 
-/// Whether no body of the city has a fault. It fails only when out of memory.
+/// Whether no body of the city has a fault. Fails only when out of memory.
 fn is_faultless(alloc: Global, city: &City) -> Result<bool, OutOfMemory>
     ensures faultless { IfOk result (λ b. IsTrue b → IsFaultless (object_at city.now.1)) }
     ensures only_then { IfOk result (λ b. IsFaultless (object_at city.now.1) → IsTrue b) }

@@ -1,4 +1,4 @@
-//! The members of a document that are kept in their places without being read.
+//! The members of a document kept in their places without being read.
 
 pub mod extra;
 pub mod member_list;

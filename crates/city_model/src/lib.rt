@@ -1,15 +1,15 @@
 //! The city model: its types, its rules and the meaning of each command.
 //!
-//! - `object`, `object_type`, `frame`, `city`: what a city is made of
-//! - `shared`, `shared_ids`: what copies share
-//! - `shape`: what bounds a shape of any type
-//! - `text`, `sequence`, `copied`: texts that contracts see as bytes, lists that they see as items, copies
-//! - `kept`, `members`, `integral`: members that are kept unread, as JSON trees
+//! - `object`, `object_type`, `frame`, `city`: the parts of a city
+//! - `shared`, `shared_ids`: values shared by copies
+//! - `shape`: the boundaries of a shape of any type
+//! - `text`, `sequence`, `copied`: texts as bytes for contracts, lists as items, copies
+//! - `kept`, `members`, `integral`: members kept unread, as JSON trees
 //! - `attributes`, `same_value`: attributes set, taken out and compared
-//! - `rings`, `edges`, `shells`, `body_fault`: what is wrong with a body
-//! - `id_list`, `relations`, `orphans`, `is_lawful`: what is wrong with a city
-//! - `command`, `script`: what is asked of a city
-//! - `plan`, `change`, `end`: the plan of a command, what a commit writes, how a script ended
+//! - `rings`, `edges`, `shells`, `body_fault`: the faults of a body
+//! - `id_list`, `relations`, `orphans`, `is_lawful`: the faults of a city
+//! - `command`, `script`: requests to a city
+//! - `plan`, `change`, `end`: the plan of a command, the writes of a commit, the end of a script
 #![tactic(auto)]
 
 pub mod attributes;

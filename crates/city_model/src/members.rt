@@ -23,7 +23,7 @@ pub fn take(members: &mut Map<String, Value>, name: &str) -> Option<Value>
     members.remove(name)
 }
 
-/// The members of an object, which is consumed.
+/// The members of an object. Consumes it.
 pub fn into_object(value: Value) -> Option<Map<String, Value>>
     ensures { option_map (λ m. members_view m.entries) result ≡ as_object (view value) }
 {

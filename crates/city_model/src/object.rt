@@ -30,7 +30,7 @@ pub type Shell = Sequence<Surface>;
 /// An exterior shell, then interior ones.
 pub type Solid = Sequence<Shell>;
 
-/// The type of a geometry, with what bounds it (CityJSON 2.0, section 3.2).
+/// The type of a geometry, with its boundaries (CityJSON 2.0, section 3.2).
 #[derive(Drop)]
 pub enum Shape {
     MultiSurface(Sequence<Surface>),
@@ -53,7 +53,7 @@ pub struct Geometry {
 /// attributes writes the object anew.
 pub type Geometries = Shared<Sequence<Geometry>>;
 
-/// What a put gives of an object: all but its relations.
+/// All of an object but its relations, as a put gives it.
 #[derive(Drop)]
 pub struct Body {
     pub kind: ObjectType,

@@ -1,4 +1,4 @@
-//! Objects that lack the parent that their type asks for.
+//! Objects without the parent required by their type.
 ghost use Rattle.std.specs.Prelude.{◌≡◌, IfSome, IfNone};
 ghost use Rattle.city_model.specs.CityMap.{object_at};
 ghost use Rattle.city_model.specs.Relations.{is_orphan, is_orphan_there, HasNoOrphan, IsLeastOrphan};
@@ -17,7 +17,7 @@ pub fn is_orphan(object: &Object) -> bool
     level(object.body.get().kind) == 2 && object.parents.is_empty()
 }
 
-/// The least id of an orphan, in byte order; none where no object is one. Doesn't allocate.
+/// The least id of an orphan, in byte order; `None` if no object is one. Doesn't allocate.
 pub fn least_orphan(city: &City) -> Option<&Id>
     ensures least { IfSome result (λ id. IsLeastOrphan (object_at city.now.1) id.now) }
     ensures none { IfNone result (HasNoOrphan (object_at city.now.1)) }
@@ -30,8 +30,8 @@ pub fn least_orphan(city: &City) -> Option<&Id>
     None
 }
 
-/// The least id of an orphan among the objects that a change sets, in byte order; none where no object is one. Doesn't
-/// allocate.
+/// The least id, in byte order, of an orphan among the objects set by a change; `None` if no object
+/// is one. Doesn't allocate.
 pub fn least_orphan_in(change: &Change) -> Option<&Id>
     ensures least { IfSome result (λ id. IsLeastOrphan (set_by change.now) id.now) }
     ensures none { IfNone result (HasNoOrphan (set_by change.now)) }

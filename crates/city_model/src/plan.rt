@@ -1,4 +1,4 @@
-//! The plan of a command: its reply, and what it writes.
+//! The plan of a command: its reply, and its writes.
 ghost use Rattle.std.specs.Prelude.{◌≡◌, false, IfOk};
 ghost use Rattle.city_model.specs.FrameLaw.{FrameLaw};
 ghost use Rattle.city_model.specs.internal.Plans.{IsPlan};
@@ -35,12 +35,12 @@ pub enum Plan {
     Writes(Reply, Writes),
 }
 
-/// The plan, at a sound city, of a command that neither ends its script nor is about
-/// marks. Nothing is written.
+/// The plan, at a sound city, of a command other than marks, going back and ends. Nothing is
+/// written.
 ///
-/// It copies the objects that the command returns or changes, and fails only when out of
-/// memory. The same plan is right for each other sound city that agrees with this one on the
-/// ids that the command locks.
+/// It copies the objects that the command returns or changes. Fails only when out of memory. The
+/// same plan is right for each other sound city with the same objects at the ids locked by the
+/// command.
 #[tactic(auto, using(crate::proofs::FrameLaw::frame_law))]
 pub fn plan_of<V: ObjectLookup>(alloc: Global, view: &V, command: &Command) -> Result<Plan, OutOfMemory>
     requires no_end { is_end command.now ≡ false }

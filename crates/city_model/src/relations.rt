@@ -14,12 +14,12 @@ use crate::object_type::{self, ObjectType, family, level};
 use crate::orphans::is_orphan;
 use crate::text::Id;
 
-/// The least id, in byte order, of an object that isn't in order or is an orphan; none where all
-/// relations agree. Doesn't allocate.
+/// The least id, in byte order, of an object out of order or of an orphan; `None` if all relations
+/// agree. Doesn't allocate.
 ///
 /// Each parent and each child is looked up once, and one list of it is searched. A list in byte
-/// order is read once for repeats, and gets a binary search; any other list of n ids takes up to
-/// n² / 2 comparisons.
+/// order is read once for repeats, and gets a binary search; any other list of n ids takes up to n²
+/// / 2 comparisons.
 pub fn relations_fault(city: &City) -> Option<&Id>
     ensures fault { IfSome result (λ id. IsLeastMisrelated (object_at city.now.1) id.now) }
     ensures none { IfNone result (IsRelated (object_at city.now.1)) }

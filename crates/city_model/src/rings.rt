@@ -1,4 +1,4 @@
-//! What is wrong with a ring (CityJSON 2.0, section 3.2).
+//! The faults of a ring (CityJSON 2.0, section 3.2).
 ghost use Rattle.std.specs.Prelude.{◌≡◌};
 ghost use Rattle.std.specs.List.{list_any};
 ghost use Rattle.city_model.specs.Shells.{is_short_ring, is_short_surface, has_same_neighbours};
@@ -7,7 +7,7 @@ ghost use Rattle.city_model.specs.internal.RingFaults.{is_faulty, has_ring_fault
 use crate::object::{Ring, Shape, Shell, Solid, Surface};
 use crate::shape::Bounds;
 
-/// What may be wrong with the rings of a surface.
+/// A fault of the rings of a surface.
 #[derive(Clone, Copy)]
 pub(crate) enum RingFault {
     /// There is no ring, or one of fewer than three points.

@@ -5,8 +5,8 @@ ghost use Rattle.city_model.specs.Attributes.{same_number, same_value, same_item
 
 use serde_json::{Map, Number, Value};
 
-/// Whether two JSON values are equal: objects by their members, whatever the order that they were
-/// written in, and numbers as whole numbers. Doesn't allocate.
+/// Whether two JSON values are equal: objects by their members, in whatever order they were
+/// written, and numbers as whole numbers. Doesn't allocate.
 #[cycle(same)]
 pub fn same_value(value: &Value, other: &Value) -> bool
     ensures { result ≡ same_value (view value.now) (view other.now) }

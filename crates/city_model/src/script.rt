@@ -1,4 +1,4 @@
-//! A script: a list of commands that is run as one transaction.
+//! A script: a list of commands, run as one transaction.
 ghost use Rattle.std.specs.Prelude.{◌≡◌, ◌<◌, true, IfOk, IfErr, is_ok, length, take, List, ℕ};
 ghost use Rattle.city_model.specs.CityMap.{CityMap};
 ghost use Rattle.city_model.specs.Marks.{Snapshot, unmarked, IsSoundView};
@@ -13,7 +13,7 @@ use crate::sequence::Sequence;
 use crate::text::Text;
 use std::marker::Model;
 
-/// A name and commands, of which exactly the last is Commit or Abort.
+/// A name and commands; exactly the last command is `Commit` or `Abort`.
 #[derive(Drop)]
 pub struct Script {
     name: Text,
@@ -60,11 +60,11 @@ impl Script {
         &self.name
     }
 
-    /// The script's commands, the last of which ends it. Doesn't allocate.
+    /// The script's commands; the last one ends it. Doesn't allocate.
     ///
-    /// All but the last are answered, whatever the city is. On a sound city they leave a sound city, and
-    /// the city at each mark is sound; and so do the first n of them. They read and write only what they
-    /// lock.
+    /// All but the last are answered, whatever the city is. On a sound city they leave a sound
+    /// city, and the city at each mark is sound; and so do the first n of them. They read and write
+    /// only locked ids.
     pub fn commands(&self) -> &[Command]
         ensures commands { result.now ≡ self.now.1 }
         ensures ends { ends_once self.now.1 ≡ true }

@@ -1,4 +1,4 @@
-//! A list that contracts see as its items.
+//! A list, with its items as its value for contracts.
 ghost use Rattle.std.specs.Prelude.{◌≡◌, [], ◌∷◌, ◌++◌, length, option_to_list, IfNone, IfOk, IfErr, OnOk, OnErr};
 
 use crate::OutOfMemory;
@@ -29,7 +29,7 @@ impl<T> Sequence<T> {
         }
     }
 
-    /// A list of no items, with room for as many as are named. It fails only when out of memory.
+    /// A list of no items, with room for as many as are named. Fails only when out of memory.
     pub fn with_capacity(alloc: Global, room: usize) -> Result<Self, OutOfMemory>
         ensures { IfOk result (λ s. s ≡ []) }
     {
@@ -37,7 +37,7 @@ impl<T> Sequence<T> {
         Ok(Sequence { items })
     }
 
-    /// The list of a vector's items, which it takes over. Doesn't allocate.
+    /// The list of a vector's items. Takes the vector over. Doesn't allocate.
     pub fn from_vec(items: Vec<T>) -> Self
         ensures { result ≡ items.items }
     {

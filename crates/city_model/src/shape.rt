@@ -1,14 +1,14 @@
-//! What bounds a shape, whatever its type.
+//! The boundaries of a shape, whatever its type.
 ghost use Rattle.std.specs.Prelude.{◌≡◌};
 ghost use Rattle.city_model.specs.internal.BorrowedBounds.{boundaries_of, bounds_view};
 
 use crate::object::{Shape, Shell, Solid, Surface};
 use crate::sequence::Sequence;
 
-/// What bounds a shape, borrowed from it.
+/// The boundaries of a shape, borrowed from it.
 #[derive(Clone, Copy)]
 pub enum Bounds<'a> {
-    /// Surfaces that needn't close.
+    /// Surfaces; they needn't close.
     Surfaces(&'a Sequence<Surface>),
     /// The shells of one solid.
     Shells(&'a Sequence<Shell>),
@@ -16,7 +16,7 @@ pub enum Bounds<'a> {
 }
 
 impl Shape {
-    /// What bounds the shape. Doesn't allocate.
+    /// The boundaries of the shape. Doesn't allocate.
     pub fn bounds(&self) -> Bounds<'_>
         ensures { bounds_view result ≡ boundaries_of self.now }
     {

@@ -1,4 +1,4 @@
-//! A value that copies of it share.
+//! A value shared by its copies.
 ghost use Rattle.std.specs.Prelude.{◌≡◌, IfOk};
 
 use crate::OutOfMemory;
@@ -13,8 +13,8 @@ enum Storage<T> {
     Shared(Arc<T>),
 }
 
-/// A value, which its copies share: a body or its geometries may be long, and each command that edits an
-/// object writes the object anew.
+/// A value, shared by its copies: a body or its geometries may be long, and each edit of an object
+/// writes the object anew.
 #[derive(Drop)]
 pub struct Shared<T> {
     storage: Storage<T>,
@@ -29,7 +29,7 @@ impl<T> Model for Shared<T> {
 }
 
 impl<T> Shared<T> {
-    /// The value, for all copies to share. It fails only when out of memory.
+    /// The value, for all copies to share. Fails only when out of memory.
     pub fn new(alloc: Global, value: T) -> Result<Self, OutOfMemory>
     where
         T: Drop,
@@ -59,7 +59,7 @@ impl<T> Shared<T> {
         }
     }
 
-    /// The value, taken out where it stands by itself, and else a copy. It fails only when out of memory.
+    /// The value itself, if it stands alone, or else a copy. Fails only when out of memory.
     pub fn into_owned(self, alloc: Global) -> Result<T, OutOfMemory>
     where
         T: Copied + Drop,

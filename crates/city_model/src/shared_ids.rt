@@ -1,4 +1,4 @@
-//! The parents or the children of an object: a list of ids whose copies share them.
+//! The parents or the children of an object: a list of ids, shared by its copies.
 ghost use Rattle.std.specs.Prelude.{◌≡◌, [], ◌∷◌, ◌++◌, ◌==◌, ◌<◌, suc, take, drop, false, flat_map, length, IfOk, IfSome, IfNone, OnOk, OnErr};
 ghost use Rattle.std.specs.Arc.{arc_value};
 ghost use Rattle.city_model.specs.CityMap.{has_id};
@@ -20,7 +20,7 @@ use std::sync::Arc;
 /// more holder for each: with four times as many ids a change costs more, with a quarter a copy does.
 const CHUNK_LENGTH: usize = 16;
 
-/// Ids that lists share.
+/// Ids shared by lists.
 pub(crate) type Chunk = Arc<Sequence<Id>>;
 
 /// A list of ids, in chunks. A copy shares the chunks, and a change copies one of them: a building
@@ -49,7 +49,7 @@ impl SharedIds {
         }
     }
 
-    /// The list of these ids, which it takes over. It fails only when out of memory.
+    /// The list of these ids. Takes them over. Fails only when out of memory.
     pub fn from_sequence(alloc: Global, ids: Sequence<Id>) -> Result<Self, OutOfMemory>
         ensures { IfOk result (λ list. list ≡ ids) }
     {
@@ -115,7 +115,7 @@ impl SharedIds {
         }
     }
 
-    /// The ids but this one, in their order. It fails only when out of memory.
+    /// The ids but this one, in their order. Fails only when out of memory.
     ///
     /// It is looked for as `has` does, and the chunks without it are shared.
     pub fn without(&self, id: &Id) -> Result<SharedIds, OutOfMemory>
@@ -133,7 +133,7 @@ impl SharedIds {
     }
 }
 
-/// The place of a chunk that has the id, if one has it. Doesn't allocate.
+/// The place of a chunk with the id, if one has it. Doesn't allocate.
 fn chunk_with(chunks: &[Chunk], id: &Id) -> Option<usize>
     ensures some { IfSome result (HasIdAt chunks.now id.now) }
     ensures none { IfNone result (has_id (flat_map arc_value chunks.now) id.now ≡ false) }
@@ -150,7 +150,7 @@ fn chunk_with(chunks: &[Chunk], id: &Id) -> Option<usize>
     None
 }
 
-/// Puts these ids in the place of a chunk, which goes where there are none.
+/// Replaces a chunk by these ids, or removes it if there are none.
 fn replace(
     alloc: Global,
     chunks: &mut Vec<Chunk>,
@@ -177,8 +177,8 @@ fn starts_by(chunk: &Chunk, id: &Id) -> bool {
     }
 }
 
-/// Adds an id to a chunk, which is copied first where other lists share it. If memory runs out, the
-/// chunk stays as it was.
+/// Adds an id to a chunk. If other lists share the chunk, it is copied first. If memory runs out,
+/// the chunk stays as it was.
 fn push_to(alloc: Global, chunk: &mut Chunk, id: Id) -> Result<(), OutOfMemory>
     ensures ok { OnOk result (arc_value chunk.new ≡ arc_value chunk.old ++ id ∷ []) }
     ensures err { OnErr result (arc_value chunk.new ≡ arc_value chunk.old) }

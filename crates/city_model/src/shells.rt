@@ -11,7 +11,7 @@ use crate::object::{Shape, Shell, Solid};
 use crate::shape::Bounds;
 use std::alloc::Global;
 
-/// Whether an item is repeated, where the items are in order.
+/// Whether an item is repeated; the items are in order.
 fn has_repeats<T: Ord>(items: &[T]) -> bool
     requires { IsSorted T.cmp items.now }
     ensures { result ≡ not (list_all (occurs_once (eq_by_cmp T.cmp) items.now) items.now) }
@@ -25,7 +25,7 @@ fn has_repeats<T: Ord>(items: &[T]) -> bool
 }
 
 /// Whether each edge of the shell is run once each way. For n edges it takes time in proportion to
-/// n log n. It fails only when out of memory.
+/// n log n. Fails only when out of memory.
 pub fn shell_closed(alloc: Global, shell: &Shell) -> Result<bool, OutOfMemory>
     ensures { IfOk result (λ b. b ≡ is_closed shell.now) }
 {
@@ -36,7 +36,7 @@ pub fn shell_closed(alloc: Global, shell: &Shell) -> Result<bool, OutOfMemory>
     Ok(!has_repeats(up) && up == edges.down.as_slice())
 }
 
-/// Whether a shell of one of the shape's solids isn't closed. It fails only when out of memory.
+/// Whether a shell of one of the shape's solids isn't closed. Fails only when out of memory.
 pub fn has_open_shell(alloc: Global, shape: &Shape) -> Result<bool, OutOfMemory>
     ensures { IfOk result (λ b. b ≡ has_open_shell shape.now) }
 {

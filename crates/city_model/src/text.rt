@@ -1,4 +1,4 @@
-//! A text that contracts see as its bytes.
+//! A text, with its bytes as its value for contracts.
 ghost use Rattle.std.specs.Prelude.{◌≡◌, refl, nat_eq};
 ghost use Rattle.std.proofs.Common.{rules};
 ghost use Rattle.std.specs.Cmp.{partial_order_from_own_ties};
@@ -75,7 +75,7 @@ impl Display for Text {
 impl Text {
     ghost use Rattle.std.specs.Prelude.{string_bytes};
 
-    /// The text of a string, which it takes over. Doesn't allocate.
+    /// The text of a string. Takes the string over. Doesn't allocate.
     pub fn new(text: String) -> Self
         ensures { result ≡ string_bytes text }
     {

@@ -26,14 +26,14 @@ use Rattle.city_txn.specs.declared.step.Step.TheVariants as steps
 done_replied : (a : Answer) (r reply : Reply) → steps.Done r ≡ step_of a reply → reply ≡ r
 done_replied a r reply e = grind arith
 
--- a call by the transaction s, open or not, to do the command c, of a core that is seen as u
+-- a call by the transaction s, open or not, to do the command c; u is the core's state
 pub record Call (s : ℕ) (c : Command) (was_open : Bool) (a : Inside) (u : CoreState) : Type 0 where
   pub core : IsCore a
   pub known : core_state a ≡ u
   pub opened : is_open u s ≡ was_open
   pub no_end : is_end c ≡ false
 
--- what it leaves: a core again, and what it is to do
+-- after it: a core again, with the effect of the command
 pub record Acted (s : ℕ) (c : Command) (result : Result Step TxnFault) (u : CoreState) (b : Inside) : Type 0 where
   pub core : IsCore b
   pub acted : IsAct s c result u (core_state b)
@@ -45,7 +45,7 @@ module _ {s : ℕ} {c : Command} {was_open : Bool} {a : Inside} {u : CoreState} 
   abbrev v : CoreState
   v = core_state a
 
-  -- what the transaction sees, the locks that the command asks for, and its reply
+  -- the transaction's snapshot, the locks of the command, and its reply
   abbrev x : Snapshot
   x = snapshot v s
 
@@ -76,7 +76,7 @@ module _ {s : ℕ} {c : Command} {was_open : Bool} {a : Inside} {u : CoreState} 
         still_covered
     covered false all = still_covered
 
-    -- and the store is st, of which it touched what it holds exclusively
+    -- and the store is st, touched under exclusive locks only
     module _ (st : State) (touches : Touches s (holds ks) a.store st) where
       abbrev b : Inside
       b = record { store = st; locks = ks }
@@ -226,7 +226,7 @@ module _ {s : ℕ} {c : Command} {was_open : Bool} {a : Inside} {u : CoreState} 
         all : AllHeld (held_in ks s) ls
         all = subst (AllHeld (held_in ks s)) (all_granted a.locks s ls (sym ask.answer ∙ granted)) ask.held
 
-        -- no other than s has reserved an id that the locks name
+        -- no other than s has reserved an id of the locks
         pub may_perform : MayPerform a.store s c
         may_perform = record {
           sound = sound_view v s k.state;

@@ -1,4 +1,4 @@
--- What a store's value has at an id, from what its city and its images have there; a new store, and one at rest.
+-- The value of a store at an id, from its city and its images there; a new store, and one at rest.
 use Rattle.city_txn.proofs.Prelude.{arith, ◌≡◌, ◌==◌, ℕ, List, [], ◌∷◌, true, false, Option, None, Some, refl, ap, sym}
 use Rattle.city_txn.proofs.Prelude.{◌∙◌, ◌||◌, keys_of, nat_cmp, slice_cmp, is_at, list_any, false≢true, eq-eqb, Object}
 use Rattle.city_txn.proofs.Prelude.{object_at, has_id, same_id, same_id_true, UndoImage, Inside, committed_at, write_at}
@@ -22,11 +22,11 @@ use Rattle.city_txn.specs.internal.Images.{is_orphan_written}
 use Rattle.city_txn.specs.internal.InPlace.{IsPlain}
 use Rattle.city_txn.specs.internal.UndoState.{Images}
 
--- the test of a map's keys is that of numbers
+-- a map's keys are tested as numbers are
 pub tied : (s t : ℕ) → is_at (nat_cmp s) t ≡ (s == t)
 tied s t = unsigned_tied s t
 
--- ---- lists that are made of lists
+-- ---- lists made of lists
 
 abbrev pub through : {X Y : Type 0} → (X → Option Y) → Option X → Option Y
 through f None = None
@@ -44,7 +44,7 @@ at_made f (e ∷ es) q s =
     let is = same_id_true q e.0 in
     grind arith
 
--- and ascend where those do
+-- and ascend if they do
 above_made : {X Y : Type 0} (f : List ℕ → X → Option Y) (k : List ℕ) (es : List (List ℕ × X))
     → AllByRecursion (λ j. slice_cmp nat_cmp k j ≡ Less) (keys_of es)
     → AllByRecursion (λ j. slice_cmp nat_cmp k j ≡ Less) (keys_of (made_by f es))
@@ -61,7 +61,7 @@ sorted_made f (e ∷ es) s =
 
 -- ---- the value at an id
 
--- what the one city has
+-- the object in the one city
 abbrev pub here : Inside → List ℕ → Option Object
 here a q = object_at a.city.1 q
 
@@ -87,7 +87,7 @@ module _ (a : Inside) (k : IsInPlace a) (q : List ℕ) where
       → store_view (state_of a) s q ≡ own_or s (write_at (here a q) (image a q)) (committed_at (here a q) (image a q))
   view_is s = λ i. own_or s (writes_is i) (city_is i)
 
--- and of a store that is seen as v, whose image there is o
+-- and of a store with the state v and the image o there
 module _ (a : Inside) (k : IsInPlace a) {v : State} (seen : state_of a ≡ v) (q : List ℕ) {o : Option UndoImage}
     (is : o ≡ image a q) (s : ℕ) where
   pub by_seen : is_by s (write_at (here a q) o) ≡ is_by s (write_of v.writes q)
@@ -96,7 +96,7 @@ module _ (a : Inside) (k : IsInPlace a) {v : State} (seen : state_of a ≡ v) (q
   pub view_seen : own_or s (write_at (here a q) o) (committed_at (here a q) o) ≡ store_view v s q
   view_seen = let was = view_is a k q s in grind arith
 
--- ---- orphans that may have been written
+-- ---- orphans maybe written
 
 pub plain_at : {may : Bool} (city : CityValue) (images : Images) → IsPlain may city images → may ≡ false → (q : List ℕ)
     → is_orphan_written (write_at (object_at city.1 q) (image_at images q)) ≡ false
@@ -108,7 +108,7 @@ pub plain_by : {may : Bool} (city : CityValue) (images : Images) → (may ≡ fa
 unfolding IsPlain
 plain_by city images p = p
 
--- what stands at an id is one of two
+-- one of two objects stands at an id
 pub one_of_plain : (b : Bool) (x y : Option Object) {z : Option Object} (i j : Option UndoImage) {k : Option UndoImage} → z ≡ (if b then x else y)
     → k ≡ (if b then i else j) → is_orphan_written (write_at x i) ≡ false → is_orphan_written (write_at y j) ≡ false
     → is_orphan_written (write_at z k) ≡ false
@@ -132,7 +132,7 @@ pub unwritten : (i : Option UndoImage) → ((s : ℕ) → is_writer s (writer_of
 unwritten None h = refl
 unwritten (Some i) h = absurd (false≢true (sym (h i.by) ∙ eq-eqb i.by i.by refl))
 
--- where nobody is open the city is as it stands
+-- if no transaction is open, the city is as it stands
 pub idle_city : (a : Inside) → IsInPlace a → a.undo.reservations.entries ≡ [] → (state_of a).city ≡ a.city.1
 idle_city a k shut = same_objects (state_of a).city a.city.1 (λ i q. (city_is a k q
     ∙ ap (committed_at (here a q)) (unwritten (image a q)
@@ -149,7 +149,7 @@ new_state a none shut unlogged = λ i. record {
   logs = unlogged i;
 }
 
--- where no stamp is open there is none
+-- if no stamp is open, the list is empty
 pub none_open : {X : Type 0} (es : List (ℕ × X)) → ((t : ℕ) → list_any (λ s. t == s) (keys_of es) ≡ false) → es ≡ []
 none_open [] h = refl
 none_open (e ∷ es) h =

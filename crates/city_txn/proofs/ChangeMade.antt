@@ -1,4 +1,4 @@
--- What a transaction wrote, listed as a change, makes its view of the committed map.
+-- The writes of a transaction, listed as a change, make its view of the committed map.
 use Rattle.city_txn.proofs.Prelude.{arith, ◌≡◌, ℕ, ◌+◌, ◌<◌, List, [], ◌∷◌, length, take, get_or, Bool, true, false}
 use Rattle.city_txn.proofs.Prelude.{Option, None, Some, refl, ap, sym, ◌∙◌, subst, if◌then◌else◌, unwrap_or, keys_of}
 use Rattle.city_txn.proofs.Prelude.{slice_cmp, is_at, is_some-lookup, list_any, false≢true, IsStrictlySortedBy, Object}
@@ -24,7 +24,7 @@ noted_more f x y ids i id lt is before step q =
     let more = has_id_more ids i id q lt is in let was = before q in let now = step q in let at = same_id_true id q in
     grind arith
 
--- ---- what a transaction wrote, from what it sees
+-- ---- a transaction's writes, from its view
 
 pub own_none : (s : ℕ) (w : Option Write) → is_by s w ≡ false → own_write s w ≡ None
 own_none s w h = grind arith
@@ -39,13 +39,13 @@ pub any_none : (p : List ℕ → Bool) (ids : List (List ℕ)) → ((q : List �
 any_none p [] h = refl
 any_none p (x ∷ xs) h = rw (h x) (any_none p xs h)
 
--- what holds of none holds of no one of them
+-- a test true of none is false at each
 none_at : (p : List ℕ → Bool) (ids : List (List ℕ)) (q : List ℕ) → list_any p ids ≡ false → has_id ids q ≡ true
     → p q ≡ false
 none_at p [] q h k = absurd (false≢true k)
 none_at p (x ∷ xs) q h k = let rest = none_at p xs q in grind (arith, same_id_true)
 
--- the store is seen as v, and has these ids reserved for s: it wrote no others
+-- the store has the state v, and these ids are reserved for s: it wrote no others
 module _ (a : Inside) (k : IsInPlace a) (v : State) (seen : state_of a ≡ v) (s : ℕ) (ids : List (List ℕ))
     (all : ids ≡ reservations_of a.undo.reservations.entries s) where
   unlisted : (q : List ℕ) → has_id ids q ≡ false → store_own v s q ≡ None
@@ -62,7 +62,7 @@ module _ (a : Inside) (k : IsInPlace a) (v : State) (seen : state_of a ≡ v) (s
       let none = unlisted q in let there = none_at (λ id. is_orphan_there (store_view v s id)) ids q h in
       grind arith
 
--- where no orphan may have been written, no transaction wrote one
+-- if no orphan may have been written, no transaction wrote one
 pub none_written : (a : Inside) → IsInPlace a → (v : State) → state_of a ≡ v → (s : ℕ) → a.may_have_orphan ≡ false
     → HasNoOrphan (λ q. unwrap_or (store_own v s q) None)
 none_written a k v seen s h q o is =
@@ -91,7 +91,7 @@ over_cases : {A : Type 0} (x : Option (Option Object)) (y : Option Object) (o : 
 over_cases None y o h f g = g h
 over_cases (Some w) y o h f g = f h
 
--- the change has what the transaction wrote, in byte order; no object of the committed map is an orphan
+-- the change has the transaction's writes, in byte order; no object of the committed map is an orphan
 module _ (v : CoreState) (s : ℕ) (c : Change) (lists : (q : List ℕ) → write_in c q ≡ own_write s (write_of v.writes q))
     (sorted : IsStrictlySortedBy (slice_cmp nat_cmp) (keys_of c)) (none : HasNoOrphan (committed v)) where
   view_over : (q : List ℕ) → view v s q ≡ unwrap_or (write_in c q) (committed v q)

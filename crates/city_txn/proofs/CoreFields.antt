@@ -1,4 +1,4 @@
--- From one core to another: what is seen and what stays of the others; and a core by its fields, new, with one more
+-- From one core to another: the snapshots, and the others' state; and a core by its fields, new, with one more
 -- transaction open, and with one over.
 use Rattle.city_txn.proofs.Prelude.{arith, ◌≡◌, ◌==◌, ℕ, List, Bool, true, false, is_some, ap, sym, ◌∙◌, subst, ◌||◌}
 use Rattle.city_txn.proofs.Prelude.{[], refl, rules, tests, None, Some, if◌then◌else◌, false≢true, eq-eqb}
@@ -18,7 +18,7 @@ use Rattle.city_txn.specs.internal.Core.{kept, nothing, written_of, Stands, IsKe
 use Rattle.city_txn.proofs.SeenWrites.{seen_with, seen_same, own_or_is, own_left, view_carried}
 use Rattle.city_txn.proofs.AtOneId.{tied}
 
--- everything that is seen is sound
+-- each snapshot is sound
 pub sound_seen : (v : CoreState) (s : ℕ) → IsConsistent v → IsSoundView (snapshot v s)
 sound_seen v s c =
     subst IsSoundView (sym (seen_with v s))
@@ -35,7 +35,7 @@ open_only v c t q h = bool_cases (is_open v t)
     (λ e. e)
     (λ e. absurd (false≢true (sym (ap (λ (k : Kept). is_some (k.held q)) ((c.each t).shut e)) ∙ h)))
 
--- what is kept of a transaction that did nothing
+-- the state of a transaction that did nothing
 pub kept_nothing : (m : CityMap) (opened : Bool) → IsKept m (nothing opened)
 kept_nothing m opened = grind arith
 
@@ -50,7 +50,7 @@ from_kept v t done f = grind arith
 pub at_stamp : (P : ℕ → Type 0) (s : ℕ) → P s → ((t : ℕ) → (s == t) ≡ false → P t) → (t : ℕ) → P t
 at_stamp P s here beside t = grind arith
 
--- what is kept of the others stays, and their commands stand
+-- the others' state stays, and their commands stand
 pub record LeavesOthers (s : ℕ) (v w : CoreState) : Type 0 where
   pub frame : w.frame ≡ v.frame
   pub beside : (t : ℕ) → (s == t) ≡ false → kept w t ≡ kept v t
@@ -58,7 +58,7 @@ pub record LeavesOthers (s : ℕ) (v w : CoreState) : Type 0 where
       → Stands (committed w) (kept v t) done
 
 module _ (s : ℕ) (v w : CoreState) where
-  -- they stand where the committed city stays
+  -- they stand if the committed city stays
   pub leaves_others : w.frame ≡ v.frame → committed w ≡ committed v
       → ((t : ℕ) → (s == t) ≡ false → kept w t ≡ kept v t) → LeavesOthers s v w
   leaves_others frame city beside = grind arith
@@ -88,7 +88,7 @@ module _ (s : ℕ) (v w : CoreState) where
           }));
     }
 
--- ---- which stamps are open
+-- ---- open stamps
 
 pub open_is : (a : Inside) (s : ℕ) → is_open (core_state a) s ≡ is_begun a.store s
 open_is a s = grind (arith, tied, is_some-lookup)
@@ -116,7 +116,7 @@ pub record Begun (s : ℕ) (v : CoreState) (b : Inside) : Type 0 where
   pub own : StandsUnderLocks (core_state b) s []
   pub keeps : KeepsOthers s v (core_state b)
 
--- what is kept of a transaction that is over or isn't
+-- the state of a transaction that is over, or unchanged
 abbrev left_over : Bool → Kept → Kept
 left_over over k = record {
   own = λ q. if over then None else k.own q;
@@ -207,7 +207,7 @@ module _ {a : Inside} (k : IsCore a) (s : ℕ) (st : State) where
     -- ---- a commit
 
     module _ (city : committed w ≡ view v s) where
-      -- where another holds anything, s wrote nothing
+      -- at an id locked by another, s wrote nothing
       agree : (t : ℕ) → (s == t) ≡ false → (q : List ℕ) → is_some (held v t q) ≡ true → committed v q ≡ committed w q
       agree t ne q h =
           let mine = (k.state.each s).covered.own q in

@@ -41,7 +41,7 @@ placed s id o has b key place at_key at_place frame set i is frame_kept kept ima
   ordered = λ h. ordered;
 }
 
--- the image that the id had is kept in the new one
+-- the id's old image is kept in the new one
 pub kept_over : (s : ℕ) (id : List ℕ) (o : Option Object) (old : UndoImage) {a c : CityValue} {m n k : Images}
     → image_at m id ≡ Some old
     → Became (same_id id) (λ q. Some (unwrap_or o placeholder))
@@ -70,7 +70,7 @@ first_taken_back s id o x none add back = grind (arith, same_id_true)
 
 -- ---- a store of these
 
--- what is left of the store where s has newly reserved the id and written x there, if it has
+-- the store after s has newly reserved the id and written x there, if it has
 pub record FirstWritten (v : State) (b : Inside) (has : Bool) (s : ℕ) (id : List ℕ) (x : Option Object) : Type 0 where
   pub in_place : IsInPlace b
   pub touches : Touches s (same_id id) v (state_of b)
@@ -137,7 +137,7 @@ module _ (a : Inside) (k : IsInPlace a) {v : State} (seen : state_of a ≡ v) (s
     logs = refl;
   })
 
--- the same where the id was reserved before
+-- the same if the id was reserved before
 rewritten : (v : State) (b : Inside) (has : Bool) (s : ℕ) (id : List ℕ) (x : Option Object) (w : Option Write)
     → OwnWritten v b s id w
     → ((q : List ℕ) → (if same_id id q then w else write_of v.writes q)

@@ -25,27 +25,27 @@ went_as : (x : Snapshot) (c : Command) (a : Action) → IsKindOf c a → reply_o
     → (is_mark c ≡ true) × (locks_of x.map c ≡ [])
 went_as x c a k e = grind arith
 
--- a command that goes back locks nothing
+-- a command with the reply WentBack locks nothing
 pub went_back : (x : Snapshot) (c : Command) → answer x c ≡ WentBack → (is_mark c ≡ true) × (locks_of x.map c ≡ [])
 went_back x c e = went_as x c (action x.map c) (kind_of x.map c) e
 
 not_back : (x : Snapshot) (c : Command) → is_mark c ≡ false → answer x c ≡ WentBack → ⊥
 not_back x c leaves e = false≢true (sym leaves ∙ (went_back x c e).0)
 
--- a command for which there is no memory writes nothing
+-- without memory a command writes nothing
 failed : {E : Type 0} (s : ℕ) (c : Command) (v w : State) → (answer (seen v s) c ≡ WentBack → ⊥)
     → store_written w s ≡ store_written v s → Touches s (locks_id_exclusively (locks_of (store_view v s) c)) v w
     → (result : Result Reply E) → IsErr result → IsPerform s c result v w
 failed s c v w not_back same touches result is_failed = grind arith
 
--- ---- going back, where the logs tell whether the mark is there
+-- ---- going back, if the logs have the mark or not
 
 module _ (s : ℕ) (name : List ℕ) (v : State) (logs : Logs) (is : logs ≡ v.logs) (there : Bool)
     (tells : there ≡ has_mark (log_of logs s) name) where
   there_is : has_mark (log_of v.logs s) name ≡ there
   there_is = ap (λ ls. has_mark (log_of ls s) name) (sym is) ∙ sym tells
 
-  -- the marks that are seen from the newest of the name on
+  -- the marks of the snapshot, from the newest of the name on
   seen_from : marks_from name (seen v s).marks
       ≡ marks_with (store_committed v) (marks_from name (store_written v s).1)
   seen_from = from_mapped (map_with (store_committed v)) name (store_written v s).1
@@ -71,7 +71,7 @@ module _ (s : ℕ) (name : List ℕ) (v : State) (logs : Logs) (is : logs ≡ v.
   back_performed w found at_mark touches =
       let there = mark_is_there (log_of v.logs s) (store_own v s) name (there_is ∙ found) in grind (arith, seen_from)
 
--- ---- a command that leaves marks
+-- ---- a command without effect on the marks
 
 module _ (s : ℕ) (c : Command) (v : State) where
   abbrev x : Snapshot
@@ -80,7 +80,7 @@ module _ (s : ℕ) (c : Command) (v : State) where
   abbrev locked : List ℕ → Bool
   locked = locks_id_exclusively (locks_of x.map c)
 
-  -- what its action gives
+  -- the reply of its action
   reply_as : (a : Action) → action x.map c ≡ a → reply_of (applied x a) ≡ answer x c
   reply_as a e = ap (λ k. reply_of (applied x k)) (sym e)
 

@@ -46,14 +46,14 @@ pub written_last : (ws : Change) (p : List ℕ × Option Object) (s : ℕ) (q : 
 written_last [] p s q x y is = let back = same_id_back p.0 q in grind arith
 written_last (w ∷ ws) p s q x y is = let rest = written_last ws p s q x y is in grind arith
 
--- of a plan that leads to f
+-- of a plan for f
 pub written_planned : (f : CityMap) (ws : Change) → AreOf f ws → (s : ℕ) (q : List ℕ) (x : Option Write)
     → written_with s (write_in ws q) x ≡ (if plans ws q then Some (s, f q) else x)
 written_planned f [] of s q x = refl
 written_planned f (w ∷ ws) of s q x =
     let rest = written_planned f ws of.1 s q x in let at = same_id_true q w.0 in let first = of.0 in grind arith
 
--- where each planned id is noted, what isn't noted stays as the transaction wrote it
+-- if each planned id is noted, the transaction's writes at ids not noted stay
 pub unnoted_stays : (ws : Change) (s : ℕ) (q : List ℕ) (noted : Bool) (x y : Option Write)
     → (plans ws q ≡ true → noted ≡ true) → noted ≡ false → y ≡ written_with s (write_in ws q) x
     → own_write s y ≡ own_write s x

@@ -1,4 +1,4 @@
--- The words that proofs of this crate share, from std, from the libraries and from its own definitions.
+-- The words shared by the proofs of this crate: from std, from the libraries and from its own definitions.
 pub use Rattle.std.proofs.Common.{Bool, List, None, Ok, Option, Result, Some, [], ap, arith, false, get_or}
 pub use Rattle.std.proofs.Common.{if◌then◌else◌, is_some, length, refl, rules, subst, sym, take, tests, true}
 pub use Rattle.std.proofs.Common.{unwrap_or, ℕ, ◌&&◌, ◌++◌, ◌+◌, ◌<◌, ◌==◌, ◌||◌, ◌∙◌, ◌∷◌, ◌≡◌}

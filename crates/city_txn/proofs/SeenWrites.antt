@@ -1,4 +1,4 @@
--- What a transaction sees, from what it wrote by now and at each of its marks.
+-- A transaction's snapshot, from its current writes and its writes at each mark.
 use Rattle.city_txn.proofs.Prelude.{arith, ◌≡◌, ◌==◌, ℕ, List, [], ◌∷◌, true, false, Option, None, Some, is_some}
 use Rattle.city_txn.proofs.Prelude.{refl, ap, sym, ◌∙◌, subst, if◌then◌else◌, unwrap_or, Command, Reply, Exclusive}
 use Rattle.city_txn.proofs.Prelude.{CityMap, Snapshot, has_id, marks_from, locks_of, IsSound, covers, locks_id_exclusively}
@@ -44,7 +44,7 @@ module _ (m : CityMap) (w : Written) (c : Command) (sound : IsSound (map_with m 
   abbrev x : Snapshot
   x = view_with m w
 
-  -- what an edit writes gives its map, since the others keep their objects
+  -- the writes of an edit give its map, since the others keep their objects
   edit_gives : (r : Reply) (ids : List (List ℕ)) (n : CityMap) → action x.map c ≡ Edits r ids n
       → map_with m (own_with w.0 ids n) ≡ n
   edit_gives r ids n e = let kept = λ (q : List ℕ). unwritten_stays x.map c r ids n q sound e in grind arith
@@ -58,7 +58,7 @@ module _ (m : CityMap) (w : Written) (c : Command) (sound : IsSound (map_with m 
   pub seen_written : view_with m (written_by (action x.map c) w) ≡ step x c
   seen_written = seen_as (action x.map c) refl
 
--- what was written by the command gives what is seen after it
+-- the writes of the command give the snapshot after it
 pub step_seen : (v w : CoreState) (s : ℕ) (c : Command) → IsSound (view v s) → committed w ≡ committed v
     → written w s ≡ written_by (action (view v s) c) (written v s) → snapshot w s ≡ step (snapshot v s) c
 step_seen v w s c sound city e =
@@ -68,7 +68,7 @@ step_seen v w s c sound city e =
     ∙ seen_written m (written v s) c (subst (λ (x : Snapshot). IsSound x.map) (seen_with v s) sound)
     ∙ ap (λ (x : Snapshot). step x c) (sym (seen_with v s))
 
--- ---- what is written is held exclusively
+-- ---- writes are under exclusive locks
 
 pub held_exclusively : (o : Option Mode) → covers o Exclusive ≡ true → o ≡ Some Exclusive
 held_exclusively o h = grind arith
@@ -86,7 +86,7 @@ module _ (held : Held) where
       → IsCovered held (own_with f ids n)
   edit_covered f ids n locked is q h = bool_cases (has_id ids q) (locked q) (λ e. is q (rw e at h))
 
-  -- what is written after a command is covered, where its locks are held
+  -- the writes after a command are covered, if its locks are held
   covered_as : (m : CityMap) (c : Command) (a : Action) (w : Written) → action m c ≡ a
       → ((q : List ℕ) → locks_id_exclusively (locks_of m c) q ≡ true → held q ≡ Some Exclusive)
       → IsWrittenUnder held w → IsWrittenUnder held (written_by a w)
@@ -112,7 +112,7 @@ module _ (held more : Held) (keeps : (q : List ℕ) → held q ≡ Some Exclusiv
   pub covered_still : (w : Written) → IsWrittenUnder held w → IsWrittenUnder more w
   covered_still w is = record { own = λ q h. keeps q (is.own q h); marks = all_covered w.1 is.marks }
 
--- ---- what is seen, carried to another committed map that agrees where something is held exclusively
+-- ---- a snapshot over another committed map, equal to it at the exclusive locks
 
 module _ (held : Held) (m n : CityMap) (agree : (q : List ℕ) → held q ≡ Some Exclusive → m q ≡ n q) where
   map_carried : (f : OwnWrites) → IsCovered held f → carried_map held n (map_with m f) ≡ map_with n f

@@ -1,5 +1,4 @@
--- A city and its undo images that changed at some ids, and the store that has them: an id written, or reserved, or a
--- transaction ended.
+-- A city and its undo images, changed at some ids, and their store: an id written, or reserved, or a transaction ended.
 use Rattle.city_txn.proofs.Prelude.{◌<◌, ◌+◌, length, take, get_or, arith, if◌then◌else◌, unwrap_or, ◌==◌, ◌&&◌, ◌||◌}
 use Rattle.city_txn.proofs.Prelude.{[], ◌∷◌, ◌++◌, ◌≡◌, ℕ, List, Bool, true, false, Option, None, Some, is_some, refl}
 use Rattle.city_txn.proofs.Prelude.{ap, sym, ◌∙◌, subst, false≢true, eq-eqb, list_any-append, has_id, object_at}
@@ -28,7 +27,7 @@ use Rattle.city_txn.specs.declared.ending.End.TheVariants.{Commit, RollBack}
 
 -- ---- a city and its images
 
--- what stands at each id after one was set
+-- the objects after one was set
 pub set_at : (objects new : Objects) (id : List ℕ) (x : Option Object)
     → object_at new ≡ changed (object_at objects) id x
     → (q : List ℕ) → object_at new q ≡ changed (object_at objects) id x q
@@ -43,7 +42,7 @@ pub one_more_ended : (end : End) {a b c : CityValue} {m n k : Images} (ids : Lis
 one_more_ended end ids i id lt is before one =
     let more = λ (q : List ℕ). has_id_more ids i id q lt is in grind (arith, same_id_true)
 
--- all that have an image ended, one after another
+-- all ids with an image ended, one after another
 pub none_ended : (end : End) (a : CityValue) (m : Images) → EndedBut end a a m m
 none_ended end a m = record { frame = refl; objects = λ q. grind arith; images = λ q h. refl }
 
@@ -73,7 +72,7 @@ all_ended end {m = m} {n} {k} ended empty same ordered =
       ordered = λ h. ordered;
     }
 
--- where these ids are all that have one
+-- if these are all the ids with an image
 pub ended_at : (end : End) (ids : List (List ℕ)) {a c : CityValue} {m k : Images}
     → ((q : List ℕ) → is_some (image_at m q) ≡ true → has_id ids q ≡ true)
     → Became (λ q. is_some (image_at m q)) (λ q. left_at_end end (object_at a.1 q) (image_at m q)) (λ q. None) a c m k
@@ -98,14 +97,14 @@ taken_back s id none add back = grind (arith, same_id_true)
 -- ---- a store of these
 
 module _ (b : Inside) (k : IsInPlace b) where
-  -- what is committed then
+  -- the committed city then
   committed_is : (m : CityMap) → ((q : List ℕ) → committed_at (here b q) (image b q) ≡ m q)
       → store_committed (state_of b) ≡ m
   committed_is m at = λ j q. (city_is b k q ∙ at q) j
 
 -- ---- one id written
 
--- what s wrote at an id that it has reserved became w; what is committed there stays, and who has reserved it
+-- the write of s at an id reserved by it became w; the committed object and the reservation stay
 pub record Rewrites (x : Option Object) (i : Option UndoImage) (y : Option Object) (j : Option UndoImage)
     (w : Option Write) : Type 0 where
   pub slot : is_some y ≡ true
@@ -113,7 +112,7 @@ pub record Rewrites (x : Option Object) (i : Option UndoImage) (y : Option Objec
   pub write : write_at y j ≡ w
   pub writer : writer_of j ≡ writer_of i
 
--- what is left of the store then
+-- the store then
 pub record OwnWritten (v : State) (b : Inside) (s : ℕ) (id : List ℕ) (w : Option Write) : Type 0 where
   pub in_place : IsInPlace b
   pub one : WritesOne id w v (state_of b)
@@ -157,7 +156,7 @@ own_written a k seen s id reserved city undo {x} {i} t reservations w may plain 
 
 -- ---- an id reserved
 
--- what is left of the store where s has newly reserved the id, if it has
+-- the store after s has newly reserved the id, if it has
 pub record Reserved (v : State) (b : Inside) (has : Bool) (s : ℕ) (id : List ℕ) : Type 0 where
   pub in_place : IsInPlace b
   pub touches : Touches s (same_id id) v (state_of b)
@@ -244,7 +243,7 @@ reserved_before a k seen s id may there =
     let mine = reserved_already a k seen s id may there s id in let itself = same_id_itself id in
     let stamp = eq-eqb s s refl in grind arith
 
--- ---- a stamp opened, which wasn't open
+-- ---- a stamp opened; it wasn't open before
 
 pub opened_in_place : (a : Inside) → IsInPlace a → {v : State} → state_of a ≡ v → (s : ℕ) → is_begun v s ≡ false
     → (u : Undo) → u.images ≡ a.undo.images
@@ -272,7 +271,7 @@ only_listed (Some i) h s listed is others =
     let by = is i.by in let own = is s in let other = others i.by in let itself = eq-eqb i.by i.by refl in
     let same = eqb-true s i.by in grind arith
 
--- where no other stamp is open than the one that is closed, all images are at its ids
+-- if only the stamp to close is open, all images are at its ids
 pub alone_listed : (a : Inside) → IsInPlace a → (s : ℕ) (ids : List (List ℕ)) {left : Reservations}
     → ids ≡ reservations_of a.undo.reservations.entries s
     → ((r : ℕ) → listed_by left r ≡ (if s == r then None else listed_by a.undo.reservations.entries r)) → left ≡ []

@@ -1,4 +1,4 @@
--- What a transaction touches of the store: step by step, and at more ids.
+-- The store touched by a transaction: step by step, and at more ids.
 use Rattle.city_txn.proofs.Prelude.{◌∷◌, Option, if◌then◌else◌, false, arith, rules, tests, ◌≡◌, ◌==◌, ◌||◌, ℕ, List}
 use Rattle.city_txn.proofs.Prelude.{Bool, true, refl, ap, ◌∙◌, has_id, Object, same_id_itself, Entry, BeforeImage}
 use Rattle.city_txn.proofs.Prelude.{State, is_reserved, ChangesWrites, Touches, reservations_of, Logs, log_of, write_of}
@@ -9,7 +9,7 @@ pub or_cases : (a b : Bool) {A : Type 0} → (a || b) ≡ true → (a ≡ true �
 or_cases true b h f g = f refl
 or_cases false b h f g = g h
 
--- ---- who is open and what is reserved, where neither changed
+-- ---- open stamps and reservations, if neither changed
 
 pub reserved_by : (v w : State) (s : ℕ) (q : List ℕ) → w.opened ≡ v.opened → is_reserved w s q ≡ is_reserved v s q
 reserved_by v w s q e = ap (λ o. has_id (reservations_of o s) q) e
@@ -39,7 +39,7 @@ module _ (s : ℕ) (ids : List ℕ → Bool) where
   pub touches_itself : (v : State) → Touches s ids v v
   touches_itself v = grind arith
 
--- its newest entry was taken out, which said what was written at an id
+-- its newest entry, an earlier write at an id, was taken out
 module _ (s : ℕ) (v : State) (ls : Logs) (e : Entry) (id : List ℕ) (own : Option (Option Object))
     (is : e ≡ BeforeImage id own)
     (entries : (t : ℕ) → log_of v.logs t ≡ (if s == t then e ∷ log_of ls t else log_of ls t)) where

@@ -1,4 +1,4 @@
--- Undo logs: what an entry changes, and what is seen of marks.
+-- Undo logs: the effect of an entry, and the marks of a snapshot.
 use Rattle.city_txn.proofs.Prelude.{arith, ◌≡◌, ◌||◌, ℕ, List, [], ◌∷◌, true, false, Option, refl, ap, sym, ◌∙◌, Bool}
 use Rattle.city_txn.proofs.Prelude.{list_any, false≢true, Object, same_id, same_id_true, bool_cases, Entry, BeforeImage}
 use Rattle.city_txn.proofs.Prelude.{marked, is_noted, has_mark}
@@ -12,7 +12,7 @@ use Rattle.city_txn.specs.internal.LogTests.{is_at_mark, newest_undone}
 
 -- ---- marks over other writes
 
--- marks stay where what changes is noted
+-- marks stay if each changed write is noted
 pub marked_same : (es : List Entry) (f g : OwnWrites) → ((q : List ℕ) → is_noted es q ≡ false → f q ≡ g q)
     → marked es f ≡ marked es g
 marked_same [] f g same = refl
@@ -22,7 +22,7 @@ marked_same (Mark name ∷ es) f g same =
 marked_same (BeforeImage id own ∷ es) f g same = marked_same es (update same_id f id own) (update same_id g id own)
     (λ q h. let at = same q in grind arith)
 
--- what is there, noted: marks stay
+-- noting the current write leaves the marks
 pub noted_marked : (es : List Entry) (f : OwnWrites) (id : List ℕ) (own : Option (Option Object)) → own ≡ f id
     → marked (BeforeImage id own ∷ es) f ≡ marked es f
 noted_marked es f id own is = marked_same es (update same_id f id own) f
@@ -41,7 +41,7 @@ pub undone_has : (es : List Entry) (name : List ℕ) → is_at_mark es name ≡ 
 undone_has [] name h k = absurd (false≢true k)
 undone_has (e ∷ es) name h k = sym (ap (λ b. b || has_mark es name) h) ∙ k
 
--- at the mark: what is written now is what was written then, and the newer marks are gone
+-- at the mark: the current writes are its writes, and the newer marks are gone
 pub at_mark : (es : List Entry) (f : OwnWrites) (name : List ℕ) (w : Written) → is_at_mark es name ≡ true
     → written_at_mark w (marks_from name (marked es f)) ≡ (f, marked es f)
 at_mark [] f name w h = absurd (false≢true h)

@@ -1,4 +1,4 @@
--- What a command does to a core.
+-- The effect of a command on a core.
 use Rattle.std.specs.Prelude.{◌≡◌, ◌≢◌, ◌==◌, ℕ, Bool, true, false, List, [], ◌∷◌, ◌++◌}
 use Rattle.std.specs.Prelude.{if◌then◌else◌}
 use Rattle.std.specs.Prelude.{Result, Ok, Err, IfOk, IfErr, OnOk, IsOk}
@@ -25,11 +25,11 @@ use Rattle.city_txn.specs.CoreState.{CoreState, committed, view, written, snapsh
 use Rattle.city_txn.specs.CoreState.{StandsUnderLocks, KeepsOthers}
 use Rattle.city_locks.specs.Asking.{first_answer, granted_before, GainsFirst, IsBlocked}
 
--- the answer to its locks: that of the first that isn't granted, or Granted
+-- the answer to the command's locks: of the first not granted, or Granted
 abbrev pub answer_in : CoreState → ℕ → Command → Answer
 answer_in v stamp command = first_answer v.locks stamp (locks_of (view v stamp) command)
 
--- the locks before the first that isn't granted
+-- the locks before the first not granted
 abbrev pub granted_in : CoreState → ℕ → Command → List Lock
 granted_in v stamp command = granted_before v.locks stamp (locks_of (view v stamp) command)
 
@@ -41,7 +41,7 @@ EndsIn v stamp command number outcome = EndsAt (snapshot v stamp) command number
 abbrev pub RefusesCommit : CoreState → ℕ → Cause → Type 0
 RefusesCommit v stamp cause = Does (snapshot v stamp) Commit (Refused cause) (snapshot v stamp)
 
--- the step that an answer of the locks and a reply give
+-- the step of an answer to the locks and a reply
 abbrev pub step_of : Answer → Reply → Step
 step_of Granted reply = steps.Done reply
 step_of Wait reply = steps.Wait
@@ -53,49 +53,49 @@ is_done (Ok steps.Wait) = false
 is_done (Ok steps.Die) = false
 is_done (Err fault) = false
 
--- the commands with this one, where it is done
+-- the commands with this one, if it is done
 abbrev pub with_step : Result Step TxnFault → Command → List Answered → List Answered
 with_step (Ok (steps.Done reply)) command done = done ++ (command, reply) ∷ []
 with_step (Ok steps.Wait) command done = done
 with_step (Ok steps.Die) command done = done
 with_step (Err fault) command done = done
 
--- A call by the stamp to do the command: what it answers, and what becomes of the core.
+-- A call by the stamp to do the command: its answer, and the core after it.
 pub record IsAct (stamp : ℕ) (command : Command) (result : Result Step TxnFault)
     (old new : CoreState) : Type 0 where
-  -- what the command is answered at what the transaction sees, and what is seen after it
+  -- the reply to the command at the transaction's view, and the view after it
   pub reply : Reply
   pub after : Snapshot
   pub does : effect (snapshot old stamp) command ≡ Answers reply after
-  -- done where each lock is granted, and else the answer of the first that isn't
+  -- done if each lock is granted, and else the answer of the first not granted
   pub step : IfOk result (λ step. step ≡ step_of (answer_in old stamp command) reply)
   pub fault : IfErr result (λ fault. fault ≡ (if is_open old stamp then OutOfMemory else NotOpen stamp))
-  -- where the stamp isn't open it answers that, and nothing changes
+  -- if the stamp isn't open, the answer is NotOpen, and nothing changes
   pub not_open : is_open old stamp ≡ false → (result ≡ Err (NotOpen stamp)) × (new ≡ old)
-  -- being out of memory hides no Wait and no Die, if it holds the locks before
+  -- if it holds the locks before that one, being out of memory hides no Wait and no Die
   pub answered : is_open old stamp ≡ true → answer_in old stamp command ≢ Granted
       → AllHeld (held old stamp) (granted_in old stamp command) → IsOk result
-  -- nor keeps it from going back to a mark that is there
+  -- nor does it keep the transaction from going back to a mark of its own
   pub found : is_open old stamp ≡ true → reply ≡ WentBack → IsOk result
-  -- told to wait, it is older than another open one; told to die, it is younger than one
+  -- on Wait it is older than another open transaction; on Die it is younger than one
   pub blocked : OnOk result (IsBlocked (λ t. is_open old t ≡ true) stamp (answer_in old stamp command))
-  -- it sees what is seen after the command, where that is done; all else that is seen stays
+  -- if the command is done, the transaction sees its result; all else that is seen stays
   pub sees : snapshot new stamp ≡ (if is_done result then after else snapshot old stamp)
   pub city : committed new ≡ committed old
   pub views : (t : ℕ) → (stamp == t) ≡ false → snapshot new t ≡ snapshot old t
   pub opened : is_open new stamp ≡ is_open old stamp
-  -- of the locks before the first that isn't granted it gains the first few, in their order, and no others;
-  -- unless memory runs out, all of them. It loses none; the others keep theirs
+  -- of the locks before the first not granted it gains the first few, in their order, and no others; unless memory runs
+  -- out, all of them. It loses none; the others keep theirs
   pub locks : GainsFirst stamp (granted_in old stamp command) old.locks new.locks
   pub granted : OnOk result (AllHeld (held new stamp) (granted_in old stamp command))
-  -- its writes gain just the ids that the command's action writes, a new mark has the writes of now, and going back
-  -- makes them those of the mark; the others' writes and marks stay
+  -- its writes gain just the ids of the command's action, a new mark has the current writes, and going back restores
+  -- the writes of the mark; the others' writes and marks stay
   pub writes : written new stamp
       ≡ (if is_done result then written_by (action (view old stamp) command) (written old stamp)
       else written old stamp)
   pub unwritten : (id : List ℕ) → unless_by stamp (write_of new.writes id) ≡ unless_by stamp (write_of old.writes id)
   pub others : (t : ℕ) → (stamp == t) ≡ false → written new t ≡ written old t
-  -- all commands that stood stand, and this one with them; without it too, where it is refused
+  -- all commands that stood stand, and this one with them; if it is refused, also without it
   pub own : (done : List Answered) → StandsUnderLocks old stamp done
       → StandsUnderLocks new stamp (with_step result command done)
   pub refused : is_refusal reply ≡ true

@@ -1,4 +1,4 @@
--- What a transaction wrote, as a change.
+-- The writes of a transaction, as a change.
 use Rattle.std.specs.Prelude.{◌≡◌, ℕ, List, Some}
 use Rattle.std.specs.Map.{keys_of}
 use Rattle.std.specs.Ordering.{nat_cmp}
@@ -13,12 +13,12 @@ use Rattle.city_txn.specs.Writes.{Write, write_of, is_by, own_write, made_by}
 use Rattle.city_txn.specs.CoreState.{CoreState, committed, view}
 use Rattle.city_txn.specs.Acting.{RefusesCommit}
 
--- what the transaction wrote of these writes, in their order
+-- the writes of the transaction among these, in their order
 abbrev pub change_in : List (List ℕ × Write) → ℕ → Change
 change_in writes stamp = made_by (λ id w. own_write stamp (Some w)) writes
 
--- The change turns the committed map into the transaction's view, which is lawful; its ids are those that the
--- transaction wrote, in byte order, each once.
+-- The change turns the committed map into the transaction's view, which is lawful; its ids are the ids written by the
+-- transaction, in byte order, each once.
 pub record IsChangeOf (v : CoreState) (stamp : ℕ) (change : Change) : Type 0 where
   pub makes_view : after_change (committed v) change ≡ view v stamp
   pub ids : (id : List ℕ) → has_id (keys_of change) id ≡ is_by stamp (write_of v.writes id)

@@ -1,5 +1,4 @@
--- What contracts see of a core: its committed city, and the writes, the marks and the locks of its open
--- transactions.
+-- A core as contracts see it: its committed city, and the writes, the marks and the locks of its open transactions.
 use Rattle.std.specs.Prelude.{◌≡◌, ◌==◌, ℕ, Bool, false, List, [], None}
 use Rattle.std.specs.Prelude.{if◌then◌else◌}
 use Rattle.std.specs.List.{list_any}
@@ -16,29 +15,29 @@ pub record CoreState : Type 0 where
   -- the committed city
   pub frame : Frame
   pub city : Objects
-  -- the written ids, each with its writer and what stands there for the writer
+  -- the written ids, each with its writer and its object for the writer
   pub writes : List (List ℕ × Write)
   -- the stamps of the open transactions
   pub opened : List ℕ
-  -- their undo logs, by which they go back to their marks
+  -- their undo logs, to go back to their marks
   pub logs : Logs
   pub locks : Locks
 
 abbrev pub committed : CoreState → CityMap
 committed v id = object_at v.city id
 
--- the map that the transaction sees: the committed one with its own writes
+-- the transaction's view: the committed map with its own writes
 abbrev pub view : CoreState → ℕ → CityMap
 view v stamp id = own_or stamp (write_of v.writes id) (object_at v.city id)
 
--- what the transaction wrote at each id, by now and at each of its marks
+-- the transaction's write at each id, by now and at each of its marks
 abbrev pub own : CoreState → ℕ → OwnWrites
 own v stamp id = own_write stamp (write_of v.writes id)
 
 abbrev pub written : CoreState → ℕ → Written
 written v stamp = (own v stamp, marked (log_of v.logs stamp) (own v stamp))
 
--- what the transaction sees: that map, and for each mark the committed one with the writes that it had then
+-- the transaction's snapshot: its view, and for each mark the committed map with its writes at the mark
 abbrev pub snapshot : CoreState → ℕ → Snapshot
 snapshot v stamp = record { map = view v stamp; marks = marks_with (committed v) (written v stamp).1 }
 
@@ -48,8 +47,8 @@ is_open v stamp = list_any (λ t. stamp == t) v.opened
 abbrev pub held : CoreState → ℕ → Held
 held v stamp = held_in v.locks stamp
 
--- the commands of the transaction stand: from the committed map they get these replies, with their locks
--- held, and lead to what it sees, marks too
+-- the commands of the transaction stand: from the committed map, with its locks held, they get these replies and lead
+-- to its snapshot
 abbrev pub StandsUnderLocks : CoreState → ℕ → List Answered → Type 0
 StandsUnderLocks v stamp done = IsTraceUnderLocks (held v stamp) (unmarked (committed v)) done (snapshot v stamp)
 
@@ -70,7 +69,7 @@ pub record IsTransactionEnd (stamp : ℕ) (old new : CoreState) : Type 0 where
   pub closed : is_open new stamp ≡ false
   pub keeps : KeepsOthers stamp old new
 
--- it is over, and what it wrote is undone: all else that is seen stays
+-- it is over, and its writes are undone: all else that is seen stays
 pub record IsRolledBack (stamp : ℕ) (old new : CoreState) : Type 0 where
   pub city : committed new ≡ committed old
   pub views : (t : ℕ) → (stamp == t) ≡ false → snapshot new t ≡ snapshot old t

@@ -1,4 +1,4 @@
--- The undo logs of open transactions: their marks, and what each had written where it wrote again.
+-- The undo logs of open transactions: their marks, and the earlier write at each id written again.
 use Rattle.std.specs.Prelude.{ℕ, Bool, false, List, [], ◌∷◌, Option, Some, map, reverse, unwrap_or, if◌then◌else◌}
 use Rattle.std.specs.List.{list_any}
 use Rattle.std.specs.Map.{lookup, update}
@@ -15,21 +15,21 @@ use Rattle.city_txn.specs.declared.undo_log.Entry.TheVariants.{Mark, BeforeImage
 abbrev pub Logs : Type 0
 Logs = List (ℕ × List Entry)
 
--- the log of a transaction, newest entry first; that of one without marks is empty
+-- the log of a transaction, newest entry first; empty if it has no marks
 abbrev pub log_of : Logs → ℕ → List Entry
 log_of logs stamp = reverse (unwrap_or (lookup (is_at (nat_cmp stamp)) logs) [])
 
--- what a transaction wrote at each id: nothing, or an object, or that none is there
+-- the transaction's write at each id: nothing, an object, or a delete
 abbrev pub OwnWrites : Type 0
 OwnWrites = List ℕ → Option (Option Object)
 
--- the marks, newest first, each with what the transaction had written when it was made; f is what it wrote by now
+-- the marks, newest first, each with the transaction's writes at the mark; f is its current writes
 abbrev pub marked : List Entry → OwnWrites → List (List ℕ × OwnWrites)
 marked [] f = []
 marked (Mark name ∷ es) f = (name, f) ∷ marked es f
 marked (BeforeImage id own ∷ es) f = marked es (update same_id f id own)
 
--- whether an entry says what was written at the id
+-- whether an entry keeps an earlier write at the id
 abbrev pub is_before : List ℕ → Entry → Bool
 is_before id (Mark name) = false
 is_before id (BeforeImage q own) = same_id q id
@@ -37,9 +37,9 @@ is_before id (BeforeImage q own) = same_id q id
 abbrev pub has_before : List Entry → List ℕ → Bool
 has_before es id = list_any (is_before id) es
 
--- ---- what a transaction wrote, with its marks
+-- ---- a transaction's writes, with its marks
 
--- what it wrote by now, and at each mark, newest first
+-- its current writes, and its writes at each mark, newest first
 abbrev pub Written : Type 0
 Written = OwnWrites × List (List ℕ × OwnWrites)
 
@@ -47,19 +47,19 @@ abbrev pub written_at_mark : Written → List (List ℕ × OwnWrites) → Writte
 written_at_mark w [] = w
 written_at_mark w (k ∷ ks) = (k.1, k ∷ ks)
 
--- what it wrote, and at each of these ids what the map has there
+-- the writes, with the map's objects at these ids
 abbrev pub own_with : OwnWrites → List (List ℕ) → CityMap → OwnWrites
 own_with f ids m id = if has_id ids id then Some (m id) else f id
 
--- the same after an action: an edit writes its ids, a mark has the writes of now, and going back makes them those of
--- the mark
+-- the writes after an action: an edit writes its ids, a mark has the current writes, and going back restores the writes
+-- of the mark
 abbrev pub written_by : Action → Written → Written
 written_by (Edits reply ids m) w = (own_with w.0 ids m, w.1)
 written_by (Marks name) w = (w.0, (name, w.0) ∷ w.1)
 written_by (GoesBack name) w = written_at_mark w (marks_from name w.1)
 written_by action w = w
 
--- the map with what was written
+-- the map with the writes
 abbrev pub map_with : CityMap → OwnWrites → CityMap
 map_with m f = λ id. unwrap_or (f id) (m id)
 

@@ -1,4 +1,4 @@
--- What only the crate's own clauses and proofs name.
+-- Specs for the crate's own clauses and proofs only.
 pub mod Codes
 pub mod Core
 pub mod Ending

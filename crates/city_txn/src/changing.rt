@@ -1,4 +1,4 @@
-//! What a transaction wrote, as a change.
+//! The writes of a transaction, as a change.
 ghost use Rattle.std.specs.Prelude.{◌≡◌, ℕ, List, None, IfOk, OnOk, false, unwrap_or, if◌then◌else◌};
 ghost use Rattle.std.specs.Map.{keys_of};
 ghost use Rattle.std.specs.Ordering.{nat_cmp};
@@ -22,7 +22,7 @@ use city_model::orphans::is_orphan;
 use city_model::text::Id;
 
 impl Store {
-    /// What the stamp wrote. It copies the objects.
+    /// The writes of the stamp, as a change with copies of the objects.
     pub fn change(&self, stamp: u64) -> Result<Change, OutOfMemory>
         ensures lists { IfOk result (λ change. (q : List ℕ) → write_in change q ≡ own_write stamp (write_of self.now.writes q)) }
         ensures ordered { IfOk result (λ change. IsStrictlySortedBy (slice_cmp nat_cmp) (keys_of change)) }
@@ -35,7 +35,7 @@ impl Store {
         Ok(change)
     }
 
-    /// Adds to the change what the stamp wrote at the id, if it wrote it.
+    /// Adds the stamp's write at the id, if there is one, to the change.
     fn add_written(&self, change: &mut Change, stamp: u64, id: &Id) -> Result<(), OutOfMemory>
         ensures added { OnOk result ((q : List ℕ) → write_in change.new q
             ≡ (if same_id id.now q then option_or (store_own self.now stamp id.now) (write_in change.old q) else write_in change.old q)) }
@@ -47,7 +47,7 @@ impl Store {
         Ok(())
     }
 
-    /// What the stamp wrote at the id: an object, or that none is there, or nothing. It copies the object.
+    /// The stamp's write at the id: an object (copied), a delete, or nothing.
     #[tactic(auto, using(crate::proofs::ChangeMade::own_none, crate::proofs::ChangeMade::own_sees))]
     pub fn written(&self, stamp: u64, id: &Id) -> Result<OwnWrite, OutOfMemory>
         ensures { IfOk result (λ write. write ≡ store_own self.now stamp id.now) }
@@ -61,8 +61,8 @@ impl Store {
         }
     }
 
-    /// Whether the stamp sees an orphan at an id that it has reserved. It looks only where one may have been
-    /// written, and doesn't allocate.
+    /// Whether the stamp sees an orphan at an id that it has reserved. Looks only if one may have
+    /// been written. Doesn't allocate.
     #[tactic(auto, using(crate::proofs::ChangeMade::change_lists, crate::proofs::ChangeMade::change_ascends))]
     pub fn has_orphan(&self, stamp: u64) -> bool
         ensures none { result ≡ false → HasNoOrphan (λ q. unwrap_or (own_write stamp (write_of self.now.writes q)) None) }

@@ -1,4 +1,4 @@
-//! The locks of a command, in the order in which they are asked for, and what the answer would be.
+//! The locks of a command, in the order of asking, and the answer to expect.
 ghost use Rattle.std.specs.Prelude.{◌≡◌, [], ◌∷◌, IfSome, IfNone, drop};
 ghost use Rattle.city_locks.specs.Asking.{Asked, first_answer};
 ghost use Rattle.city_model.specs.Chunks.{ids_left};
@@ -15,7 +15,7 @@ use city_model::text::Id;
 use std::slice;
 
 /// Asks for the locks of a command in their order, up to the first that isn't granted. If memory
-/// runs out, those that were granted stay granted.
+/// runs out, the locks granted so far stay.
 pub fn lock(
     locks: &mut LockTable,
     store: &Store,
@@ -31,7 +31,7 @@ pub fn lock(
     locks.ask_in_turn(stamp, id, mode, others)
 }
 
-/// What `lock` would answer, unless memory runs out. Doesn't allocate.
+/// The answer of `lock`, unless memory runs out. Doesn't allocate.
 pub fn would_lock(locks: &LockTable, store: &Store, stamp: u64, command: &Command) -> Answer
     ensures { result ≡ first_answer locks.now stamp (locks_of (store_view store.now stamp) command.now) }
 {
@@ -42,7 +42,7 @@ pub fn would_lock(locks: &LockTable, store: &Store, stamp: u64, command: &Comman
     locks.would_answer_in_turn(stamp, id, mode, others)
 }
 
-/// The id that a command locks first, and the mode; none where it locks nothing.
+/// The first lock of a command; `None` if it locks nothing.
 fn first_lock(command: &Command) -> Option<(&Id, Mode)>
     ensures first { IfSome result (λ lock. (m : CityMap)
         → locks_of m command.now ≡ (lock.0.now, lock.1) ∷ drop 1 (locks_of m command.now)) }
@@ -59,7 +59,7 @@ fn first_lock(command: &Command) -> Option<(&Id, Mode)>
 }
 
 /// The ids that a command locks after the first, exclusively. Once the first is locked, no other
-/// transaction can change which ids these are.
+/// transaction can change them.
 fn further_locks<'a>(store: &'a Store, stamp: u64, command: &'a Command) -> Ids<'a>
     ensures { drop 1 (locks_of (store_view store.now stamp) command.now) ≡ exclusively (ids_left result) }
 {
@@ -70,7 +70,8 @@ fn further_locks<'a>(store: &'a Store, stamp: u64, command: &'a Command) -> Ids<
     }
 }
 
-/// The parents that a delete of the id locks: those of an object without children.
+/// The parents that a delete of the id locks: all, if the object is there without children; else
+/// none.
 fn parents_to_lock<'a>(store: &'a Store, stamp: u64, id: &Id) -> Ids<'a>
     ensures { delete_locks (store_view store.now stamp id.now) ≡ exclusively (ids_left result) }
 {

@@ -1,4 +1,4 @@
-//! The end of a transaction, at the ids that it has reserved.
+//! The end of a transaction, at its reserved ids.
 ghost use Rattle.std.specs.Prelude.{◌≡◌, ℕ, List, None, is_some, true};
 ghost use Rattle.city_model.specs.CityMap.{has_id, object_at};
 ghost use Rattle.city_txn.specs.internal.Ending.{left_at_end};
@@ -12,14 +12,14 @@ use city_model::text::Id;
 /// How a transaction ends.
 #[derive(Clone, Copy)]
 pub enum End {
-    /// What it wrote stays, and is committed.
+    /// Its writes stay, and are committed.
     Commit,
-    /// What it wrote is undone.
+    /// Its writes are undone.
     RollBack,
 }
 
-/// Ends the transaction at the ids, given whether no other is open: then all images are at its ids, and no id is
-/// looked up among them. Doesn't allocate.
+/// Ends the transaction at the ids. If it is `alone`, no other is open: all images are at its ids,
+/// and none is looked up. Doesn't allocate.
 pub fn end_at(city: &mut City, undo: &mut Undo, end: End, ids: &[Id], alone: bool)
     requires slots { (q : List ℕ) → is_some (image_at undo.old.images q) ≡ true → HasSlot city.old q }
     requires alone { alone ≡ true → (q : List ℕ) → is_some (image_at undo.old.images q) ≡ true → has_id ids.now q ≡ true }

@@ -1,4 +1,4 @@
-//! Undo images: what stood at an id before a transaction wrote it.
+//! Undo images: the previous objects of written ids.
 ghost use Rattle.std.specs.Prelude.{◌≡◌, Some, Option, option_copied};
 ghost use Rattle.city_model.specs.declared.object.Object.{Object};
 ghost use Rattle.city_txn.specs.Writes.{is_by, own_or};
@@ -6,21 +6,21 @@ ghost use Rattle.city_txn.specs.internal.Images.{before_image, write_at, written
 
 use city_model::object::Object;
 
-/// What stood at an id before a transaction wrote it.
+/// The object at an id before a transaction wrote it.
 #[derive(Drop)]
 pub struct UndoImage {
     /// The stamp of the transaction.
     pub by: u64,
     /// Nothing was written yet: the city has what stood there.
     pub unwritten: bool,
-    /// What the city has at the id is a placeholder: for the transaction, no object is there.
+    /// The city has a placeholder at the id: the transaction sees no object.
     pub deleted: bool,
-    /// What stood there, once something was written; none where no object was there.
+    /// The previous object; `None` if there was none, or if nothing was written.
     pub before: Option<Object>,
 }
 
 impl UndoImage {
-    /// What the stamp sees at the id of the image, where the city has `here`.
+    /// The object that the stamp sees at the image's id, if the city has `here`.
     pub fn seen_by<'a>(&'a self, stamp: u64, here: Option<&'a Object>) -> Option<&'a Object>
         ensures { option_copied result ≡ own_or stamp (write_at (option_copied here.entry) (Some self.now)) (before_image (option_copied here.entry) self.now) }
     {
@@ -37,7 +37,8 @@ impl UndoImage {
         !self.unwritten && self.by == stamp
     }
 
-    /// Notes a write: the first one moves what stood there into the image, a later one drops it.
+    /// Notes a write: the first one moves the previous object into the image, a later one drops
+    /// `old`.
     pub fn write_over(&mut self, old: Object, deleted: bool)
         ensures { self.new ≡ written_over (Some old) deleted self.old }
     {
@@ -48,7 +49,8 @@ impl UndoImage {
         self.deleted = deleted;
     }
 
-    /// Makes the first image of a write that of a later one: what stood before is what `old` says, which the id had.
+    /// Turns the image of a first write into the image of a later one. `old` is the id's image
+    /// until now, and gives the previous object.
     pub fn keep_before(&mut self, old: UndoImage)
         ensures { self.new ≡ written_over self.old.before self.old.deleted old }
     {
@@ -58,7 +60,7 @@ impl UndoImage {
         self.before = old.into_before(here);
     }
 
-    /// What stood at the id before the transaction wrote it, where the city has `here`.
+    /// The previous object, if the city has `here`.
     fn into_before(self, here: Option<Object>) -> Option<Object>
         ensures { result ≡ before_image here self }
     {
@@ -68,8 +70,8 @@ impl UndoImage {
         if self.deleted { None } else { here }
     }
 
-    /// Undoes the write, and returns the object that has to go back into the city: None if nothing
-    /// was written, or if no object stood there.
+    /// Undoes the write, and returns the object to put back into the city: `None` if nothing was
+    /// written, or if there was no previous object.
     pub fn unwrite(&mut self) -> Option<Object>
         ensures image { self.new ≡ image_unwritten self.old }
         ensures object { result ≡ put_back self.old }

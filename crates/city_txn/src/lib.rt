@@ -1,11 +1,11 @@
 //! The transaction core: one city as its open transactions have written it, with undo images.
 //!
-//! - `txn_core`, `step`: the core, and what it answers
-//! - `command_locks`: which locks a command needs, how it asks for them, what the answer would be
-//! - `store`, `slot`, `placeholder`: the one city, written in place, and what a transaction sees of it
+//! - `txn_core`, `step`: the core, and its answers
+//! - `command_locks`: the locks of a command, how it asks for them, and the answer to expect
+//! - `store`, `slot`, `placeholder`: the one city, written in place, and each transaction's view
 //! - `perform`, `writing`, `marks`: commands done on the store
-//! - `undo`, `image`, `undo_log`: what stood there before, who has written, and what takes back to a mark
-//! - `changing`, `ending`: what a transaction wrote, and how it ends
+//! - `undo`, `image`, `undo_log`: undo images, the writers, and the way back to a mark
+//! - `changing`, `ending`: the writes of a transaction, and its end
 #![tactic(auto)]
 
 mod changing;

@@ -35,8 +35,8 @@ impl Store {
         Ok(Reply::WentBack)
     }
 
-    /// Goes back to the newest mark of the name, which the transaction must have. Its writes are again
-    /// those that it had at the mark, newer marks are gone, and the mark stays. Doesn't allocate.
+    /// Goes back to the newest mark of the name, which the transaction must have. Its writes are as
+    /// they were at the mark, newer marks are gone, and the mark stays. Doesn't allocate.
     fn go_back(&mut self, stamp: u64, name: &Text)
         requires { has_mark (log_of self.old.logs stamp) name.now ≡ true }
         ensures written { store_written self.new stamp

@@ -10,7 +10,8 @@ use city_model::command::{Command, Reply};
 use city_model::plan::{Plan, plan_of};
 
 impl Store {
-    /// Does a command, whose locks the stamp holds. If memory runs out, nothing is written.
+    /// Does a command under its locks, which the stamp holds. If memory runs out, nothing is
+    /// written.
     pub fn perform(&mut self, stamp: u64, command: &Command) -> Result<Reply, OutOfMemory>
         requires no_end { is_end command.now ≡ false }
         requires may { MayPerform self.old stamp command.now }
@@ -23,7 +24,7 @@ impl Store {
         }
     }
 
-    /// Does a command that doesn't change the marks.
+    /// Does a command other than a mark or going back.
     fn carry_out(&mut self, stamp: u64, command: &Command) -> Result<Reply, OutOfMemory>
         requires no_end { is_end command.now ≡ false }
         requires no_mark { is_mark command.now ≡ false }

@@ -1,4 +1,4 @@
-//! An object that holds a slot.
+//! The object that holds an empty slot.
 ghost use Rattle.std.specs.Prelude.{◌≡◌};
 ghost use Rattle.city_txn.specs.Placeholder.{placeholder};
 
@@ -12,8 +12,8 @@ use city_model::shared_ids::SharedIds;
 use serde_json::Map;
 use std::alloc::Global;
 
-/// A generic object without geometry, kept members or relations, to hold the slot of an object that
-/// isn't there. Doesn't allocate.
+/// A generic object without geometry, kept members or relations, to hold the slot of an absent
+/// object. Doesn't allocate.
 pub fn placeholder(alloc: Global) -> Object
     ensures { result ≡ placeholder }
 {

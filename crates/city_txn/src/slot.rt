@@ -16,7 +16,7 @@ use city_model::object::Object;
 use city_model::text::Id;
 use std::alloc::Global;
 
-/// Gives the id a slot, given whether no object is there: then a placeholder. If memory runs out, the city is
+/// Gives the id a slot: a placeholder, if the object is absent. If memory runs out, the city is
 /// unchanged.
 #[tactic(auto, using(city_model::proofs::Ids::same_id_true, crate::proofs::StoreChanged::set_at))]
 pub fn make(city: &mut City, alloc: Global, id: &Id, absent: bool) -> Result<(), OutOfMemory>
@@ -44,7 +44,7 @@ pub fn clear(city: &mut City, id: &Id, deleted: bool)
     }
 }
 
-/// Sets the object of an id that has a slot, and returns the one that stood there.
+/// Sets the object of an id with a slot, and returns the previous one.
 #[tactic(auto, using(crate::proofs::StoreChanged::set_at))]
 pub fn swap(city: &mut City, id: Id, object: Object) -> Object
     requires { HasSlot city.old id }
@@ -59,8 +59,8 @@ pub fn swap(city: &mut City, id: Id, object: Object) -> Object
     }
 }
 
-/// Sets the object of an id, and returns the one that stood there. If memory runs out, the city is unchanged. It copies
-/// the id where no object stood there.
+/// Sets the object of an id, and returns the previous one. Copies the id if there was none. If
+/// memory runs out, the city is unchanged.
 #[tactic(auto, using(crate::proofs::StoreChanged::set_at))]
 pub fn put(
     city: &mut City,
@@ -92,7 +92,7 @@ pub fn object_or_placeholder(alloc: Global, object: Option<Object>) -> Object
     }
 }
 
-/// Sets the object, if there is one, at an id that has a slot.
+/// Sets the object, if there is one, at an id with a slot.
 #[tactic(auto, using(city_model::proofs::Ids::same_id_true, crate::proofs::StoreChanged::set_at))]
 pub fn refill(city: &mut City, id: Id, object: Option<Object>)
     requires { HasSlot city.old id }
@@ -108,7 +108,7 @@ pub fn refill(city: &mut City, id: Id, object: Option<Object>)
     }
 }
 
-/// Leaves at the id what the end of the image's transaction does: what that one sees, or what stood there before.
+/// Ends the image's transaction at one id: keeps its write, or restores the previous object.
 #[tactic(auto, using(city_model::proofs::Ids::same_id_true, crate::proofs::StoreChanged::set_at))]
 pub fn settle(city: &mut City, id: Id, end: End, image: UndoImage)
     requires { HasSlot city.old id }

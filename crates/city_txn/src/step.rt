@@ -1,9 +1,9 @@
-//! What a transaction core answers.
+//! The answers of a transaction core.
 use city_model::change::Change;
 use city_model::command::{Cause, Reply};
 use thiserror::Error;
 
-/// What came of a command.
+/// The outcome of a command.
 #[derive(Drop)]
 pub enum Step {
     /// It was done, or refused: `Reply::Refused`, which changes nothing.

@@ -1,4 +1,4 @@
-//! The city as the open transactions have written it, and how it is put back.
+//! The city as the open transactions have written it, and the way back.
 ghost use Rattle.std.specs.Prelude.{◌≡◌, ◌↔◌, IsTrue, ℕ, List, [], None, Some, OnOk, OnErr, true, false, ◌==◌, ◌&&◌, ◌||◌, is_ok, is_some, not, option_copied, option_map, if◌then◌else◌};
 ghost use Rattle.city_model.specs.CityMap.{same_id};
 ghost use Rattle.city_model.specs.Relations.{is_orphan_there};
@@ -22,9 +22,9 @@ use std::marker::Model;
 
 /// One city as the open transactions have written it, with an undo image of each written id.
 ///
-/// Contracts see the committed city, which is that city with all images put back, the writes of
-/// the open transactions, the ids that each of them has reserved, and their undo logs. An id is
-/// reserved by one transaction at most, and what a log takes back is reserved.
+/// Contracts see the committed city (that city with all images put back), the writes of the open
+/// transactions, their reserved ids, and their undo logs. An id is reserved by one transaction at
+/// most, and the ids in a log are reserved.
 #[derive(Drop)]
 pub struct Store {
     alloc: Global,
@@ -68,7 +68,7 @@ impl Store {
         }
     }
 
-    /// The allocator of what the store keeps.
+    /// The allocator of the store's contents.
     pub fn alloc(&self) -> Global {
         self.alloc
     }
@@ -88,8 +88,8 @@ impl Store {
         self.undo.is_open(stamp)
     }
 
-    /// Opens the stamp, which must not be open, with no writes and nothing reserved. If memory runs
-    /// out, the store is unchanged.
+    /// Opens the stamp, which must not be open, without writes or reservations. If memory runs out,
+    /// the store is unchanged.
     #[tactic(auto, using(crate::proofs::StoreChanged::opened_in_place))]
     pub fn begin(&mut self, stamp: u64) -> Result<(), OutOfMemory>
         requires { is_begun self.old stamp ≡ false }
@@ -100,7 +100,7 @@ impl Store {
         Ok(())
     }
 
-    /// What the stamp sees at an id. Doesn't allocate.
+    /// The object that the stamp sees at an id. Doesn't allocate.
     pub fn read(&self, stamp: u64, id: &Id) -> Option<&Object>
         ensures { option_copied result ≡ store_view self.now stamp id.now }
     {
@@ -120,8 +120,8 @@ impl Store {
         }
     }
 
-    /// Reserves for the stamp, which is open, an id that no other has reserved. No transaction sees
-    /// a difference. If memory runs out, nothing is reserved.
+    /// Reserves an id for the stamp, which is open; no other may have reserved it. No transaction
+    /// sees a difference. If memory runs out, nothing is reserved.
     #[tactic(auto, using(crate::proofs::StoreChanged::reserved_already, crate::proofs::Touched::touches_itself))]
     pub fn reserve(&mut self, stamp: u64, id: &Id) -> Result<(), OutOfMemory>
         requires { MayReserve self.old stamp (same_id id.now) }
@@ -138,8 +138,8 @@ impl Store {
         self.undo.reserve(&mut self.city, stamp, id)
     }
 
-    /// Reserves for the stamp, which is open, an id that no other has reserved, and writes it: an object, or that
-    /// none is there. If memory runs out, nothing is written.
+    /// Reserves an id for the stamp, as `reserve` does, and writes it: an object, or a delete. If
+    /// memory runs out, nothing is written.
     pub fn put(&mut self, stamp: u64, id: Id, object: Option<Object>) -> Result<(), OutOfMemory>
         requires { MayReserve self.old stamp (same_id id) }
         ensures touches { Touches stamp (same_id id) self.old self.new }
@@ -151,8 +151,7 @@ impl Store {
         self.undo.put(&mut self.city, stamp, id, object)
     }
 
-    /// Writes an id that the stamp has reserved: an object, or that none is
-    /// there. Doesn't allocate.
+    /// Writes an id reserved by the stamp: an object, or a delete. Doesn't allocate.
     pub fn set(&mut self, stamp: u64, id: Id, object: Option<Object>)
         requires { is_reserved self.old stamp id ≡ true }
         ensures one { WritesOne id (Some (stamp, object)) self.old self.new }
@@ -162,8 +161,8 @@ impl Store {
         self.undo.write(&mut self.city, id, object);
     }
 
-    /// Sets what the stamp wrote at an id that it has reserved: an object, or that none is there,
-    /// or nothing. Doesn't allocate.
+    /// Sets the stamp's write at an id reserved by it: an object, a delete, or nothing. Doesn't
+    /// allocate.
     pub fn restore(&mut self, stamp: u64, id: Id, write: OwnWrite)
         requires { is_reserved self.old stamp id ≡ true }
         ensures one { WritesOne id (option_map (λ o. (stamp, o)) write) self.old self.new }
@@ -175,7 +174,7 @@ impl Store {
         }
     }
 
-    /// The city, where no stamp is open. Doesn't allocate.
+    /// The city, if no stamp is open. Doesn't allocate.
     #[tactic(auto, using(crate::proofs::AtOneId::idle_city))]
     pub fn into_city(self) -> City
         requires { self.opened ≡ [] }
@@ -191,8 +190,8 @@ impl Store {
         self.undo.is_idle()
     }
 
-    /// Makes what the stamp wrote the committed city, or undoes it, and closes the stamp. It visits the
-    /// ids that the stamp has reserved, and doesn't allocate.
+    /// Commits the writes of the stamp, or undoes them, and closes the stamp. Visits its reserved
+    /// ids, and doesn't allocate.
     pub fn end(&mut self, stamp: u64, end: End)
         ensures city { store_committed self.new ≡ map_at_end end self.old stamp }
         ensures forgets { Forgets stamp self.old self.new }
@@ -215,14 +214,14 @@ fn has_orphan_then(before: bool, object: &Option<Object>) -> bool
     }
 }
 
-/// Whether an orphan may still stand written after an end: not where no transaction is open.
+/// Whether an orphan may still stand written after an end: not if no transaction is open.
 fn has_orphan_still(before: bool, is_idle: bool) -> bool
     ensures { result ≡ (before && not is_idle) }
 {
     before && !is_idle
 }
 
-/// What the transaction of the stamp sees of the store.
+/// The store as the transaction of the stamp sees it.
 #[derive(Drop)]
 pub struct Seen<'a> {
     pub store: &'a Store,

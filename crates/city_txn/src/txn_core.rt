@@ -28,8 +28,8 @@ use std::marker::Model;
 /// A committed city and the open transactions on it.
 ///
 /// Contracts see the committed city, and of each open transaction its writes, its marks and its
-/// locks. What a transaction sees is the committed city with its own writes; what it saw at a mark
-/// is that city with the writes that it had then.
+/// locks. A transaction sees the committed city with its own writes; at a mark it saw that city
+/// with its writes at the mark.
 #[derive(Drop)]
 pub struct Core {
     store: Store,
@@ -68,8 +68,8 @@ impl Core {
 
     /// Opens a transaction, with no writes, no marks and no locks, and changes nothing else.
     ///
-    /// `StampOpen` comes exactly where the stamp is open; then, and if memory
-    /// runs out, nothing changes.
+    /// `StampOpen` is returned exactly if the stamp is open; then, and if memory runs out, nothing
+    /// changes.
     pub fn begin(&mut self, stamp: u64) -> Result<(), TxnFault>
         ensures city { self.new.city ≡ self.old.city }
         ensures writes { self.new.writes ≡ self.old.writes }
@@ -96,12 +96,12 @@ impl Core {
 
     /// Does a command in the transaction, under its locks, or says why not.
     ///
-    /// `Wait` and `Die` come where a lock isn't granted, by the answer of the first such lock; the
-    /// locks before it are held, and the transaction stays open. A refused command is done: its
-    /// reply is `Refused`, and it changes nothing. `NotOpen` comes exactly where the stamp isn't
-    /// open, and changes nothing. After `OutOfMemory` the transaction is open as before, and may
-    /// have gained locks of the command. Marks ask for no locks, and going back gives none back; it
-    /// doesn't allocate if the mark is there.
+    /// If a lock isn't granted, the first such lock decides between `Wait` and `Die`; the locks
+    /// before it are held, and the transaction stays open. A refused command is done: its reply is
+    /// `Refused`, and it changes nothing. `NotOpen` is returned exactly if the stamp isn't open,
+    /// and changes nothing. After `OutOfMemory` the transaction is open as before, and may have
+    /// gained locks of the command. Marks ask for no locks. Going back gives none back, and doesn't
+    /// allocate if the mark is there.
     pub fn act(&mut self, stamp: u64, command: &Command) -> Result<Step, TxnFault>
         requires { is_end command.now ≡ false }
         ensures { IsAct stamp command.now result self.old self.new }
@@ -138,11 +138,11 @@ impl Core {
         }
     }
 
-    /// Finds whether the transaction may commit, and what it writes then. Changes nothing.
+    /// Finds whether the transaction may commit, and its change. Changes nothing.
     ///
-    /// `Ready` gives the change: what the transaction wrote, which turns the committed city into
-    /// its view. `Refused` comes exactly where the view has an orphan, and names the least.
-    /// `NotOpen` comes exactly where the stamp isn't open.
+    /// `Ready` gives the writes of the transaction, as the change from the committed city to its
+    /// view. `Refused` is returned exactly if the view has an orphan, and names the least.
+    /// `NotOpen` is returned exactly if the stamp isn't open.
     pub fn prepare(&self, stamp: u64) -> Result<Prepared, TxnFault>
         ensures prepared { IfOk result (IsPrepared self.now stamp) }
         ensures fault { IfErr result (λ fault. fault ≡ (if is_open self.now stamp then TxnFault.OutOfMemory else TxnFault.NotOpen stamp)) }
@@ -163,10 +163,10 @@ impl Core {
         Ok(Prepared::Ready(change))
     }
 
-    /// Why a commit of the transaction would be refused; none where it may commit. Changes nothing.
+    /// Why a commit of the transaction would be refused; `None` if it may commit. Changes nothing.
     ///
-    /// It finds what `prepare` finds, and copies no object where the transaction may commit. `NotOpen` comes
-    /// exactly where the stamp isn't open.
+    /// It finds what `prepare` finds, but copies no object if the transaction may commit. `NotOpen`
+    /// is returned exactly if the stamp isn't open.
     pub fn refusal(&self, stamp: u64) -> Result<Option<Cause>, TxnFault>
         ensures allowed { IfOk result (λ cause. IfNone cause (IsChangeOf self.now stamp (change_in self.now.writes stamp))) }
         ensures refused { IfOk result (λ cause. IfSome cause (RefusesCommit self.now stamp)) }
@@ -198,8 +198,8 @@ impl Core {
         self.locks.release_all(stamp);
     }
 
-    /// Undoes what the transaction, which is open, wrote, and gives its
-    /// locks back. Doesn't allocate.
+    /// Undoes the writes of the transaction, which is open, and gives its locks back. Doesn't
+    /// allocate.
     pub fn roll_back(&mut self, stamp: u64)
         requires { is_open self.old stamp ≡ true }
         ensures { IsRolledBack stamp self.old self.new }
@@ -208,10 +208,10 @@ impl Core {
         self.locks.release_all(stamp);
     }
 
-    /// Undoes what the transaction wrote, and gives its locks back. Doesn't allocate.
+    /// Undoes the writes of the transaction, and gives its locks back. Doesn't allocate.
     ///
-    /// It is `roll_back` for a stamp that need not be open: `NotOpen` comes exactly where the stamp isn't open,
-    /// and then nothing changes.
+    /// It is `roll_back` for a stamp that need not be open: `NotOpen` is returned exactly if it
+    /// isn't, and then nothing changes.
     pub fn abort(&mut self, stamp: u64) -> Result<(), TxnFault>
         ensures undone { OnOk result (IsRolledBack stamp self.old self.new) }
         ensures err { OnErr result (self.new ≡ self.old) }
@@ -226,7 +226,7 @@ impl Core {
         Ok(())
     }
 
-    /// The committed city, or the core as it was where a transaction is open. Doesn't allocate.
+    /// The committed city, or the core unchanged if a transaction is open. Doesn't allocate.
     pub fn into_city(self) -> Result<City, Core>
         ensures city { IfOk result (λ city. city ≡ (self.frame, self.city)) }
         ensures back { IfErr result (λ core. core ≡ self) }

@@ -1,4 +1,4 @@
-//! What it takes to end the open transactions: undo images and reservations.
+//! Undo images and reservations, to end the open transactions.
 ghost use Rattle.std.specs.Prelude.{◌≡◌, ◌↔◌, ◌==◌, IsTrue, ℕ, List, [], ◌∷◌, ◌++◌, None, Some, IfOk, OnOk, OnErr, is_none, is_ok, is_some, true, ◌&&◌, option_copied, option_map, unwrap_or, if◌then◌else◌};
 ghost use Rattle.std.specs.BTreeMap.{IsOrdered};
 ghost use Rattle.std.specs.Cmp.Lexicographic.{slice_cmp};
@@ -26,8 +26,7 @@ use city_model::text::Id;
 use std::alloc::Global;
 use std::collections::BTreeMap;
 
-/// An undo image for each reserved id, and for each open transaction, by its stamp, the ids that it
-/// has reserved.
+/// An undo image for each reserved id, and the reserved ids of each open transaction, by its stamp.
 #[derive(Drop)]
 pub struct Undo {
     alloc: Global,
@@ -69,7 +68,7 @@ impl Undo {
         self.images.get(id)
     }
 
-    /// The ids that the stamp has reserved: none where it isn't open. Doesn't allocate.
+    /// The ids reserved by the stamp; none if it isn't open. Doesn't allocate.
     pub fn reserved(&self, stamp: u64) -> &[Id]
         ensures { result.now ≡ reservations_of self.now.reservations.entries stamp }
     {
@@ -146,8 +145,8 @@ impl Undo {
         Ok(())
     }
 
-    /// Writes an id that no other stamp than this one, which is open, has reserved: an object, or that none is there.
-    /// Without image it is reserved for the stamp. If memory runs out, nothing changes.
+    /// Writes an id: an object, or a delete. The stamp is open, and no other has reserved the id.
+    /// If the id has no image, it is reserved for the stamp. If memory runs out, nothing changes.
     pub fn put(
         &mut self,
         city: &mut City,
@@ -180,8 +179,8 @@ impl Undo {
         Ok(())
     }
 
-    /// Puts the object, or a placeholder, at an id, and what stood there into its image. Says whether the id had none
-    /// before. If memory runs out, nothing changes.
+    /// Puts the object, or a placeholder, at an id, and the previous object into its image. Returns
+    /// whether the id had no image. If memory runs out, nothing changes.
     #[tactic(auto, using(city_model::proofs::Ids::same_id_true, crate::proofs::StoreChanged::set_at))]
     fn place(
         &mut self,
@@ -221,8 +220,8 @@ impl Undo {
         }
     }
 
-    /// Keeps the image of an id that has a slot, and returns the one that it had. If memory runs out, what stood
-    /// before goes back into the city.
+    /// Keeps the image of an id with a slot, and returns its old image. If memory runs out, the
+    /// previous object goes back into the city.
     #[tactic(auto, using(city_model::proofs::Ids::same_id_true))]
     fn keep_image(
         &mut self,
@@ -251,7 +250,8 @@ impl Undo {
         }
     }
 
-    /// Gives the image of the id what the one that it had before says of what stood there. Doesn't allocate.
+    /// Carries the previous object from `old`, the id's old image, into its new one. Doesn't
+    /// allocate.
     fn keep_before(&mut self, id: &Id, old: UndoImage)
         requires { is_some (image_at self.old.images id.now) ≡ true }
         ensures images { (q : List ℕ) → image_at self.new.images q ≡ (if same_id id.now q
@@ -266,8 +266,8 @@ impl Undo {
         }
     }
 
-    /// Puts the object, or a placeholder where none is to be there, at a reserved id of the city, and
-    /// what stood there into its image. Doesn't allocate.
+    /// Puts the object, or a placeholder, at a reserved id of the city, and the previous object
+    /// into its image. Doesn't allocate.
     pub fn write(&mut self, city: &mut City, id: Id, object: Option<Object>)
         requires has_slot { HasSlot city.old id }
         requires there { is_some (image_at self.old.images id) ≡ true }
@@ -287,8 +287,8 @@ impl Undo {
         }
     }
 
-    /// Undoes the write of a reserved id, if it was written: what stood there goes back into
-    /// the city. Doesn't allocate.
+    /// Undoes the write of a reserved id, if there is one: the previous object goes back into the
+    /// city. Doesn't allocate.
     pub fn unwrite(&mut self, city: &mut City, id: Id)
         requires has_slot { HasSlot city.old id }
         requires there { is_some (image_at self.old.images id) ≡ true }
@@ -321,7 +321,7 @@ impl Undo {
         }
     }
 
-    /// Ends a transaction at all ids that have an image, and removes the images. Doesn't allocate.
+    /// Ends a transaction at all ids with an image, and removes the images. Doesn't allocate.
     pub fn end_all(&mut self, city: &mut City, end: End)
         requires { (q : List ℕ) → is_some (image_at self.old.images q) ≡ true → HasSlot city.old q }
         ensures became { Became (λ q. is_some (image_at self.old.images q))
@@ -334,8 +334,7 @@ impl Undo {
         }
     }
 
-    /// Closes the stamp, and returns the ids that it had reserved: none if it
-    /// wasn't open. Doesn't allocate.
+    /// Closes the stamp, and returns its reserved ids: none if it wasn't open. Doesn't allocate.
     pub fn close(&mut self, stamp: u64) -> Sequence<Id>
         ensures ids { result ≡ reservations_of self.old.reservations.entries stamp }
         ensures images { self.new.images ≡ self.old.images }

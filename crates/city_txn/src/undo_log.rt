@@ -1,4 +1,4 @@
-//! Undo logs: what takes an open transaction back to its marks.
+//! Undo logs: the way back of an open transaction to its marks.
 ghost use Rattle.std.specs.Prelude.{◌≡◌, ◌==◌, ℕ, [], ◌∷◌, ◌++◌, length, reverse, OnOk, OnErr, option_to_list, IfNone, if◌then◌else◌};
 ghost use Rattle.std.specs.List.{list_any};
 ghost use Rattle.city_txn.specs.UndoLog.{log_of};
@@ -14,7 +14,7 @@ use std::alloc::Global;
 use std::collections::BTreeMap;
 use std::marker::Model;
 
-/// What a transaction had written at an id: nothing, or an object, or that none is there.
+/// A transaction's write at an id: nothing, an object, or a delete.
 pub type OwnWrite = Option<Option<Object>>;
 
 /// An entry of an undo log.
@@ -22,11 +22,11 @@ pub type OwnWrite = Option<Option<Object>>;
 pub enum Entry {
     /// A mark of this name was made.
     Mark(Text),
-    /// The id was written, and this is what the transaction had written there before.
+    /// The id was written, over this earlier write of the transaction.
     BeforeImage(Id, OwnWrite),
 }
 
-/// The undo logs of the transactions that have marks, by their stamps.
+/// The undo logs of the transactions with marks, by stamp.
 ///
 /// Contracts see them as lists, the entries newest last.
 #[derive(Drop)]

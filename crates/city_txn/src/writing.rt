@@ -1,4 +1,4 @@
-//! Writes of a command: first all its ids are reserved and noted, then all are written.
+//! The writes of a command: first all ids are reserved and noted, then all are written.
 ghost use Rattle.std.specs.Prelude.{◌≡◌, ℕ, List, Some, length, true, OnOk, OnErr, if◌then◌else◌};
 ghost use Rattle.city_model.specs.CityMap.{CityMap, same_id};
 ghost use Rattle.city_model.specs.Writing.{write_in};
@@ -19,7 +19,7 @@ use city_model::plan::Writes;
 use city_model::text::Id;
 
 impl Store {
-    /// Writes all that is planned, or nothing if memory runs out. Marks stay as they are.
+    /// Makes all planned writes, or none if memory runs out. Marks stay as they are.
     pub fn write_all(&mut self, stamp: u64, writes: Writes) -> Result<(), OutOfMemory>
         requires { MayReserve self.old stamp (plans writes) }
         ensures touches { Touches stamp (plans writes) self.old self.new }
@@ -36,7 +36,7 @@ impl Store {
         }
     }
 
-    /// Whether one id is planned, in a transaction without marks: so nothing is to be noted.
+    /// Whether one id is planned, in a transaction without marks: then nothing is to be noted.
     fn writes_once(&self, stamp: u64, writes: &[(Id, Option<Object>)]) -> bool
         ensures one { result ≡ true → length writes.now ≡ 1 }
         ensures unmarked { result ≡ true → length (log_of self.now.logs stamp) ≡ 0 }
@@ -44,7 +44,7 @@ impl Store {
         writes.len() == 1 && self.logs().is_empty(stamp)
     }
 
-    /// Writes the only one that is planned, in a transaction without marks: reserved and written at once.
+    /// Makes the only planned write, in a transaction without marks: reserves and writes at once.
     fn write_once(
         &mut self,
         stamp: u64,
@@ -66,7 +66,7 @@ impl Store {
         }
     }
 
-    /// Reserves and notes all ids that are planned, and then writes them.
+    /// Reserves and notes all planned ids, and then writes them.
     fn write_each(&mut self, stamp: u64, writes: Writes) -> Result<(), OutOfMemory>
         requires { MayReserve self.old stamp (plans writes) }
         ensures touches { Touches stamp (plans writes) self.old self.new }
@@ -81,7 +81,7 @@ impl Store {
         Ok(())
     }
 
-    /// Reserves and notes the ids of all that is planned. No transaction sees a difference.
+    /// Reserves and notes all planned ids. No transaction sees a difference.
     fn make_ready(&mut self, stamp: u64, writes: &[(Id, Option<Object>)]) -> Result<(), OutOfMemory>
         requires { MayReserve self.old stamp (plans writes.now) }
         ensures touches { Touches stamp (plans writes.now) self.old self.new }
@@ -95,7 +95,7 @@ impl Store {
         Ok(())
     }
 
-    /// Reserves an id, and notes what the transaction had written there.
+    /// Reserves an id, and notes the transaction's write there.
     fn make_ready_at(&mut self, stamp: u64, id: &Id) -> Result<(), OutOfMemory>
         requires { MayReserve self.old stamp (same_id id.now) }
         ensures touches { Touches stamp (same_id id.now) self.old self.new }
@@ -109,7 +109,7 @@ impl Store {
         Ok(())
     }
 
-    /// If the transaction has marks, notes what it had written at an id that it has reserved.
+    /// If the transaction has marks, notes its write at an id reserved by it.
     fn note(&mut self, stamp: u64, id: &Id) -> Result<(), OutOfMemory>
         requires { is_reserved self.old stamp id.now ≡ true }
         ensures touches { Touches stamp (same_id id.now) self.old self.new }
@@ -129,7 +129,7 @@ impl Store {
         Ok(())
     }
 
-    /// Writes all that is planned, which is reserved. Doesn't allocate.
+    /// Makes all planned writes, at reserved ids. Doesn't allocate.
     fn set_all(&mut self, stamp: u64, mut writes: Vec<(Id, Option<Object>)>)
         requires { (id : List ℕ) → plans writes.items id ≡ true → is_reserved self.old stamp id ≡ true }
         ensures only { ChangesWrites self.old self.new }

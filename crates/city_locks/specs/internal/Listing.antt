@@ -1,11 +1,11 @@
--- The ids that each stamp has locked.
+-- The list of ids locked by each stamp.
 use Rattle.std.specs.Prelude.{◌≡◌, ℕ, List, [], unwrap_or, is_some, true}
 use Rattle.std.specs.Ordering.{nat_cmp}
 use Rattle.std.specs.BTreeMap.{BTreeMap, get}
 use Rattle.city_model.specs.CityMap.{has_id}
 use Rattle.city_locks.specs.Locks.{Locks, mode_of}
 
--- the ids that are listed at the stamp
+-- the ids listed at the stamp
 abbrev pub ids_of : BTreeMap ℕ (List (List ℕ)) → ℕ → List (List ℕ)
 ids_of locked stamp = unwrap_or (get nat_cmp locked stamp) []
 

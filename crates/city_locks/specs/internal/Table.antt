@@ -1,4 +1,4 @@
--- What holds of every lock table.
+-- The invariant of a lock table.
 use Rattle.city_locks.specs.declared.table.LockTable.TheInside.{Inside}
 use Rattle.city_locks.specs.Locks.{Lawful, HoldOnce}
 use Rattle.city_locks.specs.internal.Listing.{IsListed}

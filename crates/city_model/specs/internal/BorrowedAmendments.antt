@@ -1,4 +1,4 @@
--- An amendment, as the code borrows what it gives.
+-- An amendment, as the code borrows it.
 use Rattle.city_model.specs.Amendments as amendments
 use Rattle.city_model.specs.declared.plan.amending.Amendment.{Amendment}
 

@@ -1,10 +1,10 @@
--- What bounds a shape, as the code borrows it.
+-- The boundaries of a shape, as the code borrows them.
 use Rattle.std.specs.Prelude.{List}
 use Rattle.city_model.specs.declared.object.Shape.{Shape}
 use Rattle.city_model.specs.declared.shape.Bounds.{Bounds}
 use Rattle.city_model.specs.Shells.{Surface, Shell, Solid}
 
--- surfaces that needn't close, the shells of one solid, or solids
+-- surfaces (they needn't close), the shells of one solid, or solids
 pub data Boundaries : Type 0 where
   Surfaces : List Surface → Boundaries
   Shells : List Shell → Boundaries

@@ -1,4 +1,4 @@
--- A code of JSON data: its tokens in prefix order, which a stack reads back from the right.
+-- A code of JSON data: its tokens in prefix order; a stack reads it back from the right.
 use Rattle.std.specs.Prelude.{◌≡◌, refl, ℕ, ℤ, pos, true, false, cond, ◌==◌, List, [], ◌∷◌, ◌++◌}
 use Rattle.std.specs.Float.{Float, nan}
 use Rattle.std.proofs.Common.{ap, sym, ◌∙◌}
@@ -8,7 +8,7 @@ use base.Stored.{coded_float}
 use Rattle.serde_json.specs.Data.{unsigned, negative, float, Data, null, boolean, number, string, array}
 use Rattle.serde_json.specs.Data.{object, Items, no_items, item, Members, no_members, member}
 
--- a token: its kind, and what it carries
+-- a token: its kind and its values
 abbrev pub Token : Type 0
 Token = ℕ × (ℕ × (List ℕ × (ℤ × Float)))
 
@@ -35,7 +35,7 @@ abbrev mutual
   members_tokens no_members = token 11 ∷ []
   members_tokens (member k d ms) = (12, (0, (k, (pos 0, nan)))) ∷ (tokens_of d ++ members_tokens ms)
 
--- what the stack holds
+-- a node of the stack
 pub data Node : Type 0 where
   D : Data → Node
   I : Items → Node

@@ -42,7 +42,7 @@ abbrev pub pending : Bool → Arc (String Global × Value) Global → Members �
 pending true e ms = ms
 pending false e ms = put (string_bytes (arc_value e).0) (view (arc_value e).1) ms
 
--- the members before the list at this place are below the name, and those behind it above
+-- the members before the list at this place are below the name, and the members behind it above
 pub record IsPlace (lists : List (Arc Members Global)) (name : List ℕ) (at : ℕ) : Type 0 where
   pub within : at < length lists
   pub below : AllBelow (all_joined (take at lists)) name

@@ -1,4 +1,4 @@
--- The plan of a command: its refusal, or its reply and the change that it writes.
+-- The plan of a command: its refusal, or its reply and its change.
 use Rattle.std.specs.Prelude.{◌≡◌, ℕ, List, [], ◌∷◌, Option, option_map}
 use Rattle.std.specs.Map.{keys_of}
 use Rattle.city_model.specs.declared.object.Object.{Object}
@@ -10,7 +10,7 @@ use Rattle.city_model.specs.CityMap.{CityMap}
 use Rattle.city_model.specs.Actions.{Action, Refuses, Edits, action, without_child}
 use Rattle.city_model.specs.Runs.{Change}
 
--- what the change writes at each id is what the map has there
+-- the change writes the map's object at each of its ids
 abbrev pub AreOf : CityMap → Change → Type 0
 AreOf m [] = Unit {0}
 AreOf m (w ∷ ws) = (w.1 ≡ m w.0) × AreOf m ws
@@ -25,10 +25,10 @@ abbrev pub IsPlan : CityMap → Command → Plan → Type 0
 IsPlan m command (Refused cause) = action m command ≡ Refuses cause
 IsPlan m command (Writes reply change) = AreWritesOf m command reply change
 
--- a plan of each command that has this action at the map
+-- a plan of each command with this action at the map
 abbrev pub IsPlanOf : CityMap → Action → Plan → Type 0
 IsPlanOf m done plan = (command : Command) → action m command ≡ done → IsPlan m command plan
 
--- at the parent the object that stands in the map, without the child
+-- at the parent its object in the map, without the child
 abbrev pub unlinked : CityMap → List ℕ → List ℕ → List ℕ × Option Object
 unlinked m child parent = (parent, option_map (without_child child) (m parent))

@@ -30,8 +30,8 @@ relatives_once o = are_distinct o.parents && are_distinct o.children
 abbrev pub level_fits : Object → Bool
 level_fits o = is_second_level o.body.kind || (length o.parents == 0)
 
--- what stands at the id p may be a parent of the object: it is there, is another one,
--- has it as a child, and is of its family
+-- the object at the id p may be a parent of the object: it is there, is another one, has it as a child, and is of its
+-- family
 abbrev pub parent_fits : List ℕ → Object → List ℕ → Option Object → Bool
 parent_fits id o p None = false
 parent_fits id o p (Some q) =

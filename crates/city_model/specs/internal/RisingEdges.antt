@@ -1,4 +1,4 @@
--- The edges that the code notes as they are, and not turned.
+-- The edges noted by the code as they are, and not turned.
 use Rattle.std.specs.Prelude.{List, Bool}
 use Rattle.std.specs.List.{filter}
 use Rattle.std.specs.Ordering.{int_cmp, ordering_then, is_le}

@@ -1,4 +1,4 @@
--- The value that a shared value stands for.
+-- The value of a shared value.
 use Rattle.std.specs.Arc.{arc_value}
 use Rattle.city_model.specs.declared.shared.Storage.{Storage}
 use Rattle.city_model.specs.declared.shared.Storage.TheVariants.{Own, Shared}

@@ -9,11 +9,11 @@ use crate::members::{copy_of, members_count};
 use serde_json::{Map, Value};
 use std::marker::{Model, PhantomData};
 
-/// The members that are kept at the site `P`, as JSON, value for value.
+/// The kept members at the site `P`, as JSON, value for value.
 ///
-/// Their names ascend, so none is there twice. None of them is a member that is read at the site,
-/// and each number in them is an `i64`. An object keeps no `address` with a `location`, and the top
-/// no `extensions` but an empty one.
+/// Their names ascend, so none is there twice. None of them is a member read at the site, and each
+/// number in them is an `i64`. An object keeps no `address` with a `location`, and the top no
+/// `extensions` but an empty one.
 #[derive(Drop)]
 pub struct Extra<P: Site> {
     map: Map<String, Value>,
@@ -45,8 +45,8 @@ impl<P: Site> Extra<P> {
     ghost use Rattle.serde_json.specs.View.{members_view};
     ghost use Rattle.city_model.specs.Members.{AreOrdered};
 
-    /// The members as those of the site, or the map back if the site doesn't
-    /// admit it. Doesn't allocate.
+    /// The members as kept members of the site, or the map back if the site doesn't admit it.
+    /// Doesn't allocate.
     pub fn new(map: Map<String, Value>) -> Result<Self, Map<String, Value>>
         ensures admitted { is_ok result ≡ P.keeps (members_view map.entries) }
         ensures kept { IfOk result (λ e. e ≡ members_view map.entries) }
@@ -66,7 +66,7 @@ impl<P: Site> Extra<P> {
         }
     }
 
-    /// Members that the site keeps. Doesn't allocate.
+    /// The members, which the site keeps. Doesn't allocate.
     pub(crate) fn of_kept(map: Map<String, Value>) -> Self
         requires { P.keeps (members_view map.entries) ≡ true }
         ensures { result ≡ members_view map.entries }

@@ -1,4 +1,4 @@
-//! A few members of a JSON object, each of which copies share.
+//! A few members of a JSON object, each shared by copies.
 ghost use Rattle.std.specs.Prelude.{◌≡◌, ◌<◌, ◌++◌, ◌==◌, ◌∷◌, [], Bool, true, false, option_map, string_bytes, length, take, drop, IfOk, OnOk, if◌then◌else◌};
 ghost use Rattle.std.specs.Arc.{arc_value};
 ghost use Rattle.serde_json.specs.Data.{Members, no_members, member, put};
@@ -16,7 +16,7 @@ use std::cmp::Ordering;
 use std::marker::Model;
 use std::sync::Arc;
 
-/// A member, which lists share: its value may be long.
+/// A member, shared by lists: its value may be long.
 type Entry = Arc<(String, Value)>;
 
 /// Members of a JSON object. A copy shares each of them.
@@ -106,7 +106,7 @@ impl MemberList {
         placed_at_last(entries, fresh, is_placed)
     }
 
-    /// The members without that of this name.
+    /// The members without the name.
     pub fn without(&self, alloc: Global, name: &str) -> Result<MemberList, OutOfMemory>
         ensures { IfOk result (λ list. list ≡ without name.now self.now) }
     {
@@ -126,7 +126,7 @@ impl MemberList {
         Ok(MemberList { entries })
     }
 
-    /// Puts copies of the members into a map, all of whose names come before theirs.
+    /// Puts copies of the members into a map whose names all come before theirs.
     pub fn copy_into(&self, members: &mut Map<String, Value>) -> Result<(), OutOfMemory>
         requires { AreOrdered (joined (members_view members.old.entries) self.now) }
         ensures { OnOk result (members_view members.new.entries ≡ joined (members_view members.old.entries) self.now) }
@@ -158,7 +158,7 @@ fn push_other(entries: &mut Vec<Entry>, name: &str, entry: &Entry) -> Result<(),
     Ok(())
 }
 
-/// The list of entries, and behind them a fresh one that wasn't placed yet.
+/// The list of entries, and behind them the fresh one if it isn't placed yet.
 fn placed_at_last(
     mut entries: Vec<Entry>,
     fresh: Entry,
@@ -173,8 +173,8 @@ fn placed_at_last(
     Ok(MemberList { entries })
 }
 
-/// Adds an entry to a list, and before it a fresh one that wasn't placed yet, if that is its place; a fresh one
-/// takes the place of one of its name. Returns whether the fresh one is placed then.
+/// Adds an entry to a list, and before it the fresh one, if it isn't placed yet and this is its
+/// place; a fresh one replaces an entry of its name. Returns whether the fresh one is placed then.
 fn push_beside(
     entries: &mut Vec<Entry>,
     fresh: &Entry,

@@ -1,4 +1,4 @@
-//! The kept members of an object, which copies share where they are many.
+//! The kept members of an object; copies share them if they are many.
 ghost use Rattle.std.specs.Prelude.{◌≡◌, true, option_map, IfOk};
 ghost use Rattle.std.specs.Arc.{arc_value};
 ghost use Rattle.serde_json.specs.Data.{object, put};
@@ -27,12 +27,12 @@ use std::sync::Arc;
 pub(crate) enum Storage {
     /// A copy copies them.
     Few(Extra<AtObject>),
-    /// All but `attributes`, and these where they are an object.
+    /// All but `attributes`, and the attributes if they are an object.
     Many(Arc<Map<String, Value>>, Option<SharedMembers>),
 }
 
-/// The kept members of an object. A copy shares them where they are many: each command that edits an object writes
-/// the object anew, and a set of one attribute leaves all others as they are.
+/// The kept members of an object. A copy shares them if they are many: each edit of an object
+/// writes the object anew, and a set of one attribute leaves all others as they are.
 #[derive(Drop)]
 pub struct SharedExtra {
     pub(crate) storage: Storage,
@@ -89,7 +89,7 @@ impl SharedExtra {
         }
     }
 
-    /// The members, for all copies to share where they are many. It fails only when out of memory.
+    /// The members, for all copies to share if they are many. Fails only when out of memory.
     pub fn new(alloc: Global, extra: Extra<AtObject>) -> Result<Self, OutOfMemory>
         ensures { IfOk result (λ shared. shared ≡ extra) }
     {
@@ -100,7 +100,7 @@ impl SharedExtra {
         Ok(SharedExtra { storage })
     }
 
-    /// The members as a map. It fails only when out of memory, and doesn't allocate where they are few.
+    /// The members as a map. Fails only when out of memory, and doesn't allocate if they are few.
     pub fn lend(&self) -> Result<LentMembers<'_>, OutOfMemory>
         ensures members { IfOk result (λ members. lent members ≡ self.now) }
         ensures kept { kept_at_object self.now ≡ true }
@@ -112,8 +112,8 @@ impl SharedExtra {
         }
     }
 
-    /// The members with these attributes set, or None where `attributes` is no object. It fails only when out of
-    /// memory.
+    /// The members with these attributes set, or `None` if `attributes` is no object. Fails only
+    /// when out of memory.
     pub fn with_set(&self, alloc: Global, named: &Attributes) -> Result<Option<Self>, OutOfMemory>
         ensures { IfOk result (λ made. made ≡ option_map (with_set self.now named.now) (attributes_in self.now)) }
     {
@@ -126,8 +126,8 @@ impl SharedExtra {
         }
     }
 
-    /// The members without the attributes of these names, or None where `attributes` is no object. It fails only
-    /// when out of memory.
+    /// The members without the attributes of these names, or `None` if `attributes` is no object.
+    /// Fails only when out of memory.
     pub fn with_unset(&self, alloc: Global, names: &[Text]) -> Result<Option<Self>, OutOfMemory>
         ensures { IfOk result (λ made. made ≡ option_map (with_unset self.now names.now) (attributes_in self.now)) }
     {
@@ -228,7 +228,8 @@ fn lend_many<'a>(
     }
 }
 
-/// The attributes of many members: no members where they have none, and None where what stands there is no object.
+/// The attributes of many members: no members if they have none, and `None` if `attributes` is no
+/// object.
 fn attributes_of_many(
     alloc: Global,
     others: &Map<String, Value>,
@@ -312,7 +313,7 @@ fn many(others: &Arc<Map<String, Value>>, own: SharedMembers) -> Result<Storage,
     Ok(Storage::Many(others, Some(own)))
 }
 
-/// The members that are stored, which an object may keep.
+/// The stored members, as an object may keep them.
 fn stored(storage: Storage) -> SharedExtra
     requires kept { kept_at_object (kept_in storage) ≡ true }
     requires ordered { AreOrdered (kept_in storage) }

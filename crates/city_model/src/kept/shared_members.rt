@@ -1,4 +1,4 @@
-//! The members of a JSON object, in lists that copies share.
+//! The members of a JSON object, in lists shared by copies.
 ghost use Rattle.std.specs.Prelude.{◌≡◌, ◌∷◌, ◌<◌, [], List, suc, take, drop, option_map, string_bytes, length, IfOk, OnOk, IfSome, IfNone};
 ghost use Rattle.std.specs.Arc.{arc_value};
 ghost use Rattle.serde_json.specs.Data.{Members, no_members, member, put};
@@ -20,16 +20,16 @@ use std::marker::Model;
 use std::mem;
 use std::sync::Arc;
 
-/// A list of members, which objects share.
+/// A list of members, shared by objects.
 type List = Arc<MemberList>;
 
-/// The members of a JSON object. A copy shares them, and a change copies one of the lists: an object may have many
-/// attributes, and each command that sets one makes another of them all.
+/// The members of a JSON object. A copy shares them, and a change copies one of the lists: an
+/// object may have many attributes, and each command that sets one writes all of them anew.
 #[derive(Drop)]
 pub struct SharedMembers {
     lists: Vec<List>,
-    /// How long a list is at first: about as many members as there are lists, so that a change copies as
-    /// little as can be.
+    /// The length of a list at first: about as many members as there are lists, so that a change
+    /// copies as little as can be.
     room: usize,
 }
 
@@ -75,11 +75,11 @@ impl SharedMembers {
         }
     }
 
-    /// The members of a map, whose values it takes over.
+    /// The members of a map. Takes over its values.
     pub fn from_map(alloc: Global, map: Map<String, Value>) -> Result<Self, OutOfMemory>
         ensures { IfOk result (λ members. members ≡ members_view map.entries) }
     {
-        // (its contract says that the names ascend)
+        // (by its contract the names ascend)
         let room = room_for(members_count(&map));
         let mut lists = Vec::new(alloc);
         let mut last = MemberList::new(alloc);
@@ -138,7 +138,7 @@ impl SharedMembers {
         }
     }
 
-    /// The members without that of this name.
+    /// The members without the name.
     pub fn without(self, alloc: Global, name: &str) -> Result<Self, OutOfMemory>
         ensures { IfOk result (λ members. members ≡ without name.now self) }
     {
@@ -160,7 +160,7 @@ impl SharedMembers {
         Ok(members)
     }
 
-    /// The members without those of these names.
+    /// The members without the names.
     pub fn without_each(self, alloc: Global, names: &[Text]) -> Result<Self, OutOfMemory>
         ensures { IfOk result (λ members. members ≡ without_each names.now self) }
     {
@@ -181,7 +181,7 @@ impl Copied for SharedMembers {
     }
 }
 
-/// Adds a member behind all others: at the end of the last list, or of a new one where that is full.
+/// Adds a member behind all others: at the end of the last list, or of a new one if that is full.
 fn push_last(
     alloc: Global,
     lists: &mut Vec<List>,
@@ -197,7 +197,7 @@ fn push_last(
     last.push(alloc, name, value)
 }
 
-/// Puts the last list to the others where it is full, and begins another one.
+/// If the last list is full, puts it to the others, and begins another one.
 fn make_room(
     alloc: Global,
     lists: &mut Vec<List>,
@@ -216,8 +216,8 @@ fn make_room(
     Ok(())
 }
 
-/// The list that has the member of this name, if any has it; and that it has to come into, if none has it. None
-/// where there is no list. Doesn't allocate.
+/// The list with the member of this name, or, if none has it, the list for it. `None` if there is
+/// no list. Doesn't allocate.
 fn place(lists: &[List], name: &str) -> Option<usize>
     requires { AreOrdered (all_joined lists.now) }
     ensures some { IfSome result (IsPlace lists.now name.now) }
@@ -269,7 +269,7 @@ fn put_first(
     closed(alloc, lists, list, room)
 }
 
-/// The members of the lists, and one of this name in the list that is its place.
+/// The members of the lists, with this one in the list of its place.
 fn put_at(
     alloc: Global,
     lists: Vec<List>,
@@ -287,7 +287,7 @@ fn put_at(
     Ok(SharedMembers { lists, room })
 }
 
-/// The members of the lists without that of this name, whose place is given.
+/// The members of the lists without the name, at its given place.
 fn without_at(
     alloc: Global,
     lists: Vec<List>,
@@ -304,7 +304,7 @@ fn without_at(
     Ok(SharedMembers { lists, room })
 }
 
-/// The lists with another one in the place of one, or two where it has grown too long.
+/// The lists with another one in the place of one, or two if it has grown too long.
 fn replaced(
     alloc: Global,
     lists: Vec<List>,
@@ -323,7 +323,7 @@ fn replaced(
     Ok(others)
 }
 
-/// Cuts a list that has grown too long, and puts its second part behind the place.
+/// If a list has grown too long, cuts it, and puts its second part behind the place.
 fn cut_long(
     alloc: Global,
     lists: &mut Vec<List>,

@@ -1,4 +1,4 @@
-//! The sites of a document at which members are kept.
+//! The sites of a document with kept members.
 ghost use Rattle.std.specs.Prelude.{◌≡◌, Bool, codes};
 ghost use Rattle.serde_json.specs.Data.{Members};
 ghost use Rattle.serde_json.specs.View.{view, members_view};
@@ -9,7 +9,7 @@ use crate::kept::size::Size;
 use crate::members::member;
 use serde_json::{Map, Value};
 
-/// A site of a document that keeps the members which aren't read there.
+/// A site of a document. It keeps the members not read there.
 pub trait Site {
     ghost keeps: { Members → Bool };
 

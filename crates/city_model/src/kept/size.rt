@@ -3,17 +3,17 @@
 /// How many bytes each value takes beside its text.
 const PLACE: usize = 32;
 
-/// Values of so many bytes are large: copies share them, since what is smaller is copied sooner.
+/// Values of so many bytes are large: copies share them, since smaller ones are faster to copy.
 const LARGE: usize = 256 * PLACE;
 
-/// About how many bytes values take. Only what a copy takes depends on it.
+/// About how many bytes values take. Only the cost of copies depends on it.
 #[derive(Drop)]
 pub struct Size {
     bytes: usize,
 }
 
 impl Size {
-    /// That of no value.
+    /// The size of no value.
     pub fn new() -> Self {
         Size { bytes: 0 }
     }

@@ -1,4 +1,4 @@
-//! Edits of one object that keep its type and its relations, and their plans.
+//! Edits of one object, and their plans. Its type and its relations stay.
 ghost use Rattle.std.specs.Prelude.{◌≡◌, IfOk};
 ghost use Rattle.city_model.specs.Actions.{amend, amends, amendment_reply};
 ghost use Rattle.city_model.specs.Amendments.{amendment_fault, amended, amended_body, with_extra_by};
@@ -22,20 +22,20 @@ use crate::shared::Shared;
 use crate::text::{Id, Text};
 use std::alloc::Global;
 
-/// An edit of one object that keeps its type and its relations.
+/// An edit of one object; its type and its relations stay.
 #[derive(Clone, Copy)]
 pub enum Amendment<'a> {
     /// Another body.
     NewBody(&'a Shared<Body>),
     /// Attributes with their values.
     Setting(&'a Attributes),
-    /// Names of attributes that are taken out.
+    /// Names of attributes to take out.
     Unsetting(&'a Sequence<Text>),
     /// Other geometries.
     Reshaping(&'a Geometries),
 }
 
-/// The plan of an amendment: what is wrong with the geometries that it gives comes first.
+/// The plan of an amendment. Faults of its geometries come first.
 pub fn plan_amend<V: ObjectLookup>(
     alloc: Global,
     view: &V,
@@ -53,7 +53,7 @@ pub fn plan_amend<V: ObjectLookup>(
     }
 }
 
-/// The plan of an amendment of this object, whose geometries are without fault.
+/// The plan of an amendment of this object; its geometries are without fault.
 pub fn plan_amend_there(
     alloc: Global,
     id: &Id,
@@ -84,7 +84,7 @@ fn amendment_reply(amendment: Amendment<'_>) -> Reply
     }
 }
 
-/// What is wrong with the geometries that an amendment gives.
+/// The fault of an amendment's geometries.
 fn amendment_fault(alloc: Global, amendment: Amendment<'_>) -> Result<Option<Cause>, OutOfMemory>
     ensures { IfOk result (λ fault. fault ≡ amendment_fault (amendment_view amendment.entry)) }
 {
@@ -95,7 +95,7 @@ fn amendment_fault(alloc: Global, amendment: Amendment<'_>) -> Result<Option<Cau
     }
 }
 
-/// What becomes of an object that is amended, or why it isn't. It fails only when out of memory.
+/// The object after the amendment, or why it isn't amended. Fails only when out of memory.
 fn amended(
     alloc: Global,
     id: &Id,
@@ -110,7 +110,7 @@ fn amended(
     }
 }
 
-/// What becomes of the body of an object that is amended, or why it isn't.
+/// The body after the amendment of its object, or why it isn't amended.
 fn amended_body(
     alloc: Global,
     id: &Id,
@@ -145,7 +145,7 @@ fn amended_body(
     }
 }
 
-/// The body with these kept members; where there are none, its `attributes` is no object.
+/// The body with these kept members; `None` means that its `attributes` is no object.
 fn with_extra(
     alloc: Global,
     id: &Id,

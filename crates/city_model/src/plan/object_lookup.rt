@@ -1,4 +1,4 @@
-//! A city in which objects can be looked up.
+//! Object lookup in a city.
 ghost use Rattle.std.specs.Prelude.{◌≡◌, option_copied};
 ghost use Rattle.city_model.specs.CityMap.{CityMap, object_at};
 
@@ -6,7 +6,7 @@ use crate::city::City;
 use crate::object::Object;
 use crate::text::Id;
 
-/// What stands for a map from ids to objects.
+/// Object lookup by id.
 pub trait ObjectLookup {
     /// The map.
     ghost map: { Self → CityMap };

@@ -55,7 +55,7 @@ pub fn plan_add<V: ObjectLookup>(
     }
 }
 
-/// The plan of a new object, whose body is without fault.
+/// The plan of a new object; its body is without fault.
 fn plan_new(alloc: Global, id: &Id, body: &Shared<Body>) -> Result<Plan, OutOfMemory>
     ensures { IfOk result (λ plan. (m : CityMap) → IsPlanOf m (creates m id.now body.now) plan) }
 {

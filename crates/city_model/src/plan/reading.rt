@@ -1,4 +1,4 @@
-//! The plans of the commands that write nothing: a read and an expect.
+//! The plans of the commands without writes: a read and an expect.
 ghost use Rattle.std.specs.Prelude.{IfOk};
 ghost use Rattle.city_model.specs.internal.Plans.{IsPlan};
 ghost use Rattle.city_model.specs.declared.command.Command.{Command};

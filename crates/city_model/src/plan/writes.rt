@@ -1,4 +1,4 @@
-//! What a plan writes, and short plans.
+//! The writes of a plan, and short plans.
 ghost use Rattle.std.specs.Prelude.{◌≡◌, [], ◌∷◌, Some, IfOk};
 ghost use Rattle.city_model.specs.declared.command.Cause.{Cause};
 ghost use Rattle.city_model.specs.declared.plan.Plan.{Plan};
@@ -12,10 +12,11 @@ use crate::sequence::Sequence;
 use crate::text::Id;
 use std::alloc::Global;
 
-/// What a command writes: ids, each with the object that it has afterwards, or None if the object is removed.
+/// The writes of a command: ids, each with its object afterwards, or `None` if the object is
+/// removed.
 pub type Writes = Sequence<(Id, Option<Object>)>;
 
-/// The refusal of a command that finds no object of the id.
+/// The refusal of a command without an object of the id.
 pub fn no_object(alloc: Global, id: &Id) -> Result<Plan, OutOfMemory>
     ensures { IfOk result (λ plan. plan ≡ Plan.Refused (Cause.NoObject id.now)) }
 {

@@ -1,4 +1,4 @@
--- Codes of a city's objects and of undo logs, by which a proof tells two stores apart.
+-- Codes of a city's objects and of undo logs: with them a proof tells two stores apart.
 use Rattle.std.specs.Coded.{Coded, coded_list, coded_ℕ}
 use Rattle.std.specs.FinMap.{code}
 use Rattle.city_model.specs.CityMap.{Objects}

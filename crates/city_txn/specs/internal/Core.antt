@@ -1,11 +1,11 @@
--- How a core's fields make its value, and what holds of them.
+-- The value of a core, from its fields, and its invariant.
 use Rattle.std.specs.Prelude.{◌≡◌, ℕ, Bool, true, false, List, [], ◌∷◌, None, Some, is_some}
 use Rattle.city_txn.specs.internal.Prelude.{keys_of, Exclusive, CityMap, unmarked, IsLawful, Held, Answered}
 use Rattle.city_txn.specs.internal.Prelude.{IsTraceUnderLocks, mode_of, Lawful, Entry, Inside, OwnWrites, Written, log_of}
 use Rattle.city_txn.specs.internal.Prelude.{marked, CoreState, committed, own, is_open, held, view_with}
 use Rattle.city_txn.specs.internal.Prelude.{is_reserved}
 
--- what is kept of a transaction: what it wrote, its undo log, whether it is open, and its locks
+-- the state of a transaction: its writes, its undo log, whether it is open, and its locks
 pub record Kept : Type 0 where
   pub own : OwnWrites
   pub log : List Entry
@@ -15,18 +15,18 @@ pub record Kept : Type 0 where
 abbrev pub kept : CoreState → ℕ → Kept
 kept v stamp = record { own = own v stamp; log = log_of v.logs stamp; opened = is_open v stamp; held = held v stamp }
 
--- what is kept of one that did nothing
+-- the state of one that did nothing
 abbrev pub nothing : Bool → Kept
 nothing opened = record { own = λ id. None; log = []; opened = opened; held = λ id. None }
 
 abbrev pub written_of : Kept → Written
 written_of k = (k.own, marked k.log k.own)
 
--- its commands stand: over the committed map m they lead to what it sees
+-- its commands stand: over the committed map m they lead to its snapshot
 abbrev pub Stands : CityMap → Kept → List Answered → Type 0
 Stands m k done = IsTraceUnderLocks k.held (unmarked m) done (view_with m (written_of k))
 
--- what was written stands under exclusive locks
+-- the writes are under exclusive locks
 abbrev pub IsCovered : Held → OwnWrites → Type 0
 IsCovered held f = (id : List ℕ) → is_some (f id) ≡ true → held id ≡ Some Exclusive
 
@@ -39,8 +39,8 @@ pub record IsWrittenUnder (held : Held) (w : Written) : Type 0 where
   pub own : IsCovered held w.0
   pub marks : AreCovered held w.1
 
--- what it wrote stands under exclusive locks, that of its marks too, only of an open one is anything kept, and what
--- it sees comes of commands that stand
+-- its writes are under exclusive locks, at its marks too; if it isn't open, it has nothing; its snapshot comes of
+-- commands that stand
 pub record IsKept (m : CityMap) (k : Kept) : Type 0 where
   pub covered : IsWrittenUnder k.held (written_of k)
   pub shut : k.opened ≡ false → k ≡ nothing false

@@ -1,4 +1,4 @@
--- What the end of a transaction leaves.
+-- The city after the end of a transaction.
 use Rattle.std.specs.Prelude.{◌≡◌, ℕ, List, true, Option, None, Some, is_some, if◌then◌else◌}
 use Rattle.city_model.specs.declared.object.Object.{Object}
 use Rattle.city_model.specs.CityMap.{CityMap, CityValue, object_at}
@@ -9,7 +9,7 @@ use Rattle.city_txn.specs.internal.Images.{seen_under, before_image}
 use Rattle.city_txn.specs.internal.State.{State, store_committed, store_view}
 use Rattle.city_txn.specs.internal.UndoState.{Images, image_at}
 
--- of the object and the image at an id: what the transaction sees, or what stood there before
+-- the object at an id after the end, from the object and the image there: the transaction's, or the previous one
 abbrev pub left_at_end : End → Option Object → Option UndoImage → Option Object
 left_at_end end x None = x
 left_at_end Commit x (Some i) = seen_under x i
@@ -20,7 +20,7 @@ abbrev pub map_at_end : End → State → ℕ → CityMap
 map_at_end Commit v stamp = store_view v stamp
 map_at_end RollBack v stamp = store_committed v
 
--- of the ids that had an image all have ended but those that have it still
+-- all ids with an image have ended, except the ids that still have it
 pub record EndedBut (end : End) (city city_new : CityValue) (held held_new : Images) : Type 0 where
   pub frame : city_new.0 ≡ city.0
   pub objects : (q : List ℕ) → object_at city_new.1 q ≡ (if is_some (image_at held_new q) then object_at city.1 q

@@ -1,24 +1,24 @@
--- What an undo image says of its id, where x is what the city has there.
+-- The meaning of an undo image at its id, if the city has x there.
 use Rattle.std.specs.Prelude.{ℕ, Bool, true, false, Option, None, Some, is_none}
 use Rattle.std.specs.Prelude.{if◌then◌else◌}
 use Rattle.city_model.specs.declared.object.Object.{Object}
 use Rattle.city_model.specs.Relations.{is_orphan_there}
 use Rattle.city_txn.specs.declared.image.UndoImage.{UndoImage}
 
--- what its transaction sees: nothing where a placeholder holds the slot
+-- the object for its transaction: none if a placeholder holds the slot
 abbrev pub seen_under : Option Object → UndoImage → Option Object
 seen_under x i = if i.deleted then None else x
 
--- what stood there before: until the first write, what is there now
+-- the previous object; until the first write, the current one
 abbrev pub before_image : Option Object → UndoImage → Option Object
 before_image x i = if i.unwritten then seen_under x i else i.before
 
--- what stands committed, where there may be no image
+-- the committed object, with or without an image
 abbrev pub committed_at : Option Object → Option UndoImage → Option Object
 committed_at x None = x
 committed_at x (Some i) = before_image x i
 
--- the write that the image stands for: its transaction, and what stands there for it
+-- the write of the image: its transaction, and the object for it
 abbrev pub write_at : Option Object → Option UndoImage → Option (ℕ × Option Object)
 write_at x None = None
 write_at x (Some i) = if i.unwritten then None else Some (i.by, seen_under x i)
@@ -40,11 +40,11 @@ written_over x deleted i =
 abbrev pub unwritten_image : ℕ → Bool → UndoImage
 unwritten_image stamp deleted = record { by = stamp; unwritten = true; deleted = deleted; before = None }
 
--- the object that goes back into the city if the write is undone
+-- the object to put back into the city if the write is undone
 abbrev pub put_back : UndoImage → Option Object
 put_back i = if i.unwritten then None else i.before
 
--- the image then: nothing is written, and a placeholder holds the slot where no object stood there
+-- the image after that: nothing is written, and a placeholder holds the slot if there was no previous object
 abbrev pub image_unwritten : UndoImage → UndoImage
 image_unwritten i = if i.unwritten then i
     else record { by = i.by; unwritten = true; deleted = is_none i.before; before = None }

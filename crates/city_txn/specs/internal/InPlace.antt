@@ -26,14 +26,13 @@ abbrev pub is_writer : ℕ → Option ℕ → Bool
 is_writer stamp None = false
 is_writer stamp (Some t) = t == stamp
 
--- where no orphan may have been written, none was
+-- if no orphan may have been written, none was
 unfoldable pub IsPlain : Bool → CityValue → Images → Type 0
 IsPlain may city images = may ≡ false → (id : List ℕ)
     → is_orphan_written (write_at (object_at city.1 id) (image_at images id)) ≡ false
 
--- each image is of an id that is in the city, if only by a placeholder, and of one that its
--- transaction, and no other, has reserved; what a log takes back is reserved by its transaction; and where no orphan
--- may have been written, none was
+-- each image is of an id in the city (maybe as a placeholder), which its transaction, and no other, has reserved; the
+-- ids in a log are reserved by its transaction; and if no orphan may have been written, none was
 pub record IsInPlace (a : Inside) : Type 0 where
   pub ordered : IsOrdered (slice_cmp nat_cmp) a.undo.images
   pub has_slot : (id : List ℕ) → is_some (image_at a.undo.images id) ≡ true → is_some (object_at a.city.1 id) ≡ true

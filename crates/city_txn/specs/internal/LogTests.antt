@@ -1,4 +1,4 @@
--- What the code asks of undo logs, and what taking an entry back does.
+-- Tests of undo logs, and the writes after an entry is undone.
 use Rattle.std.specs.Prelude.{◌||◌, ℕ, Bool, true, false, List, [], ◌∷◌}
 use Rattle.std.specs.List.{list_any}
 use Rattle.std.specs.Map.{update}
@@ -8,7 +8,7 @@ use Rattle.city_txn.specs.declared.undo_log.Entry.{Entry}
 use Rattle.city_txn.specs.declared.undo_log.Entry.TheVariants.{Mark, BeforeImage}
 use Rattle.city_txn.specs.UndoLog.{OwnWrites, Written, map_with, marks_with}
 
--- whether an entry that is newer than each mark says what was written at the id, so that a write of it changes no mark
+-- whether an entry newer than each mark keeps the write at the id, so that a new write there changes no mark
 abbrev pub is_noted : List Entry → List ℕ → Bool
 is_noted [] id = true
 is_noted (Mark name ∷ es) id = false
@@ -27,7 +27,7 @@ abbrev pub is_at_mark : List Entry → List ℕ → Bool
 is_at_mark [] name = false
 is_at_mark (e ∷ es) name = is_mark name e
 
--- what was written before an entry
+-- the writes before an entry
 abbrev pub undone : Entry → OwnWrites → OwnWrites
 undone (Mark name) f = f
 undone (BeforeImage id own) f = update same_id f id own
@@ -37,6 +37,6 @@ abbrev pub newest_undone : List Entry → OwnWrites → OwnWrites
 newest_undone [] f = f
 newest_undone (e ∷ es) f = undone e f
 
--- what is seen of the map with what was written
+-- the snapshot of the map with the writes
 abbrev pub view_with : CityMap → Written → Snapshot
 view_with m w = record { map = map_with m w.0; marks = marks_with m w.1 }

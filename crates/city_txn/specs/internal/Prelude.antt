@@ -1,4 +1,4 @@
--- The words of the model, the locks and the core that the crate's own clauses and proofs name.
+-- Names of the model, the locks and the core, for the crate's own clauses and proofs.
 pub use Rattle.std.specs.Map.{update, keys_of}
 pub use Rattle.city_model.specs.declared.command.Command.{Command}
 pub use Rattle.city_model.specs.declared.command.Reply.{Reply}

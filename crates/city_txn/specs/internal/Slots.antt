@@ -1,4 +1,4 @@
--- What stands in the city and in the images at reserved ids.
+-- Objects and images at reserved ids.
 use Rattle.std.specs.Prelude.{◌≡◌, ℕ, Bool, List, true, Option, is_some, if◌then◌else◌}
 use Rattle.std.specs.Ordering.{nat_cmp}
 use Rattle.std.specs.Cmp.Lexicographic.{slice_cmp}

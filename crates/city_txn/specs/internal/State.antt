@@ -1,4 +1,4 @@
--- What contracts see of the store: the committed city, and for each open transaction what it wrote and its undo log.
+-- The store as contracts see it: the committed city, and the writes and the undo log of each open transaction.
 use Rattle.std.specs.Prelude.{◌≡◌, ◌==◌, ◌&&◌, ◌||◌, ℕ, Bool, true, false, List, [], Option, None, Some, is_some}
 use Rattle.std.specs.Prelude.{if◌then◌else◌}
 use Rattle.city_model.specs.declared.frame.Frame.{Frame}
@@ -15,7 +15,7 @@ pub record State : Type 0 where
   pub city : Objects
   -- the written ids, in byte order
   pub writes : List (List ℕ × Write)
-  -- the open transactions by their stamps, each with the ids that it has reserved
+  -- the open transactions by their stamps, each with its reserved ids
   pub opened : Reservations
   -- their undo logs
   pub logs : Logs
@@ -27,7 +27,7 @@ is_begun v stamp = is_some (listed_by v.opened stamp)
 abbrev pub is_reserved : State → ℕ → List ℕ → Bool
 is_reserved v stamp id = has_id (reservations_of v.opened stamp) id
 
--- what the transaction wrote at each id
+-- the transaction's write at each id
 abbrev pub store_own : State → ℕ → OwnWrites
 store_own v stamp id = own_write stamp (write_of v.writes id)
 
@@ -38,11 +38,11 @@ store_written v stamp = (store_own v stamp, marked (log_of v.logs stamp) (store_
 abbrev pub store_committed : State → CityMap
 store_committed v id = object_at v.city id
 
--- what the transaction sees: the committed map with its own writes
+-- the transaction's view: the committed map with its own writes
 abbrev pub store_view : State → ℕ → CityMap
 store_view v stamp id = own_or stamp (write_of v.writes id) (object_at v.city id)
 
--- what stands written at an id once the transaction wrote this there, or nothing
+-- the write at an id after the transaction wrote this there, or nothing
 abbrev pub written_with : ℕ → Option (Option Object) → Option Write → Option Write
 written_with stamp None w = w
 written_with stamp (Some o) w = Some (stamp, o)
@@ -56,12 +56,12 @@ pub record MayReserve (v : State) (stamp : ℕ) (ids : List ℕ → Bool) : Type
 abbrev pub IsReady : State → ℕ → List ℕ → Type 0
 IsReady v stamp id = (is_reserved v stamp id ≡ true) × (is_noted (log_of v.logs stamp) id ≡ true)
 
--- the transaction has newly reserved none but these ids, and no other has reserved any
+-- the transaction has newly reserved none but these ids, and no other any
 abbrev pub ReservesAmong : (List ℕ → Bool) → ℕ → State → State → Type 0
 ReservesAmong ids stamp v w = (t : ℕ) (id : List ℕ) → is_reserved w t id ≡ true
     → (is_reserved v t id || ((stamp == t) && ids id)) ≡ true
 
--- what the others wrote stays
+-- the others' writes stay
 abbrev pub OthersWritesStay : ℕ → State → State → Type 0
 OthersWritesStay stamp v w =
     (id : List ℕ) → unless_by stamp (write_of w.writes id) ≡ unless_by stamp (write_of v.writes id)
@@ -73,7 +73,7 @@ pub record ChangesWrites (v w : State) : Type 0 where
   pub opened : w.opened ≡ v.opened
   pub logs : w.logs ≡ v.logs
 
--- nothing but the write of one id has changed, which is this
+-- nothing but the write of one id has changed, to this one
 pub record WritesOne (id : List ℕ) (write : Option Write) (v w : State) : Type 0 where
   pub only : ChangesWrites v w
   pub writes : (q : List ℕ) → write_of w.writes q ≡ (if same_id id q then write else write_of v.writes q)

@@ -12,7 +12,7 @@ Images = BTreeMap (List ℕ) UndoImage
 abbrev pub image_at : Images → List ℕ → Option UndoImage
 image_at images id = get (slice_cmp nat_cmp) images id
 
--- the open transactions by their stamps, each with the ids that it has reserved
+-- the open transactions by their stamps, each with its reserved ids
 abbrev pub Reservations : Type 0
 Reservations = List (ℕ × List (List ℕ))
 

@@ -2,7 +2,7 @@ use Rattle.city_model.proofs.Prelude.{◌≡◌, drop, items_view, members_view,
 use Rattle.city_model.specs.Integral.{items_integral}
 use Rattle.city_model.proofs.integral.+integral.Given as goal
 
--- the answer is that of what is left
+-- the answer for all is the answer for the rest
 abbrev pub invariant-are_integral-loop-item : goal.invariant-are_integral-loop-item
 invariant-are_integral-loop-item l =
     items_integral (items_view l.items.items) ≡ items_integral (items_view (drop l.item-index l.items.items))

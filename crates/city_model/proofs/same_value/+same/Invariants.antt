@@ -3,7 +3,7 @@ use Rattle.std.specs.Slice.Iter.{iter_rest}
 use Rattle.city_model.specs.Attributes.{same_items, same_members}
 use Rattle.city_model.proofs.same_value.+same.Given as goal
 
--- the answer is that of what is left
+-- the answer for all is the answer for the rest
 abbrev pub invariant-same_items-loop-item : goal.invariant-same_items-loop-item
 invariant-same_items-loop-item l =
     same_items (items_view l.items.items) (items_view l.others.items)

@@ -5,7 +5,7 @@ use Rattle.city_model.proofs.Closed.{closed_where_same, open_where_repeated, pai
 use Rattle.city_model.proofs.shells.shell_closed.Goals.{then-not-has_repeats, else-not-has_repeats}
 use Rattle.city_model.proofs.shells.shell_closed.Goals as goal
 
--- what is in order once it is sorted, as a slice
+-- the sorted edges, as a slice
 sorted_slice : (noted found sorted lent : List Edge) → noted ≡ found → IsPermutation noted sorted → lent ≡ sorted
     → IsPermutation found lent
 sorted_slice noted found sorted lent is moved value = search rules

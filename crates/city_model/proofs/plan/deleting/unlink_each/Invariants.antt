@@ -1,7 +1,7 @@
 use Rattle.city_model.proofs.Prelude.{◌≡◌, ◌++◌, map, ids_left, unlinked}
 use Rattle.city_model.proofs.plan.deleting.unlink_each.Given as goal
 
--- what was written, and then what is left
+-- the writes so far, with the rest
 abbrev pub invariant-loop-parent : goal.invariant-loop-parent
 invariant-loop-parent g l =
     l.writes ++ map (unlinked (g.V.ObjectLookup.map l.view) l.child) (ids_left l.parent-iterator)

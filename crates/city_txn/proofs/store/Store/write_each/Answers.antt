@@ -23,7 +23,7 @@ returns-clause-touches c =
     (touches_writes c.args.stamp (plans c.args.writes) c.make_ready.new.self c.set_all.new.self c.set_all.ensures.only
     c.set_all.ensures.others)
 
--- what isn't noted isn't written
+-- an id not noted isn't written
 pub returns-clause-marks : goal.returns-clause-marks
 returns-clause-marks c =
     let s = c.args.stamp in
