@@ -31,7 +31,7 @@ pub trait OutputFiles: TextFiles {
         ensures unfailed { IsSome result → have_failed self.new ≡ have_failed self.old }
         ensures failed { IsNone result → have_failed self.new ≡ true };
 
-    /// Brings everything written to the device, and says whether it succeeded.
+    /// Brings all written bytes to the device, and says whether it succeeded.
     fn sync(&mut self, new: &mut Self::New) -> bool
         ensures synced { result ≡ true → is_synced new.new ≡ true }
         ensures contents { Keeps (Self.New.contents new.old) (Self.New.contents new.new) }
