@@ -30,7 +30,7 @@ abbrev pub Closes : List ℕ → Token → Place → List ℕ → Type 0
 Closes old t place new =
     (p : spec.Place) → may_close p ≡ true → punctuate p (lex between old) ≡ t ∷ tokens_at place new
 
--- the same of a word as the value
+-- the same for a value of one word
 abbrev pub IsNext : List ℕ → Token → List ℕ → Type 0
 IsNext old t new =
     (p : spec.Place) → may_begin p ≡ true

@@ -1,9 +1,9 @@
-//! Positions to read a text on from.
+//! Positions in texts.
 ghost use Rattle.std.specs.Prelude.{◌≡◌, IsTrue};
 
 use crate::plain::Place;
 
-/// A position to read a text on from: a byte, and what may come next there.
+/// A position in a text, to read on from: a byte, and what may come next there.
 #[derive(Clone, Copy, Drop)]
 pub struct Position {
     pub(crate) at: usize,

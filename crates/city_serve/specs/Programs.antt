@@ -110,7 +110,7 @@ IsUnanswered s (Asked.Text text) f =
 abbrev pub IsTold : Option (List ℕ) → Option (List ℕ) → Bool → List ℕ → Type 0
 IsTold old new failed text = failed ≡ false → Appends old new text
 
--- a refused command line is told by its text, and one too large for memory is a fault
+-- a refused command line is told by its text, and running out of memory for one is a fault
 abbrev pub IsLineTold : Status → LineFault → Option (List ℕ) → Option (List ℕ) → Bool → Type 0
 IsLineTold Status.Refused (LineFault.Refused text) old new failed = IsTold old new failed (string_bytes text)
 IsLineTold Status.Failed LineFault.OutOfMemory old new failed = ⊤

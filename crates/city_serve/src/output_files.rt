@@ -1,4 +1,4 @@
-//! Files, replaced whole.
+//! Replaces files whole.
 ghost use Rattle.std.specs.Prelude.{◌≡◌, ◌≢◌, ℕ, Bool, true, List, [], Some, None, IfSome, IsSome, IsNone, if◌then◌else◌};
 ghost use Rattle.std.specs.Io.KnownBytes.{Keeps};
 

@@ -18,7 +18,7 @@ pub struct Cuts {
     pub vertices: Vec<Position>,
 }
 
-/// The look of both sides of a comma.
+/// The form of both sides of a comma.
 #[derive(Clone, Copy, Drop)]
 struct Sides {
     /// The last byte of the left side.
@@ -239,7 +239,7 @@ fn keep(cuts: &mut Vec<Position>, cut: Option<usize>) -> Option<()> {
     cuts.push(Position::after_comma(at)).ok()
 }
 
-/// The cuts of a stretch into so many pieces, without the last one; fewer if it is short or a cut
+/// The cuts of a stretch into so many pieces, but for the last cut; fewer if it is short or a cut
 /// isn't found.
 fn cuts_before(
     alloc: Global,
@@ -261,8 +261,8 @@ fn cuts_before(
     Some(cuts)
 }
 
-/// The cuts of a stretch of a document. Empty without a last one: the text behind the last part may
-/// look like parts.
+/// The cuts of a stretch of a document. Empty if no last cut is found: the text behind
+/// the last part may look like parts.
 fn cuts_of(
     alloc: Global,
     bytes: &[u8],

@@ -140,7 +140,7 @@ fn city_of(alloc: Global, placed: Vec<(Id, Object)>, rest: Map<String, Value>) -
     Some(City::from_parts(frame, objects))
 }
 
-/// The top of a document, read.
+/// The top of a document, as read.
 #[derive(Drop)]
 pub struct Top {
     pub parts: TopParts,
