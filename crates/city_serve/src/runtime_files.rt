@@ -135,7 +135,7 @@ impl<R: Files + AllocGlobal> OutputFiles for RuntimeFiles<'_, R> {
 
 /// Makes a new file beside the file of this path, with the same mode.
 ///
-/// Refused if the path is of anything but a file: nothing else can be replaced.
+/// Refused if the path leads to anything but a file: nothing else can be replaced.
 fn create_beside<R: Files + AllocGlobal>(
     rt: &R,
     path: &str,

@@ -6,8 +6,8 @@ ghost use Rattle.city_serve.specs.SeenTexts.{seen_text};
 use city_model::OutOfMemory;
 use std::alloc::Global;
 
-/// The line to report the numbers of the changes seen by a viewer, without a newline: `viewer 0: 0
-/// 1 3`. It fails only when out of memory.
+/// The line to report the numbers of the changes seen by a viewer, without a newline:
+/// `viewer 0: 0 1 3`. It fails only when out of memory.
 pub fn seen_line(alloc: Global, viewer: usize, seen: &[u64]) -> Result<String, OutOfMemory>
     ensures { IfOk result (λ s. string_bytes s ≡ seen_text viewer seen.now) }
 {
