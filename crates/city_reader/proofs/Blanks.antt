@@ -33,7 +33,7 @@ pub lex-blanks : (t : List ℕ) → lex between (drop (prefix_len is_space t) t)
 lex-blanks [] = refl
 lex-blanks (x ∷ xs) = passed (is_space x) x xs _ (space_class x) (lex-blanks xs)
 
--- where they are passed and a space stands, the text is over
+-- if a space stands behind them, the text is over
 pub after_blanks : (t : List ℕ) → head (drop (prefix_len is_space t) t) ≡ 32 → drop (prefix_len is_space t) t ≡ []
 after_blanks t e =
     let n = prefix_len is_space t in

@@ -10,7 +10,7 @@ use Rattle.std.proofs.lemmas.Float.Parse.{scan_numeral-text_of}
 use Rattle.std.specs.Char.{digit_value}
 use Rattle.fast_float.specs.Text.{Parts, digits_of, text_of, IsInteger}
 
--- a byte that is 48 too large for its digit
+-- a byte 48 too large for its digit
 abbrev pub IsDigit : ℕ → ℕ → Type 0
 IsDigit byte digit = (digit_value byte < 10) × (digit ≡ digit_value byte)
 

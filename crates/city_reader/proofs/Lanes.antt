@@ -1,4 +1,4 @@
--- A mask that is computed lane by lane is held to a predicate at each of the 256 bytes.
+-- A mask computed lane by lane agrees with a predicate at each of the 256 bytes.
 use Rattle.std.proofs.Common.{◌≡◌, ℕ, zero, suc, ◌+◌, ◌-◌, ◌%◌, ◌^◌, ◌<◌, ◌≤◌, ltb, Bool, true, false, not, ◌&&◌}
 use Rattle.std.proofs.Common.{cond, eqb, T, List, [], ◌∷◌, map, length, drop, get_or, ◌⊎◌, inl, inr, refl, sym, ap}
 use Rattle.std.proofs.Common.{ap₂, ◌∙◌, subst, arith, w8, Fits, get_or-take, get_or-drop}

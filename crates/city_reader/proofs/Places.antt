@@ -18,7 +18,7 @@ pub record AtByte (d : List ℕ) (p x : ℕ) : Type 0 where
   pub byte : get_or d p 0 ≡ x
   pub begins : drop p d ≡ x ∷ drop (p + 1) d
 
--- a byte that is no space stands within the text
+-- a byte other than a space stands within the text
 pub byte_at : (d : List ℕ) (p x : ℕ) → 32 < x → get_or d p 32 ≡ x → AtByte d p x
 byte_at d p x solid e =
     let within : p < length d = lt_of_not-le (λ h. omega (arith, get_or_past d p 32 h)) in

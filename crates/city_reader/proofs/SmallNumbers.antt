@@ -38,7 +38,7 @@ module _ (t : List ℕ) (count : ℕ) (le : count ≤ length t) where
       (λ l. no_digit (get_or t count 0)
       (ap (λ x. is_operator x || is_space x) (sym (head_at t count ∙ get_or_default t count 32 0 l)) ∙ ended))
 
-  -- digits that stand alone are a whole number
+  -- digits standing alone are a whole number
   pub alone : AllDigits 10 (take count t) → 0 < count → (head t ≡ 48 → count ≡ 1) → ends_word (drop count t) ≡ true
       → after_whole t ≡ Some (drop count t)
   alone all some zero ended = go (cases_Bool (head t == 48))

@@ -12,7 +12,7 @@ pub record IsCursor (a : Inside) : Type 0 where
   pub utf8 : IsUtf8 a.text.now
   pub within : a.at ≤ length a.text.now
 
--- the text `old` begins with the lexeme l, after which `new` is left
+-- the text `old` begins with the lexeme l, and `new` is left
 abbrev pub IsLexeme : List ℕ → Lexeme → List ℕ → Type 0
 IsLexeme old l new = lex between old ≡ l ∷ lex between new
 

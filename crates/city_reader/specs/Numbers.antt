@@ -1,4 +1,4 @@
--- Where a whole number ends. Only private clauses cite it.
+-- The ends of whole numbers. Only private clauses cite it.
 use Rattle.std.specs.Prelude.{◌≡◌, ℕ, ℤ, ◌<◌, ◌≤◌, List, length, take, drop, true, Some, Option, IfSome}
 use Rattle.std.specs.Str.Parse.{AllDigits, digits_value}
 use Rattle.json.specs.Word.{after_number, after_whole, ends_word}
@@ -21,7 +21,7 @@ abbrev pub IsWholeFront : List ℕ → ℕ → Type 0
 IsWholeFront t count =
     (0 < count) × (count ≤ length t) × (after_whole t ≡ Some (drop count t)) × (ends_word (drop count t) ≡ true)
 
--- the number's text s is that of n, an `i64`
+-- s is a text of the number n, an `i64`
 abbrev pub IsWholeText : List ℕ → ℤ → Type 0
 IsWholeText s n = (number_of s ≡ Some (of_integer n)) × (as_i64 (of_integer n) ≡ Some n)
 

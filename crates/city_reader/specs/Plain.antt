@@ -20,17 +20,17 @@ begins_at place = may_begin (place_of place)
 abbrev pub closes_at : Place → Bool
 closes_at place = may_close (place_of place)
 
--- wherever a value may begin, the text `old` gives t and then what `new` gives
+-- at any place for a value, the text `old` gives t and then the tokens of `new`
 abbrev pub Begins : List ℕ → Token → Place → List ℕ → Type 0
 Begins old t place new =
     (p : spec.Place) → may_begin p ≡ true → punctuate p (lex between old) ≡ t ∷ tokens_at place new
 
--- the same where a bracket may close
+-- the same at any place for a closing bracket
 abbrev pub Closes : List ℕ → Token → Place → List ℕ → Type 0
 Closes old t place new =
     (p : spec.Place) → may_close p ≡ true → punctuate p (lex between old) ≡ t ∷ tokens_at place new
 
--- the same of a value that is a word
+-- the same for a value of one word
 abbrev pub IsNext : List ℕ → Token → List ℕ → Type 0
 IsNext old t new =
     (p : spec.Place) → may_begin p ≡ true

@@ -1,4 +1,4 @@
--- What is left of a text at a position.
+-- The rest of a text at a position.
 use Rattle.std.specs.Prelude.{ℕ, List, drop}
 use Rattle.json.specs.Token.{Token}
 use Rattle.city_reader.specs.Plain.{tokens_at}

@@ -1,4 +1,4 @@
--- What is taken of the tokens.
+-- Tokens as they are taken.
 use Rattle.std.specs.Prelude.{◌≡◌, ℕ, ℤ, List, ◌∷◌}
 use Rattle.json.specs.Token.{Token, number}
 use Rattle.city_reader.specs.Numbers.{IsWholeText}

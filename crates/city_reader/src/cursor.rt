@@ -1,4 +1,4 @@
-//! What is left of a text, and the lexemes that it begins with.
+//! The rest of a text, and the lexemes at its front.
 ghost use Rattle.std.specs.Prelude.{◌≡◌, ℕ, List, [], drop, IfSome, IsTrue, MatchOption};
 ghost use Rattle.std.specs.Bool.{MatchBool};
 ghost use Rattle.json.specs.Token.{number, string};
@@ -19,7 +19,7 @@ fn are_same(left: &[u8], right: &[u8]) -> bool
     left == right
 }
 
-/// Stands in a text. Contracts see the bytes that are left.
+/// Stands in a text. Contracts see the bytes left.
 #[derive(Drop)]
 pub struct Cursor<'t> {
     text: &'t str,
@@ -46,7 +46,7 @@ impl<'t> Cursor<'t> {
         Cursor { text, at: 0 }
     }
 
-    /// Stands in a text at this byte; none where the text ends before it.
+    /// Stands in a text at this byte; `None` if the text ends before it.
     pub fn from(text: &'t str, at: usize) -> Option<Cursor<'t>>
         ensures { IfSome result (λ cursor. cursor ≡ drop at text.now) }
     {
@@ -56,7 +56,8 @@ impl<'t> Cursor<'t> {
         Some(Cursor { text, at })
     }
 
-    /// Whether it stands at this byte of this text. What is left of the texts is compared only where the bytes agree.
+    /// Whether it stands at this byte of this text. The rest of the texts is compared only if the
+    /// bytes agree.
     pub fn is_at(&self, text: &str, at: usize) -> bool
         ensures { IsTrue result → self.now ≡ drop at text.now }
     {
@@ -78,7 +79,7 @@ impl<'t> Cursor<'t> {
         true
     }
 
-    /// The first byte of the next lexeme, to which the cursor goes, or a space at the end.
+    /// Goes to the next lexeme, and returns its first byte, or a space at the end.
     #[inline(always)]
     pub fn peek(&mut self) -> u8
         ensures value { result ≡ head self.new }
@@ -103,7 +104,7 @@ impl<'t> Cursor<'t> {
         self.at += 1;
     }
 
-    /// The string whose quote is next; none where it has an escape or is odd.
+    /// The string at the next quote; `None` if it has an escape or is odd.
     #[inline(always)]
     pub fn string(&mut self) -> Option<&'t str>
         requires { head self.old ≡ 34 }
@@ -119,7 +120,7 @@ impl<'t> Cursor<'t> {
         Some(&text[start..stop])
     }
 
-    /// The text of the whole number that is next; none where anything else is.
+    /// The text of the next whole number; `None` if anything else is next.
     #[inline(always)]
     pub fn number(&mut self) -> Option<&'t str>
         ensures { IfSome result (λ s. IsLexeme self.old (token (number s.now)) self.new) }
@@ -134,8 +135,8 @@ impl<'t> Cursor<'t> {
         Some(&text[start..end])
     }
 
-    /// Takes the whole number of at most 18 digits that is next; none where anything else is, and then nothing is
-    /// taken.
+    /// Takes the next whole number, of at most 18 digits. If anything else is next, returns `None`
+    /// and takes nothing.
     #[inline(always)]
     pub fn take_whole(&mut self) -> Option<i64>
         ensures { MatchOption result (self.new ≡ self.old) (λ n. (s : List ℕ)
@@ -147,7 +148,7 @@ impl<'t> Cursor<'t> {
         Some(n)
     }
 
-    /// Passes this word; none where another is next.
+    /// Passes this word; `None` if another is next.
     #[inline(always)]
     pub fn word(&mut self, name: &[u8]) -> Option<()>
         ensures { IfSome result (λ _. IsPassed self.old name.now self.new) }

@@ -1,10 +1,10 @@
 //! Reads the tokens of JSON texts, one after another, straight from the bytes.
 //!
-//! - `runs`: where runs of blanks, of digits and of the plain bytes of a string end
-//! - `numbers`: where whole numbers end
+//! - `runs`: the ends of runs of blanks, of digits and of the plain bytes of a string
+//! - `numbers`: the ends of whole numbers
 //! - `small`, `whole`: whole numbers of a few digits, and of any number of digits
-//! - `cursor`: what is left of a text, and the lexemes that it begins with
-//! - `plain`: reads texts without escapes, and gives up where anything is odd
+//! - `cursor`: the rest of a text, and the lexemes at its front
+//! - `plain`: reads texts without escapes, and gives up if anything is odd
 //! - `reader`: reads every text
 #![tactic(auto)]
 

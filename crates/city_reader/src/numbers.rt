@@ -1,4 +1,4 @@
-//! Finds where whole numbers end.
+//! Finds the ends of whole numbers.
 ghost use Rattle.std.specs.Prelude.{◌≡◌, ◌≤◌, ◌||◌, length, drop};
 ghost use Rattle.json.specs.Word.{is_operator, is_space, after_minus, after_whole};
 ghost use Rattle.json.specs.Run.{EndsAt};
@@ -46,7 +46,8 @@ fn unsigned_end(text: &[u8], from: usize) -> Option<usize>
     if end == from { None } else { Some(end) }
 }
 
-/// Where the whole number ends that begins here; none where anything else begins, or more follows in the same word.
+/// The end of the whole number at `from`; `None` if anything else begins there, or more follows in
+/// the same word.
 #[inline(always)]
 pub fn whole_end(text: &[u8], from: usize) -> Option<usize>
     requires { from ≤ length text.now }

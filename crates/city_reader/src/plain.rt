@@ -15,7 +15,7 @@ use crate::whole::whole_of;
 use json::Token;
 use std::marker::Model;
 
-/// What the text may go on with.
+/// What may come next in the text.
 #[derive(Clone, Copy, Drop)]
 pub enum Place {
     AfterComma,
@@ -49,7 +49,7 @@ impl Place {
     }
 }
 
-/// Reads the usual forms of tokens. Contracts see the tokens that are still to come.
+/// Reads the usual forms of tokens. Contracts see the tokens still to come.
 #[derive(Drop)]
 pub struct PlainReader<'t> {
     cursor: Cursor<'t>,
@@ -69,7 +69,7 @@ impl<'t> Model for PlainReader<'t> {
     ghost view = { λ a. tokens_at a.place a.cursor };
 }
 
-/// Passes the comma that may follow a value.
+/// Passes a comma after a value, if there is one.
 #[inline(always)]
 fn after_value(cursor: &mut Cursor<'_>) -> Place
     ensures { tokens_at result cursor.new ≡ punctuate after_value (lex between cursor.old) }
@@ -82,7 +82,7 @@ fn after_value(cursor: &mut Cursor<'_>) -> Place
     }
 }
 
-/// The key or the string whose quote is next.
+/// The key or the string at the next quote.
 #[inline(always)]
 fn text<'t>(cursor: &mut Cursor<'t>) -> Option<(Token<'t>, Place)>
     requires { head cursor.old ≡ 34 }
@@ -103,7 +103,7 @@ fn text<'t>(cursor: &mut Cursor<'t>) -> Option<(Token<'t>, Place)>
     }
 }
 
-/// The number or the literal that is next and begins with this byte.
+/// The next number or literal, beginning with this byte.
 #[inline(always)]
 fn word<'t>(cursor: &mut Cursor<'t>, first: u8) -> Option<Token<'t>>
     ensures { IfSome result (λ t. IsNext cursor.old (token_of t) cursor.new) }
@@ -128,7 +128,7 @@ fn word<'t>(cursor: &mut Cursor<'t>, first: u8) -> Option<Token<'t>>
     }
 }
 
-/// The token that begins with this byte, where a value or a key may begin.
+/// The token beginning with this byte, at a place for a value or a key.
 #[inline(always)]
 fn begin<'t>(cursor: &mut Cursor<'t>, first: u8) -> Option<(Token<'t>, Place)>
     requires { head cursor.old ≡ first }
@@ -151,7 +151,7 @@ fn begin<'t>(cursor: &mut Cursor<'t>, first: u8) -> Option<(Token<'t>, Place)>
     }
 }
 
-/// Passes a bracket or a brace that closes.
+/// Passes a closing bracket or brace.
 #[inline(always)]
 fn close<'t>(cursor: &mut Cursor<'t>, first: u8) -> (Token<'t>, Place)
     requires { (head cursor.old ≡ first) × ((first ≡ 125) ⊎ (first ≡ 93)) }
@@ -166,7 +166,7 @@ fn close<'t>(cursor: &mut Cursor<'t>, first: u8) -> (Token<'t>, Place)
     }
 }
 
-/// The next token; none at the end and where anything is odd.
+/// The next token; `None` at the end, and if anything is odd.
 #[inline(always)]
 fn read<'t>(cursor: &mut Cursor<'t>, place: Place) -> Option<(Token<'t>, Place)>
     ensures { IfSome result
@@ -196,7 +196,7 @@ impl<'t> PlainReader<'t> {
         }
     }
 
-    /// Reads a text on from a position; none where the text ends before it.
+    /// Reads a text on from a position; `None` if the text ends before it.
     pub fn from(text: &'t str, position: Position) -> Option<PlainReader<'t>>
         ensures { IfSome result (λ reader. reader ≡ tokens_from position text.now) }
     {
@@ -213,7 +213,7 @@ impl<'t> PlainReader<'t> {
         self.place.is(position.place) && self.cursor.is_at(text, position.at)
     }
 
-    /// Passes what stands between two positions of this text, if it stands at the first.
+    /// Goes from one position of this text to another, if it stands at the first.
     pub fn pass(&mut self, text: &str, from: Position, to: Position) -> bool
         ensures { MatchBool result
             ((self.old ≡ tokens_from from text.now) × (self.new ≡ tokens_from to text.now)) (self.new ≡ self.old) }
@@ -257,7 +257,7 @@ impl<'t> PlainReader<'t> {
         }
     }
 
-    /// The same, whose digits are read as a text first.
+    /// The same, with the digits first read as a text.
     fn long_whole(&mut self) -> Option<i64>
         ensures { IfSome result (IsWholeTaken self.old self.new) }
     {

@@ -1,9 +1,9 @@
-//! Where a text is read on.
+//! Positions in texts.
 ghost use Rattle.std.specs.Prelude.{◌≡◌, IsTrue};
 
 use crate::plain::Place;
 
-/// A place in a text from which it can be read on: a byte, and what the text may go on with there.
+/// A position in a text, to read on from: a byte, and what may come next there.
 #[derive(Clone, Copy, Drop)]
 pub struct Position {
     pub(crate) at: usize,

@@ -23,8 +23,8 @@ enum Source<'t> {
     Escaped(json::Reader<'t>),
 }
 
-/// Reads the tokens of a text, one after another, and gives up where anything is odd. Contracts see the tokens that are
-/// still to come.
+/// Reads the tokens of a text, one after another, and gives up if anything is odd. Contracts see
+/// the tokens still to come.
 #[derive(Drop)]
 pub struct Reader<'t> {
     source: Source<'t>,
@@ -44,8 +44,8 @@ impl<'t> Model for Reader<'t> {
 }
 
 impl<'t> Reader<'t> {
-    /// Reads this text, at first at its beginning. Only a text with an escape takes memory, as much as the text, in
-    /// `scratch`; none where that is refused.
+    /// Reads this text from its beginning. Only a text with an escape takes memory, as much as the
+    /// text, in `scratch`; `None` if that is refused.
     pub fn new(text: &'t str, scratch: &'t mut Scratch<Global>) -> Option<Reader<'t>>
         ensures { IfSome result (λ reader. reader ≡ tokens text.now) }
     {
@@ -57,7 +57,8 @@ impl<'t> Reader<'t> {
         Some(Reader { source })
     }
 
-    /// Reads this text on from a position, as far as it has no escape; none where that is no place of the text.
+    /// Reads this text on from a position, as far as it has no escape; `None` if the text has no
+    /// such place.
     pub fn from(text: &'t str, position: Position) -> Option<Reader<'t>>
         ensures { IfSome result (λ reader. reader ≡ tokens_from position text.now) }
     {
@@ -77,7 +78,7 @@ impl<'t> Reader<'t> {
         }
     }
 
-    /// Passes what stands between two positions of this text, if this reader stands at the first.
+    /// Goes from one position of this text to another, if this reader stands at the first.
     pub fn pass(&mut self, text: &str, from: Position, to: Position) -> bool
         ensures { MatchBool result
             ((self.old ≡ tokens_from from text.now) × (self.new ≡ tokens_from to text.now)) (self.new ≡ self.old) }
@@ -88,7 +89,7 @@ impl<'t> Reader<'t> {
         }
     }
 
-    /// The next token; none at the end, and where anything is odd.
+    /// The next token; `None` at the end, and if anything is odd.
     #[inline(always)]
     pub fn next(&mut self) -> Option<Token<'t>>
         ensures { IfSome result (λ t. self.old ≡ token_of t ∷ self.new) }
@@ -99,7 +100,7 @@ impl<'t> Reader<'t> {
         }
     }
 
-    /// The next token's number, which is an `i64`; none where it is anything else.
+    /// The next token's number, an `i64`; `None` if it is anything else.
     #[inline(always)]
     pub fn whole(&mut self) -> Option<i64>
         ensures { IfSome result (IsWholeTaken self.old self.new) }
@@ -113,7 +114,8 @@ impl<'t> Reader<'t> {
         }
     }
 
-    /// The key of the next member, or none within at the brace that closes an object; none where anything else is next.
+    /// The key of the next member, or `Some(None)` at the closing brace of an object; `None` if
+    /// anything else is next.
     #[inline(always)]
     pub fn next_key(&mut self) -> Option<Option<&'t str>>
         ensures { IfSome result
@@ -126,7 +128,7 @@ impl<'t> Reader<'t> {
         }
     }
 
-    /// Takes the bracket that closes an array, if it is next.
+    /// Takes the closing bracket of an array, if it is next.
     #[inline(always)]
     pub fn take_end_array(&mut self) -> bool
         ensures { MatchBool result (after_end_array self.old ≡ Some self.new) (self.new ≡ self.old) }

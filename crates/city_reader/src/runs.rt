@@ -57,7 +57,7 @@ pub fn plain_end(text: &[u8], from: usize) -> usize
     plain_end_slowly(text, at)
 }
 
-/// The first byte from `from` on that is no digit, or the length.
+/// The first byte from `from` on other than a digit, or the length.
 #[inline(always)]
 pub fn digits_end(text: &[u8], from: usize) -> usize
     requires { from ≤ length text.now }
@@ -78,7 +78,7 @@ fn is_blank(byte: u8) -> bool
     (byte == b' ') | (byte == b'\t') | (byte == b'\n') | (byte == b'\r')
 }
 
-/// The first byte from `from` on that is no blank, or the length.
+/// The first byte from `from` on other than a blank, or the length.
 #[inline(never)]
 pub fn blanks_end(text: &[u8], from: usize) -> usize
     requires { from ≤ length text.now }

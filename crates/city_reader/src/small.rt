@@ -13,7 +13,7 @@ use crate::runs::byte_at;
 /// How many digits are read one by one: any number of so many fits.
 const FEW: usize = 18;
 
-/// The value of the digits that a text begins with, of at most 18, and how many they are.
+/// The value of the digits at the front of a text, of at most 18, and their count.
 #[inline(always)]
 fn few_digits(text: &[u8]) -> (u64, usize)
     ensures { AreDigits text.now result.1 result.0 }
@@ -54,8 +54,8 @@ fn stands_alone(text: &[u8], count: usize) -> bool
     is_delimiter(byte_at(text, count))
 }
 
-/// The number of a few digits at the front of a text, and how many they are; none where they are more, or anything
-/// else is there.
+/// The number of a few digits at the front of a text, and their count; `None` if there are more, or
+/// anything else is there.
 #[inline(always)]
 fn digits_at_front(text: &[u8]) -> Option<(u64, usize)>
     ensures integer { IfSome result (λ r. IsInteger (scan (take r.1 text.now))) }
@@ -97,8 +97,8 @@ fn not_below_zero(text: &[u8]) -> Option<(i64, usize)>
     Some((n as i64, count))
 }
 
-/// The whole number of at most 18 digits that a text begins with, and how many bytes it has; none where anything else
-/// is there.
+/// The whole number of at most 18 digits at the front of a text, and its count of bytes; `None` if
+/// anything else is there.
 #[inline(always)]
 pub fn small_whole(text: &[u8]) -> Option<(i64, usize)>
     ensures { IfSome result (λ r. IsSmallWhole text.now r.1 r.0) }

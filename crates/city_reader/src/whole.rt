@@ -18,7 +18,7 @@ fn has_minus(bytes: &[u8]) -> bool
     !bytes.is_empty() && bytes[0] == b'-'
 }
 
-/// The number of a few digits, read one by one; none where a byte is no digit.
+/// The number of a few digits, read one by one; `None` if a byte is no digit.
 #[inline(always)]
 fn value_of_digits(digits: &[u8]) -> Option<u64>
     requires { length digits.now ≤ 18 }
@@ -37,7 +37,7 @@ fn value_of_digits(digits: &[u8]) -> Option<u64>
     Some(n)
 }
 
-/// The number of a few digits alone; none where they are more, or anything else is there.
+/// The number of a few digits alone; `None` if there are more, or anything else is there.
 #[inline(always)]
 fn few_digits(bytes: &[u8]) -> Option<u64>
     ensures integer { IfSome result (λ _. IsInteger (scan bytes.now)) }
@@ -94,7 +94,7 @@ fn not_below_zero(bytes: &[u8]) -> Option<i64>
     }
 }
 
-/// The `i64` that a number's text is; none where it is a fraction, too large or `-0`.
+/// The `i64` of a number's text; `None` if it is a fraction, too large or `-0`.
 #[inline(always)]
 pub fn whole_of(text: &str) -> Option<i64>
     ensures value { IfSome result (λ n. number_of text.now ≡ Some (of_integer n)) }

@@ -1,4 +1,4 @@
--- What a check writes, of the texts that it reads.
+-- The output of a check, by the texts read.
 use Rattle.city_serve.proofs.Prelude.{◌≡◌, ◌++◌, ℕ, Bool, true, false, List, [], Option, Some, IfSome, refl, sym}
 use Rattle.city_serve.proofs.Prelude.{subst, Vec, Appends, Asked}
 use Rattle.std.proofs.Common.{Bor}
@@ -25,7 +25,7 @@ model_and_scripts texts decimals model scripts document commands first behind li
       lines_are = are;
     }))
 
--- ---- with which status
+-- ---- statuses
 
 module _ (s : Streams) (options : Options) (model : Bor (List ℕ)) (scripts : Option (Bor (List ℕ))) where
   checked_so : (seen : List (Vec ℕ)) (faulty : Bool) → seen ≡ []

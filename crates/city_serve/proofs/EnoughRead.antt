@@ -1,4 +1,4 @@
--- What is read of a text is the whole of it, or shows that it is too long.
+-- The bytes read of a text are the whole of it, or enough to show it is too long.
 use Rattle.city_serve.proofs.Prelude.{◌≡◌, ℕ, ◌+◌, ◌<◌, ◌≤◌, Bool, true, false, List, length, take, Option, Some, None}
 use Rattle.city_serve.proofs.Prelude.{IfSome, nat_lt, inl, inr, refl, ap, ◌∙◌, arith, nat_tests, take_all}
 use Rattle.std.proofs.lemmas.List.{length-take-le}

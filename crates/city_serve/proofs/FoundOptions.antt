@@ -1,5 +1,5 @@
--- What clap finds in a line of options and names: the values of options, which flags are given, and the first two
--- names, the model's and the scripts'. A third name is refused.
+-- Clap's findings in a line of options and names: the values of options, the given flags, and the first two names, the
+-- model's and the scripts'. A third name is refused.
 use Rattle.city_serve.proofs.Prelude.{◌≡◌, ◌≢◌, ◌+◌, ℕ, Bool, true, false, cond, List, [], ◌∷◌, append-nil, inl, inr}
 use Rattle.city_serve.proofs.Prelude.{arith, Option, Some, None, is_some, refl, sym, subst, ap, ap₂, ◌∙◌, codes, fold}
 use Rattle.city_serve.proofs.Prelude.{option_and_then, option_map_or, slice_get, bytes_eq, bytes_eq-Decides}
@@ -21,7 +21,7 @@ use Rattle.city_serve.proofs.Rows.{found_behind, has_row_is, with_defaults}
 abbrev pub app : App
 app = built cityed_command
 
--- the fault of a walk that ended at w with the fault f
+-- the fault of a walk ended at w with the fault f
 abbrev pub ending : Walk → Kinds → Kinds
 ending w f = or_else f (or_else (entered_fault app w.stopped)
     (or_else (settle_fault rules false w.held)
@@ -36,7 +36,7 @@ rows args = rows_after rules [] args
 
 -- ---- the rows of a line
 
--- the names that go to MODEL and to SCRIPTS
+-- the names for MODEL and for SCRIPTS
 abbrev model_of : Place → List Text → Option Text
 model_of model_next names = slice_get names 0
 model_of _ names = None
@@ -73,7 +73,7 @@ apart a b k l is other differs = false_from_ne_true (bytes_eq a b) (λ same.
 skipped : (id : Text) (r : Row) (rs : List Row) → bytes_eq r.id id ≡ false → found id (r ∷ rs) ≡ found id rs
 skipped id r rs other = ap (λ b. cond b (Some r) (found id rs)) other
 
--- the row of an id, before others: what is found is what the id has then
+-- the row of an id, before others: the id's value then is found
 found_new : (id known : Text) (v : Text) (rs : List Row) (o : Option Text) → found id rs ≡ option_map (text_row id) o
     → found id (text_row known v ∷ rs) ≡ option_map (text_row id) (cond (bytes_eq known id) (Some v) o)
 found_new id known v rs o is = by_test (bytes_eq known id) (bytes_eq-Decides known id).0
@@ -92,7 +92,7 @@ flag_new id known rs b is = by_test (bytes_eq known id) (bytes_eq-Decides known 
     by_test true same = ap (λ i. Some (flag_row i)) (same refl)
     by_test false same = is
 
--- what is found in such rows, which are of different ids
+-- the findings in such rows, of different ids
 pub record Holds (place : Place) (line : Line) (held : List Row) : Type 0 where
   pub values : (o : Valued) → found (value_name o) held ≡ option_map (text_row (value_name o)) (line.value o)
   pub flags : (f : Flag) → found (flag_name f) held ≡ cond (line.has f) (Some (flag_row (flag_name f))) None
@@ -189,7 +189,7 @@ abbrev pub flag_text : Bool → Text
 flag_text true = codes "true"
 flag_text false = codes "false"
 
--- the values that clap finds for the options and the two names
+-- clap's values for the options and the two names
 pub record Finds (line : Line) (held : List Row) : Type 0 where
   pub values_found : (o : Valued) → first_of (value_name o) held ≡ line.value o
   pub flags_found : (f : Flag) → one_of (flag_name f) held ≡ Some (flag_text (line.has f))
@@ -233,7 +233,7 @@ flag_found f held b is =
 
 -- ---- whole command lines
 
--- what clap makes of a line of options and names: with more than two names it is refused
+-- clap's answer to a line of options and names: with more than two names it is refused
 abbrev pub Parses : Bool → Line → List Text → Type 0
 Parses false line args = (fault args ≡ []) × Finds line (rows args)
 Parses true line args = fault args ≡ UnknownArgument ∷ []

@@ -1,4 +1,4 @@
--- What a run on encoded texts says of the texts.
+-- Facts of two texts from a run on their encoded texts.
 use Rattle.city_serve.proofs.Prelude.{◌≡◌, ℕ, List, [], ◌∷◌, Bool, true, false, Option, Some, None, inl, inr, refl, sym}
 use Rattle.city_serve.proofs.Prelude.{ap, ap₂, ◌∙◌, subst, arith, option_and_then, AreDecodedLines, End}
 use Rattle.std.specs.Prelude.{◌&&◌}
@@ -29,7 +29,7 @@ use Rattle.serde_json.specs.Read as serde
 use Rattle.city_model.specs.Integral as model
 use Rattle.city_decimals.specs.Whole as decimals
 
--- a text that is read has a value
+-- a text read in full has a value
 abbrev last : Option (Json × List Token) → Option Json
 last o = option_and_then (λ p. if_last p.0 p.1) o
 
@@ -45,7 +45,7 @@ of_reading ts (Some (j, t ∷ r)) d is e = absurd (cc)
 has_value : (text : List ℕ) (d : Data) → read text ≡ Some d → (j : Json) × (document text ≡ Some j)
 has_value text d e = of_reading (tokens text) (value serde.max_depth (tokens text)) d refl e
 
--- what is refused as it stands isn't read
+-- a text refused as it stands isn't read
 refused_unread : (text : List ℕ) (d : Data) → IsRefusedText text → HasTree text d → ⊥
 refused_unread text d (inl long) tree = omega (arith, long, tree.0)
 refused_unread text d (inr none) tree =
@@ -60,7 +60,7 @@ given_is_encoded text given d (inr (refused, same)) tree =
 
 -- ---- no number is refused for its form
 
--- the numbers of a tree are whole by one definition where they are by the other
+-- the numbers of a tree are whole by both definitions, or by neither
 mutual
   same_integral : (d : Data) → decimals.is_integral d ≡ model.is_integral d
   same_integral null = refl
@@ -123,7 +123,7 @@ whole_fault model commands workers viewers f first second fault = (
   λ is. scripts_whole commands second (subst (IsRunFault model commands) is fault.0).2,
 )
 
--- ---- a run on what is given of two texts
+-- ---- a run on the given texts
 
 module _ (model commands given_model given_commands : List ℕ) (first : IsGiven model given_model)
     (second : IsGiven commands given_commands) where

@@ -1,4 +1,4 @@
--- What clap holds as it goes over a line of options and names.
+-- Clap's state as it goes over a line of options and names.
 use Rattle.city_serve.proofs.Prelude.{◌≡◌, ℕ, Bool, true, false, ◌&&◌, List, [], ◌∷◌, ◌++◌, Some, None, refl, sym}
 use Rattle.city_serve.proofs.Prelude.{subst, ap, ap₂, ◌∙◌, codes, arith, ◌≢◌, if◌then◌else◌, fold, option_and_then}
 use Rattle.city_serve.proofs.Prelude.{option_map_or, bytes_eq, long_of, false_from_ne_true, nat_tests, Held, Row, Rule}
@@ -26,7 +26,7 @@ top = (built cityed_command).top
 abbrev pub rules : List Rule
 rules = top.rules
 
--- ---- a word that doesn't begin with a hyphen is a value
+-- ---- a word without a hyphen in front is a value
 
 no_hyphen_byte : (b : ℕ) → Some b ≢ Some 45 → (b == 45) ≡ false
 no_hyphen_byte b other = false_from_ne_true (b == 45) (λ same.
@@ -98,7 +98,7 @@ word_then false w next word words found free is goes = record {
 word_then true w next word words found free is fault =
     λ rest. ap₂ (λ (f : Kinds) (v : Walk). or_else f (walk_fault top [] v (words ++ rest))) free is ∙ fault rest
 
--- ---- what a use of an argument makes of what is held
+-- ---- the state after a use of an argument
 
 -- the argument has its value, and it is used with the next one
 abbrev put : Text → Text → Held → Held
@@ -115,7 +115,7 @@ abbrev waits_for : Text → Held → ℕ → Walk
 waits_for id h p =
     record (stands (record (settled rules h) { pending = Some (id, []) }) p) { waiting = option id }
 
--- a name where nothing waits
+-- a name, with nothing waiting
 module _ (h : Held) (p : ℕ) (n : Text) (name : IsName n) where
   pub name_turn : turn_fault top [] (stands h p) n ≡ step_fault top p h value
   name_turn = ap₂ (λ (f : Kinds) (met : Held × Step). or_else f (step_fault top p met.0 met.1)) (no_flag n name h)
@@ -129,7 +129,7 @@ module _ (h : Held) (p : ℕ) (n : Text) (name : IsName n) where
       word_then over (stands h p) next n words found (name_turn ∙ free)
       (ap (λ (met : Held × Step). after_step rules n (stands h p) met.0 met.1) (plain_met n name h idle p) ∙ is)
 
--- what the walk makes of the word of an option and of its value, where h is held
+-- the walk's step over an option's word and its value, from the state h
 abbrev IsValueStep : Held → ℕ → Text → Text → Text → Type 0
 IsValueStep h p word id v =
     (turn_fault top [] (stands h p) word ≡ []) × (walked rules [] (stands h p) word ≡ waits_for id h p)
@@ -155,7 +155,7 @@ module _ (over : Bool) (h : Held) (p : ℕ) (id word v : Text) (words : List Tex
 
 -- ---- the walk over a line
 
--- which name is next
+-- the next name
 pub data Place : Type 0 where
   model_next : Place
   scripts_next : Place
@@ -183,11 +183,11 @@ rows_in model_next (gives_name n line rest plain more) = text_row (codes "MODEL"
 rows_in scripts_next (gives_name n line rest plain more) = text_row (codes "SCRIPTS") n ∷ rows_in none_next more
 rows_in none_next (gives_name n line rest plain more) = rows_in none_next more
 
--- no fault where no row is repeated
+-- no fault if no row is repeated
 no_repeat : (b : Bool) → b ≡ false → or_else (if b && true then ArgumentConflict ∷ [] else []) [] ≡ []
 no_repeat b fresh = ap (λ t. or_else (if t && true then ArgumentConflict ∷ [] else []) []) fresh
 
--- where the rows so far lack an id, it is no fault to use its argument, and its row comes behind them
+-- if the rows so far lack an id, it is no fault to use its argument, and its row comes behind them
 module _ (h : Held) (rows : List Row) (are : (settled rules h).rows ≡ rows) (id : Text)
     (fresh : has_row id rows ≡ false) where
   use_free : or_else (if has_row id (settled rules h).rows && true then ArgumentConflict ∷ [] else []) [] ≡ []
@@ -231,7 +231,7 @@ module _ (h : Held) (p : ℕ) (rows : List Row) (settles : settle_fault rules fa
   flag_step Explain fresh =
       (ap₂ (λ (f g : Kinds). or_else (or_else f g) []) settles (use_free h rows are (codes "explain") fresh), refl)
 
--- the letter for --output, where no flags of a bundle are to be passed over
+-- the letter for --output, with no flags of a bundle to be passed over
 letter_at : (h : Held) (p : ℕ) (rows : List Row) (v : Text) → settle_fault rules false h ≡ []
     → (settled rules h).rows ≡ rows → has_row (codes "output") rows ≡ false
     → IsValueStep (record h { skip = 0 }) p (codes "-o") (codes "output") v

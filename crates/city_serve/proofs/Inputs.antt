@@ -50,7 +50,7 @@ module _ (p : ℕ → Bool) (xs : List ℕ) where
   found_none true n is = absurd (grind (arith, nat_tests, is))
   found_none false n is = refl
 
-  -- where the first byte stands that passes
+  -- the index of the first passing byte
   pub first_position : (r : Option ℕ) → IsFirstByte p xs r → r ≡ position p xs
   first_position None nowhere =
       let all : position_or_len p xs ≡ length xs =

@@ -1,4 +1,4 @@
--- Lines of JSON are decoded at any depth that is at least their length.
+-- Lines of JSON are decoded at any depth from their length on.
 use Rattle.std.proofs.Common.{◌≡◌, ℕ, ◌+◌, ◌≤◌, List, [], ◌∷◌, ◌++◌, length, refl, ap, ◌∙◌, arith, append_assoc}
 use Rattle.std.proofs.Common.{length-append}
 use Rattle.std.specs.Prelude.{flat_map}

@@ -1,4 +1,4 @@
--- Known bytes that are read or written part by part.
+-- Known bytes, read or written part by part.
 use Rattle.city_serve.proofs.Prelude.{◌≡◌, ◌≤◌, ◌+◌, ◌-◌, ℕ, List, ◌++◌, length, take, drop, Option, Some, None, IfSome}
 use Rattle.city_serve.proofs.Prelude.{sym, ap, subst, ◌∙◌, append_assoc, append-nil, arith, length-drop, length-take}
 use Rattle.city_serve.proofs.Prelude.{take_all, Appends, Consumes, Keeps, AppendsSome}
@@ -21,7 +21,7 @@ appends_more (Some xs) None w a b h k = absurd h
 appends_more (Some xs) (Some ys) None a b h k = k
 appends_more (Some xs) (Some ys) (Some zs) a b h k = k ∙ ap (λ t. t ++ b) h ∙ append_assoc xs a b
 
--- what was written so far is the first of the bytes
+-- the bytes written so far are the first of them
 pub some_appended : (u v : Option (List ℕ)) (done rest bytes : List ℕ) → done ++ rest ≡ bytes → Appends u v done
     → AppendsSome u v bytes
 some_appended u v done rest bytes all h =
@@ -32,7 +32,7 @@ some_appended u v done rest bytes all h =
 cut_off : (n : ℕ) (xs : List ℕ) → take (length xs - n) (drop n xs) ≡ drop n xs
 cut_off n xs = take_all (length xs - n) (drop n xs) (omega (arith, length-drop n xs))
 
--- what was written, and what is left once n more are
+-- the bytes written, and the rest once n more are
 pub more_written : (done rest bytes : List ℕ) (n : ℕ) → done ++ rest ≡ bytes
     → (done ++ take n rest) ++ take (length rest - n) (drop n rest) ≡ bytes
 more_written done rest bytes n all =
@@ -53,7 +53,7 @@ consumes_more (Some xs) None w a b h k = absurd h
 consumes_more (Some xs) (Some ys) None a b h k = k
 consumes_more (Some xs) (Some ys) (Some zs) a b h k = h ∙ ap (λ t. a ++ t) k ∙ sym (append_assoc a b zs)
 
--- all that was there was read, and it was no more than the most
+-- everything there was read, and it was no more than the most
 pub all_read : (u v : Option (List ℕ)) (items : List ℕ) (most : ℕ) → Consumes u v items → IsAtEnd v
     → length items ≤ most → IfSome u (λ all. items ≡ take most all)
 all_read None v items most h end within = tt

@@ -1,4 +1,4 @@
--- What the program answers to options and names, by what clap made of them.
+-- The program's answers to options and names, by clap's findings.
 use Rattle.city_serve.proofs.Prelude.{◌≡◌, ◌⊎◌, ℕ, Bool, true, false, true≢false, List, [], ◌∷◌, Option, Some, None}
 use Rattle.city_serve.proofs.Prelude.{inl, inr, refl, sym, subst, ap, ◌∙◌, arith, codes, IsErr, slice_get, All, Text}
 use Rattle.city_serve.proofs.Prelude.{first_of, one_of, IsAmong, Kinds, OutOfMemory, UnknownArgument, ErrorKind}
@@ -22,7 +22,7 @@ use Rattle.city_serve.proofs.GivenOptions.{is_over, model_next}
 abbrev pub Answer : Type 0
 Answer = Result Asked LineFault
 
--- ---- the options are the only ones that are asked for
+-- ---- no other options are asked for
 
 count_unique : (least most : ℕ) (text : Option Text) (n k : ℕ) → IsCount least most text n → IsCount least most text k
     → n ≡ k
@@ -78,7 +78,7 @@ memory_checked options (m ∷ []) r short = inr short
 memory_checked options (m ∷ s ∷ []) r short = inr short
 memory_checked options (m ∷ s ∷ x ∷ rest) r short = rw short refl
 
--- the names in their two places are answered, where there are no more
+-- the names in their two places are answered, if there are no more
 by_places : (options : Options) (to : Destination) (names : List Text) (r : Answer) → is_over model_next names ≡ false
     → AnswersPlaces options to (slice_get names 0) (slice_get names 1) r → AnswersNames options to names r
 by_places options to [] r fits answers = inl answers
@@ -133,13 +133,13 @@ places_to options to other (Some m) None r same is = is
 places_to options to other None scripts (Ok a) same is = input_to options to other a same is
 places_to options to other None scripts (Err f) same is = is
 
--- where clap found no fault, what the code read of the options
+-- the options as read by the code, if clap found no fault
 pub record Reads (value : Valued → Option Text) (has : Flag → Bool) (args : List Text) : Type 0 where
   pub free : fault args ≡ []
   pub values_read : (o : Valued) → first_of (value_name o) (rows args) ≡ value o
   pub flags_read : (f : Flag) (given : Bool) → one_of (flag_name f) (rows args) ≡ Some (flag_text given) → has f ≡ given
 
--- what the code reads, by the options
+-- the values read by the code, by the options
 abbrev pub value_by : Option Text → Option Text → Option Text → Valued → Option Text
 value_by workers watch output Workers = workers
 value_by workers watch output Watch = watch
@@ -152,7 +152,7 @@ flag_by decimals explain atomic check Atomic = atomic
 flag_by decimals explain atomic check Check = check
 
 module _ {line : Line} {args : List Text} (is : IsLineOf line args) (r : Answer) where
-  -- a check is answered where there is --check, and a run where there is none
+  -- a check is answered with --check, and a run without
   by_check : (check : Bool) → check ≡ line.has Check → MatchBool check (AnswersCheck line r) (AnswersRun line r)
       → AnswersOptions line r
   by_check check given = subst (λ b. MatchBool b (AnswersCheck line r) (AnswersRun line r)) given
@@ -180,14 +180,14 @@ module _ {line : Line} {args : List Text} (is : IsLineOf line args) (r : Answer)
     finds : Finds line (rows args)
     finds = (fits (is_over model_next line.names) (line_parses is)).1
 
-    -- what was read was given
+    -- a value read was given
     value_given : (o : Valued) → value o ≡ line.value o
     value_given o = sym (reads.values_read o) ∙ finds.values_found o
 
     flag_given : (f : Flag) → has f ≡ line.has f
     flag_given f = reads.flags_read f (line.has f) (finds.flags_found f)
 
-    -- the options that were read are asked for
+    -- the options read are asked for
     abbrev pub AreRead : Options → Type 0
     AreRead = AreOptionsOf (value Workers) (value Watch) (has Decimals) (has Explain)
 
@@ -230,7 +230,7 @@ module _ {line : Line} {args : List Text} (is : IsLineOf line args) (r : Answer)
         (λ options to of at. absurd (unasked options of), λ _. wrong)
 
     module _ (to : Destination) (at : IsDestinationOf (value Output) (has Atomic) to) where
-      -- an option that only a run takes was read where it was given
+      -- an option for runs only was read just if it was given
       run_given : IsOfRun (value Workers) (value Watch) to → HasRunOption line
       run_given (inl some) = inl (Workers, λ none. some (value_given Workers ∙ none))
       run_given (inr (inl some)) = inl (Watch, λ none. some (value_given Watch ∙ none))
@@ -262,7 +262,7 @@ module _ {line : Line} {args : List Text} (is : IsLineOf line args) (r : Answer)
             λ run. absurd (free (run_read run)),
           )
 
-  -- where it found one
+  -- if it found one
   pub fault_answered : (kind : ErrorKind) → (kind ≡ OutOfMemory → IsWantOfMemory r) → (kind ≡ UnknownArgument → IsErr r)
       → (kind ≡ OutOfMemory) ⊎ IsAmong kind (fault args) → AnswersOptions line r
   fault_answered kind memory refused (inl short) = short_answered (memory short)

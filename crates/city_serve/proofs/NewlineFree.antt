@@ -33,7 +33,7 @@ no_newline (x ∷ xs) e (suc k) below is = no_newline xs (omega arith) k (omega 
 
 -- ---- numbers
 
--- what is left of a text has so many newlines
+-- the rest of a text has so many newlines
 abbrev Leaves : ℕ → Option (List ℕ) → Type 0
 Leaves n None = Unit {0}
 Leaves n (Some r) = newlines r ≡ n

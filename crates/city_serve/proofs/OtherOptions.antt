@@ -1,4 +1,4 @@
--- What clap makes of options: help and the version are texts to show, and any other long option is refused.
+-- Clap's answer to options: help and the version are texts to show, and any other long option is refused.
 use Rattle.city_serve.proofs.Prelude.{◌≡◌, ◌⊎◌, ℕ, Bool, true, false, List, [], ◌∷◌, ◌++◌, Option, Some, None, inl, inr}
 use Rattle.city_serve.proofs.Prelude.{refl, sym, subst, ap, ◌∙◌, codes, ◌≢◌, if◌then◌else◌, IsErr, All, bytes_eq}
 use Rattle.city_serve.proofs.Prelude.{long_of, false_from_ne_true, bytes_eq-Decides, Held, Row, Text, idle}
@@ -55,7 +55,7 @@ module _ (option : Text) (unknown : IsUnknownOption option) where
       ap (λ (f : Kinds). or_else (or_else f (step_fault top p met.0 met.1))
       (walk_fault top [] (walked rules [] (stands h p) option) rest)) (option_refused h)
 
-  -- after names, of which the third is refused before it
+  -- after names, with a third one refused before it
   refused_after : (names rest : List Text) → All IsName names → fault (names ++ option ∷ rest) ≡ UnknownArgument ∷ []
   refused_after names rest named = refused_all (names ++ option ∷ rest)
       (by_over _ (is_over model_next names) (line_ends (names_line names named)))

@@ -1,4 +1,4 @@
--- The words that proofs of this crate share, from std, from the libraries and from its own definitions.
+-- Shared names of this crate's proofs, from std, from the libraries and from its own definitions.
 pub use Rattle.std.proofs.Common.{Bool, IfSome, List, None, Option, Some, [], ap, append-nil, append_assoc, ap₂, arith}
 pub use Rattle.std.proofs.Common.{codes, cond, drop, false, inl, inr, is_some, length, length-drop, map, nat_lt, refl}
 pub use Rattle.std.proofs.Common.{string_bytes, subst, sym, take, true, true≢false, ℕ, ◌&&◌, ◌++◌, ◌+◌, ◌-◌, ◌<◌, ◌∙◌}

@@ -1,4 +1,4 @@
--- A new file that takes the place of another has given it all that was written to it.
+-- A new file in the place of another has given it everything written to it.
 use Rattle.city_serve.proofs.Prelude.{◌≡◌, ◌≢◌, ℕ, Bool, true, false, List, [], ◌∷◌, Option, Some, None, IfSome}
 use Rattle.city_serve.proofs.Prelude.{if◌then◌else◌, refl, sym, ap, subst, ◌∙◌, Appends, Keeps}
 use Rattle.city_serve.specs.Destinations.{Folder, IsReplaced}

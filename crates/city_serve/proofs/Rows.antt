@@ -1,4 +1,4 @@
--- Rows that clap holds: one of a new id stands behind the others, which are found as before.
+-- Clap's rows: one of a new id stands behind the others, and they are found as before.
 use Rattle.city_serve.proofs.Prelude.{◌≡◌, Bool, true, false, true≢false, cond, ◌&&◌, ◌⊎◌, inl, inr, List, [], ◌∷◌}
 use Rattle.city_serve.proofs.Prelude.{◌++◌, append-nil, append_assoc, Option, Some, None, is_some, refl, sym, subst, ap}
 use Rattle.city_serve.proofs.Prelude.{ap₂, ◌∙◌, fold, bytes_eq, false_from_ne_true, bytes_eq-Decides, Row, Rule, Text}
@@ -85,7 +85,7 @@ abbrev pub AreDistinct : List Row → Type 0
 AreDistinct [] = Unit {0}
 AreDistinct (r ∷ rs) = (has_row r.id rs ≡ false) × AreDistinct rs
 
--- each of them is new where the ones before it are held, behind the first
+-- each of them is new behind the first and the ones before it
 abbrev pub AreFresh : List Row → List Row → Type 0
 AreFresh held [] = Unit {0}
 AreFresh held (r ∷ rs) = (has_row r.id held ≡ false) × AreFresh (held ++ r ∷ []) rs
@@ -125,7 +125,7 @@ abbrev first_some : Option Row → Option Row → Option Row
 first_some (Some r) o = Some r
 first_some None o = o
 
--- the row that default values add where an argument has none
+-- the row added by default values if an argument has none
 abbrev default_list : Text → Reading → List Text → List Row
 default_list id how [] = []
 default_list id how (v ∷ vs) = row_by id how DefaultValue (v ∷ vs) ∷ []
@@ -146,7 +146,7 @@ found_both id (r ∷ rs) more = by_test (bytes_eq r.id id) (found_both id rs mor
     by_test true later = refl
     by_test false later = later
 
--- where a row is there, the same id's default changes nothing
+-- if a row is there, the same id's default changes nothing
 found_there : (id known : Text) (rows : List Row) (o p : Option Row) (b : Bool) → has_row known rows ≡ true
     → found id rows ≡ o → (b ≡ true → known ≡ id) → found id rows ≡ first_some o (cond b p None)
 found_there id known rows (Some r) p b has is same = is
@@ -167,7 +167,7 @@ found_default : (id : Text) (a : Rule) (rows : List Row)
     → found id (with_default rows a) ≡ first_some (found id rows) (found id (rows_of_default a))
 found_default id a rows = found_one id a.id (reading_by a) a.defaults rows (has_row a.id rows) refl
 
--- what is found of an id behind the defaults of arguments, by what was found of it before
+-- the finding for an id behind the defaults of arguments, by the finding before
 abbrev pub with_defaults : Text → List Rule → Option Row → Option Row
 with_defaults id rules o = fold (λ p a. first_some p (found id (rows_of_default a))) o rules
 
@@ -178,7 +178,7 @@ found_behind id rows (a ∷ rs) =
     found_behind id (with_default rows a) rs
     ∙ ap (with_defaults id rs) (found_default id a rows)
 
--- an argument has no default, or one that is right in itself
+-- an argument has no default, or one right in itself
 abbrev IsRight : Rule → Type 0
 IsRight a = (a.defaults ≡ []) ⊎ (given_default_fault a a.defaults ≡ [])
 

@@ -1,5 +1,5 @@
--- What is delivered of a run is served of its texts; and what holds of two texts holds of the two parts of an input,
--- where they are the parts of what was read of it.
+-- Output delivered from a run is served from its texts; and a property of two texts holds of the two parts of an input,
+-- if they are the parts of its bytes read.
 use Rattle.city_serve.proofs.Prelude.{◌≡◌, ◌++◌, ℕ, List, Bool, true, Option, Some, None, IfSome, sym, subst, take, drop}
 use Rattle.city_serve.proofs.Prelude.{Vec, Appends, End, ServeFault, AreServedBy, document_part, written_by, faults_by}
 use Rattle.std.proofs.lemmas.List.{take-append-drop}
@@ -10,13 +10,13 @@ use Rattle.city_serve.specs.Destinations.{Folder, IsCutAt, IsRunInParts, IsDeliv
 use Rattle.city_serve.specs.ServedTexts.{Written, Faults, WhereAlone, AreCutShortBy, IsTextsFaultBy}
 use Rattle.city_serve.specs.Served.{read_of, scripts_part, IsServeFaultBy}
 
--- what holds of what was read holds of the input, where that is known
+-- a property of the bytes read holds of the input, if that is known
 pub of_known : (P : List ℕ → Type 0) (input : Option (List ℕ)) (read : List ℕ) → IfSome input (λ all. read ≡ read_of all)
     → P read → IfSome input (λ all. P (read_of all))
 of_known P None read is h = tt
 of_known P (Some all) read is h = subst P is h
 
--- what holds of two texts holds of those that an input and files are known to have
+-- a property of two texts holds of the known texts of an input and of files
 module _ (input : Option (List ℕ)) (document scripts : List ℕ)
     (first : IfSome input (λ all. document ≡ document_part (read_of all)))
     (rest : IfSome input (λ all. scripts ≡ scripts_part (read_of all))) where
@@ -47,7 +47,7 @@ of_files None second P document scripts is too h = tt
 of_files (Some d) None P document scripts is too h = tt
 of_files (Some d) (Some s) P document scripts is too h = subst (λ t. P d t) too (subst (λ t. P t scripts) is h)
 
--- ---- where the output goes
+-- ---- destinations
 
 -- a run on two texts, cut behind its report
 module _ (options : Options) (document scripts : List ℕ) (ends : List End) (bytes : List ℕ) (n : ℕ)
@@ -61,7 +61,7 @@ module _ (options : Options) (document scripts : List ℕ) (ends : List End) (by
     report_is = cut.1;
   }
 
--- what follows its report, whatever the ends, is served as it is
+-- output with the model behind the report, whatever the ends, is served
 module _ (options : Options) (document scripts : List ℕ) (before after : Folder) (old new : Option (List ℕ)) where
   pub served_whole : (seen : List (Vec ℕ)) (withheld : Bool)
       → IsDelivered plain_destination options document scripts seen withheld before after old new

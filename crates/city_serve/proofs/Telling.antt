@@ -1,4 +1,4 @@
--- What standard error has got, line by line, and how the program ends with it.
+-- The bytes on standard error, line by line, and the program's end with them.
 use Rattle.city_serve.proofs.Prelude.{◌≡◌, ◌<◌, ◌+◌, ℕ, Bool, false, List, [], ◌∷◌, ◌++◌, drop, length, Option, Some}
 use Rattle.city_serve.proofs.Prelude.{None, true, inl, inr, refl, sym, ap, subst, ◌∙◌, append_assoc, append-nil, Vec}
 use Rattle.city_serve.proofs.Prelude.{Appends, Keeps, Asked, ServeFault, seen_text, EndsAsked, IsSeenTold}
@@ -11,7 +11,7 @@ use Rattle.city_serve.specs.Programs.{seen_lines}
 use Rattle.city_serve.specs.internal.Telling.{IsToldAfter, IsFaultText, IsFound, IsAnsweredAs}
 use Rattle.city_serve.proofs.KnownBytes.{appends_more}
 
--- the lines of the first viewers, where all that was written came in
+-- the lines of the first viewers, if all writes succeeded
 abbrev pub AreToldTo : ℕ → List (Vec ℕ) → Option (List ℕ) → Option (List ℕ) → Bool → Type 0
 AreToldTo viewer all old new failed = failed ≡ false →
     (done : List ℕ) × (done ++ seen_lines viewer (drop viewer all) ≡ seen_lines 0 all) × Appends old new done

@@ -1,4 +1,4 @@
--- What a check writes: a line for each fault of a model, and then for each of scripts.
+-- The output of a check: a line for each fault of a model, and then for each of scripts.
 use Rattle.std.specs.Prelude.{◌≡◌, ◌≢◌, ℕ, Bool, true, false, List, [], ◌++◌, Option, Some, None, IfSome}
 use Rattle.city_doc.specs.declared.fault.ReadFault.{ReadFault}
 use Rattle.city_doc.specs.document.Accepted as model
@@ -11,12 +11,12 @@ use Rattle.city_diagnostics.specs.ScriptLines.{TellsScript}
 use Rattle.city_serve.specs.Decimals.{IsGiven}
 use Rattle.city_serve.specs.Destinations.{Folder}
 
--- what is judged of a text: where numbers of any form are taken what a run is given of it, and else the text
+-- the text to judge: if numbers of any form are taken, the one given to a run, and else the text itself
 abbrev pub IsJudged : Bool → List ℕ → List ℕ → Type 0
 IsJudged true text judged = IsGiven text judged
 IsJudged false text judged = judged ≡ text
 
--- the lines of all faults of a model, none exactly where it is accepted
+-- the lines of all faults of a model; none exactly if it is accepted
 pub record AreModelLines (decimals : Bool) (text lines : List ℕ) : Type 0 where
   pub judged : List ℕ
   pub judged_is : IsJudged decimals text judged
@@ -26,7 +26,7 @@ pub record AreModelLines (decimals : Bool) (text lines : List ℕ) : Type 0 wher
   pub accepted : lines ≡ [] → model.IsAccepted judged
   pub none : model.IsAccepted judged → lines ≡ []
 
--- those of scripts
+-- the lines of all faults of scripts; none exactly if they are accepted
 pub record AreScriptsLines (decimals : Bool) (text lines : List ℕ) : Type 0 where
   pub judged : List ℕ
   pub judged_is : IsJudged decimals text judged
@@ -36,12 +36,12 @@ pub record AreScriptsLines (decimals : Bool) (text lines : List ℕ) : Type 0 wh
   pub accepted : lines ≡ [] → script_faults.IsAccepted judged
   pub none : script_faults.IsAccepted judged → lines ≡ []
 
--- those of scripts where there are any
+-- the lines of the scripts, if there are any
 abbrev pub AreLinesBehind : Bool → Option (List ℕ) → List ℕ → Type 0
 AreLinesBehind decimals None lines = lines ≡ []
 AreLinesBehind decimals (Some text) lines = AreScriptsLines decimals text lines
 
--- the lines of the model, and behind them those of the scripts
+-- the lines of the model, and the scripts' behind them
 pub record AreCheckLines (decimals : Bool) (model : List ℕ) (scripts : Option (List ℕ)) (lines : List ℕ) : Type 0 where
   pub first : List ℕ
   pub behind : List ℕ
@@ -54,7 +54,7 @@ abbrev pub HasLines : Bool → List ℕ → Type 0
 HasLines true lines = lines ≢ []
 HasLines false lines = lines ≡ []
 
--- what holds of the texts of these files, where they are known
+-- a property of the texts of these files, if they are known
 abbrev pub OfFiles : Folder → List ℕ → Option (List ℕ) → (List ℕ → Option (List ℕ) → Type 0) → Type 0
 OfFiles texts model None P = IfSome (texts model) (λ document. P document None)
 OfFiles texts model (Some scripts) P =

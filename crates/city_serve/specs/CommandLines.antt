@@ -1,4 +1,4 @@
--- What the words of a command line ask for.
+-- The request of the words of a command line.
 use Rattle.std.specs.Prelude.{◌≡◌, ◌≢◌, ◌⊎◌, ⊤, ℕ, Bool, true, false, List, [], ◌∷◌, ◌++◌, codes, slice_get, All}
 use Rattle.std.specs.Prelude.{Option, Some, None, if◌then◌else◌, Result, Err, IsErr, MatchBool, option_map}
 use Rattle.std.specs.Result.{IsOkAnd}
@@ -17,23 +17,23 @@ use Rattle.city_serve.specs.RunOptions.{AreWithin, file_of}
 abbrev pub IsName : List ℕ → Type 0
 IsName word = slice_get word 0 ≢ Some 45
 
--- the number that an option's text asks for; without a text it is the least
+-- the number by an option's text; without a text it is the least
 abbrev pub IsCount : ℕ → ℕ → Option (List ℕ) → ℕ → Type 0
 IsCount least most None n = n ≡ least
 IsCount least most (Some text) n =
     IsUnsignedIn least most text × (n ≡ digits_value 10 (without_leading_plus text))
 
--- the options that the texts of --workers and --watch ask for, and whether --decimals and --explain are given
+-- the options by the texts of --workers and --watch, and by whether --decimals and --explain are given
 abbrev pub AreOptionsOf : Option (List ℕ) → Option (List ℕ) → Bool → Bool → Options → Type 0
 AreOptionsOf workers watch decimals explain options =
     IsCount 1 max_workers workers options.workers × IsCount 0 max_viewers watch options.viewers
     × (options.decimals ≡ decimals) × (options.explain ≡ explain)
 
--- the destination that the text of --output asks for, and whether --atomic is given
+-- the destination by the text of --output, and by whether --atomic is given
 abbrev pub IsDestinationOf : Option (List ℕ) → Bool → Destination → Type 0
 IsDestinationOf output atomic destination = (file_of destination ≡ output) × (destination.atomic ≡ atomic)
 
--- what is asked for is a text, a run with such options, or a check, which has one worker and no viewer
+-- a text is asked for, a run with such options, or a check with one worker and no viewer
 abbrev pub HasOptions : Asked → Type 0
 HasOptions (Asked.Input options destination) = AreWithin options
 HasOptions (Asked.Files options destination model scripts) = AreWithin options
@@ -93,7 +93,7 @@ abbrev pub AsksForText : List ℕ → Type 0
 AsksForText word =
     (word ≡ codes "--help") ⊎ (word ≡ codes "-h") ⊎ (word ≡ codes "--version") ⊎ (word ≡ codes "-V")
 
--- the options that take a value, and those that take none
+-- the options with a value, and the ones without
 pub data Valued : Type 0 where
   Workers : Valued
   Watch : Valued
@@ -127,7 +127,7 @@ pub record IsUnknownOption (word : List ℕ) : Type 0 where
   pub no_value : (o : Valued) → name ≢ value_name o
   pub no_flag : (f : Flag) → name ≢ flag_name f
 
--- the first word that is no name is such an option
+-- the first word other than a name is such an option
 pub record MeetsUnknownOption (arguments : List (List ℕ)) : Type 0 where
   pub names : List (List ℕ)
   pub word : List ℕ
@@ -136,7 +136,7 @@ pub record MeetsUnknownOption (arguments : List (List ℕ)) : Type 0 where
   pub named : All IsName names
   pub unknown : IsUnknownOption word
 
--- what a command line gives: values of options, flags, and names
+-- the contents of a command line: values of options, flags, and names
 pub record Line : Type 0 where
   pub value : Valued → Option (List ℕ)
   pub has : Flag → Bool
@@ -173,24 +173,24 @@ pub data IsLineOf : Line → List (List ℕ) → Type 0 where
   gives_name : (name : List ℕ) (line : Line) (rest : List (List ℕ)) → IsName name
       → IsLineOf line rest → IsLineOf (with_name name line) (name ∷ rest)
 
--- the options that the line asks for
+-- the options of the line
 abbrev pub AreLineOptions : Line → Options → Type 0
 AreLineOptions line = AreOptionsOf (line.value Workers) (line.value Watch) (line.has Decimals) (line.has Explain)
 
--- a run is asked for: the names are answered with the options and the destination that are asked for, and texts that
--- ask for no options are refused
+-- a run is asked for: the names are answered with the options and the destination of the line; if its texts give no
+-- options, it is refused
 abbrev pub AnswersRun : Line → Result Asked LineFault → Type 0
 AnswersRun line r =
     ((options : Options) (destination : Destination) → AreLineOptions line options
     → IsDestinationOf (line.value Output) (line.has Atomic) destination → AnswersNames options destination line.names r)
     × (((options : Options) → ¬ AreLineOptions line options) → IsErr r)
 
--- the line has an option that only a run takes
+-- the line has an option for runs only
 abbrev pub HasRunOption : Line → Type 0
 HasRunOption line = ((o : Valued) × (line.value o ≢ None)) ⊎ (line.has Atomic ≡ true)
 
--- a check is asked for: the names are answered with the options that are asked for, and an option that only a run
--- takes is refused
+-- a check is asked for: the names are answered with the options of the line; with an option for runs only, it is
+-- refused
 abbrev pub AnswersCheck : Line → Result Asked LineFault → Type 0
 AnswersCheck line r =
     ((options : Options) → AreLineOptions line options → ¬ HasRunOption line → AnswersCheckedNames options line.names r)

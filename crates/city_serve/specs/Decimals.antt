@@ -1,4 +1,4 @@
--- What is written for two texts whose numbers are of any form: they are encoded, and the output of a run is decoded.
+-- The output for two texts with numbers of any form: they are encoded, and the output of a run is decoded.
 use Rattle.std.specs.Prelude.{◌≡◌, ◌≢◌, ◌⊎◌, ℕ, Bool, true, false, List, None}
 use Rattle.std.specs.Str.{IsUtf8}
 use Rattle.json.specs.Json.{document}
@@ -12,7 +12,7 @@ use Rattle.city_desk.specs.declared.fault.RunFault.{RunFault}
 use Rattle.city_desk.specs.TextRuns.{IsRun}
 use Rattle.city_serve.specs.ServedTexts.{Written, Faults, IsFaultOfRun}
 
--- ---- what the run is given
+-- ---- the texts given to the run
 
 -- the text is refused as it stands: it is too long, or it is no JSON
 abbrev pub IsRefusedText : List ℕ → Type 0
@@ -22,13 +22,13 @@ IsRefusedText text = IsTooLong text ⊎ (IsUtf8 text → document text ≡ None)
 abbrev pub IsReadEncoded : List ℕ → List ℕ → Type 0
 IsReadEncoded text encoded = IsReadable text × IsEncoded text encoded
 
--- the run is given the encoded text, and a text that is refused as it stands
+-- the run is given the encoded text; a text refused as it stands is given as it is
 abbrev pub IsGiven : List ℕ → List ℕ → Type 0
 IsGiven text given = IsReadEncoded text given ⊎ (IsRefusedText text × (given ≡ text))
 
--- ---- what it answers
+-- ---- its answers
 
--- the bytes are those of a run on the encoded texts, decoded line by line
+-- the bytes of a run on the encoded texts, decoded line by line
 pub record IsDecimalsRun (document scripts : List ℕ) (ends : List End) (bytes : List ℕ) : Type 0 where
   pub encoded_document : List ℕ
   pub encoded_scripts : List ℕ
@@ -42,7 +42,7 @@ pub record IsDecimalsRun (document scripts : List ℕ) (ends : List End) (bytes 
 abbrev pub IsOfWholeNumbers : RunFault → Type 0
 IsOfWholeNumbers f = (f ≢ RunFault.Read ReadFault.NotWhole) × (f ≢ RunFault.Script ScriptFault.NotWhole)
 
--- a fault of a run on what is given of the two texts, and never that a number isn't whole
+-- a fault of a run on the two texts as given to it; no number is refused for its form
 pub record IsFaultOnGiven (document scripts : List ℕ) (workers viewers : ℕ) (f : RunFault) : Type 0 where
   pub given_document : List ℕ
   pub given_scripts : List ℕ
@@ -58,7 +58,7 @@ IsFaultOfDecimalsRun document scripts workers viewers f =
 
 -- ---- by the options
 
--- what is written of two texts where numbers of any form are taken, and where they are whole
+-- the output for two texts, with numbers of any form or with whole ones
 abbrev pub written_by : Bool → Written
 written_by true = IsDecimalsRun
 written_by false = IsRun

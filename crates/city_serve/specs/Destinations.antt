@@ -1,4 +1,4 @@
--- Where the output of a run goes: the report to a writer, and the model behind it or to a file.
+-- The destination of a run's output: the report goes to a writer, and the model behind it or to a file.
 use Rattle.std.specs.Prelude.{◌≡◌, ◌≢◌, ◌⊎◌, ◌&&◌, ◌≤◌, ℕ, Bool, true, false, List, ◌++◌, length, take, Option, Some}
 use Rattle.std.specs.Prelude.{None, IfSome}
 use Rattle.std.specs.List.{list_any}
@@ -19,7 +19,7 @@ use Rattle.city_serve.specs.Decimals.{written_by, faults_by}
 use Rattle.city_serve.specs.RunOptions.{file_of}
 use Rattle.city_serve.specs.ServedTexts.{AppendsSome, WhereAlone}
 
--- ---- what is withheld
+-- ---- withholding
 
 abbrev pub outcome_failed : Outcome → Bool
 outcome_failed Committed = false
@@ -31,13 +31,13 @@ outcome_failed (NoMemory number) = true
 abbrev pub has_failed : End → Bool
 has_failed end = outcome_failed end.outcome
 
--- the model goes nowhere: it was to be written only where no script failed, and one did
+-- the model goes nowhere: it was to be written only if no script failed, and one did
 abbrev pub is_withheld : Destination → List End → Bool
 is_withheld destination ends = destination.atomic && list_any has_failed ends
 
 -- ---- files
 
--- the texts of files, by their paths, where they are known
+-- the texts of files by their paths, if they are known
 abbrev pub Folder : Type 0
 Folder = List ℕ → Option (List ℕ)
 
@@ -47,31 +47,31 @@ IsReplaced path text before after =
     IfSome (after path) (λ all. all ≡ text)
     × ((other : List ℕ) → other ≢ path → after other ≡ before other)
 
--- a file that gets the model has it, unless it is withheld; else all files are as they were
+-- the output file has the model, unless it is withheld; else all files are as they were
 abbrev pub IsPlaced : Option (List ℕ) → Bool → List ℕ → Folder → Folder → Type 0
 IsPlaced (Some path) false model before after = IsReplaced path model before after
 IsPlaced file withheld model before after = after ≡ before
 
--- a file that was to get the model is as it was, or has all of it
+-- the output file is as it was, or has all of the model
 abbrev pub IsOldOrNew : Option (List ℕ) → List ℕ → Folder → Folder → Type 0
 IsOldOrNew None model before after = after ≡ before
 IsOldOrNew (Some path) model before after = (after ≡ before) ⊎ IsReplaced path model before after
 
 -- ---- the writer
 
--- the writer gets the report, and the model behind it where no other file gets that
+-- the writer gets the report, and the model behind it, unless the model goes to a file or nowhere
 abbrev pub bytes_to_writer : Option (List ℕ) → Bool → List ℕ → List ℕ → List ℕ
 bytes_to_writer None false report model = report ++ model
 bytes_to_writer file withheld report model = report
 
--- what has to have failed where not all is written: the writer, or the files where one was to get the model
+-- the failure behind an incomplete output: the writer's, or the files', if one was to get the model
 abbrev pub HaveFailed : Option (List ℕ) → Bool → Bool → Type 0
 HaveFailed None writer_failed files_failed = writer_failed ≡ true
 HaveFailed (Some path) writer_failed files_failed = (writer_failed ≡ true) ⊎ (files_failed ≡ true)
 
 -- ---- the output of a run, in its two parts
 
--- the report of the ends, its numbers as they were written where numbers of any form are taken
+-- the report of the ends; if numbers of any form are taken, its numbers are as they were written
 abbrev pub report_by : Bool → List End → List ℕ → Type 0
 report_by true ends report = AreDecodedLines (report_text ends) report
 report_by false ends report = report ≡ report_text ends
@@ -87,7 +87,7 @@ pub record IsRunInParts (options : Options) (document scripts : List ℕ) (ends 
   pub in_turn : WhereAlone options.workers options.viewers (AreInTurn 0 ends)
   pub report_is : report_by options.decimals ends report
 
--- the report and the model of one and the same run went where they go, or the model was withheld
+-- the report and the model of the same run went to their destinations, or the model was withheld
 pub record IsDelivered (destination : Destination) (options : Options) (document scripts : List ℕ)
     (seen : List (Vec ℕ)) (withheld : Bool) (before after : Folder) (old new : Option (List ℕ)) : Type 0 where
   pub ends : List End
@@ -99,8 +99,7 @@ pub record IsDelivered (destination : Destination) (options : Options) (document
   pub written : Appends old new (bytes_to_writer (file_of destination) withheld report model)
   pub placed : IsPlaced (file_of destination) withheld model before after
 
--- the writer has got the first bytes of what was to go there, and a file that was to get the model is as it was or has
--- all of it
+-- the writer has got the first of its bytes, and the output file is as it was, or has all of the model
 pub record IsCutShort (destination : Destination) (options : Options) (document scripts : List ℕ)
     (before after : Folder) (old new : Option (List ℕ)) : Type 0 where
   pub ends : List End
@@ -111,7 +110,7 @@ pub record IsCutShort (destination : Destination) (options : Options) (document 
       (bytes_to_writer (file_of destination) (is_withheld destination ends) report model)
   pub kept : IsOldOrNew (file_of destination) model before after
 
--- Write comes only where the writer or the files have failed. Where the run is at fault nothing is written
+-- Write comes only if the writer or the files have failed. If the run is at fault, nothing is written
 abbrev pub IsDeliveryFault : Destination → Options → List ℕ → List ℕ → Folder → Folder → Bool → Option (List ℕ)
     → Option (List ℕ) → Bool → ServeFault → Type 0
 IsDeliveryFault destination options document scripts before after files_failed old new failed ServeFault.Read = ⊥

@@ -1,4 +1,4 @@
--- How it is told that bytes were not served, and the line that reports it.
+-- The words for a fault of serving, and the line to report it.
 use Rattle.std.specs.Prelude.{ℕ, List, ◌++◌, codes}
 use Rattle.city_desk.specs.FaultTexts.{run_fault_text}
 use Rattle.city_serve.specs.declared.fault.ServeFault.{ServeFault}

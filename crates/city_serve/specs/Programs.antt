@@ -1,4 +1,4 @@
--- What the program does with the words of its command line.
+-- The program's answer to the words of its command line.
 use Rattle.std.specs.Prelude.{◌≡◌, ◌⊎◌, ◌+◌, ⊤, ℕ, Bool, true, false, List, [], ◌∷◌, ◌++◌, codes, string_bytes, All}
 use Rattle.std.specs.Prelude.{◌||◌, Option, IfSome, Result, Ok, Err, IsErr, IfOk, option_map}
 use Rattle.std.specs.Global.{Vec}
@@ -30,17 +30,17 @@ pub record Streams : Type 0 where
   pub after : Folder
   -- whether a file couldn't be replaced
   pub files_failed : Bool
-  -- what standard input has, where it is known, and whether it failed
+  -- the bytes of standard input, if known, and whether it failed
   pub input : Option (List ℕ)
   pub reader_failed : Bool
-  -- what standard output had and has, and whether it failed
+  -- the bytes of standard output, before and after, and whether it failed
   pub old : Option (List ℕ)
   pub new : Option (List ℕ)
   pub failed : Bool
 
--- ---- what is asked for
+-- ---- requests
 
--- the words behind the program's name are answered so: what is promised of a command line
+-- the words behind the program's name are answered so: the promises for a command line
 pub record AsksFor (arguments : List (List ℕ)) (asked : Result Asked LineFault) : Type 0 where
   pub names : All IsName arguments → AnswersNames plain_options plain_destination arguments asked
   pub shown : (word : List ℕ) (rest : List (List ℕ)) → AsksForText word → arguments ≡ word ∷ rest → IsShown asked
@@ -50,8 +50,7 @@ pub record AsksFor (arguments : List (List ℕ)) (asked : Result Asked LineFault
 
 -- ---- how it is answered
 
--- what holds of the two texts that are asked for, where they are known: those of the input, or of the two files, the
--- model's first
+-- a property of the two requested texts, if they are known: the input's, or the two files', the model's first
 abbrev pub OfTexts : Streams → Asked → (List ℕ → List ℕ → Type 0) → Type 0
 OfTexts s (Asked.Input options destination) P =
     IfSome s.input (λ all. P (document_part (read_of all)) (scripts_part (read_of all)))
@@ -60,19 +59,19 @@ OfTexts s (Asked.Files options destination model scripts) P =
 OfTexts s (Asked.Check options model scripts) P = ⊤
 OfTexts s (Asked.Text text) P = ⊤
 
--- what holds of the lines of a check, where the texts are known that are checked
+-- a property of the lines of a check, if the checked texts are known
 abbrev pub OfLines : Streams → Asked → (List ℕ → Type 0) → Type 0
 OfLines s (Asked.Check options model scripts) P =
     OfFiles s.before model.now (option_map (λ t. t.now) scripts) (λ document commands.
     (lines : List ℕ) × AreCheckLines options.decimals document commands lines × P lines)
 OfLines s _ P = ⊤
 
--- output has got the lines of a check, of which there are some or none, and all files are as they were
+-- output has got the lines of a check, some or none, and all files are as they were
 abbrev pub IsChecked : Streams → Asked → Bool → Type 0
 IsChecked s asked faulty =
     (s.after ≡ s.before) × OfLines s asked (λ lines. HasLines faulty lines × Appends s.old s.new lines)
 
--- what is asked for is done: the output of a run on the two texts went where it goes, or output has got the text. The
+-- the request is done: the output of a run on the two texts went to its destination, or output has got the text. The
 -- model of a run may be withheld
 abbrev pub IsAnswered : Streams → Asked → List (Vec ℕ) → Bool → Type 0
 IsAnswered s (Asked.Input options destination) seen withheld =
@@ -90,7 +89,7 @@ IsAnswered s (Asked.Text text) seen withheld =
 abbrev pub IsUnread : Streams → Bool → ServeFault → Type 0
 IsUnread s reader_failed f = IsDeviceFault reader_failed f × Keeps s.old s.new × (s.after ≡ s.before)
 
--- why it isn't done, and what is written then: nothing, where the reader, a file or the run is at fault
+-- why it isn't done, and the bytes written then: none, if the reader, a file or the run is at fault
 abbrev pub IsUnanswered : Streams → Asked → ServeFault → Type 0
 IsUnanswered s (Asked.Input options destination) f =
     IsUnread s s.reader_failed f ⊎ OfTexts s (Asked.Input options destination) (λ document scripts.
@@ -105,13 +104,13 @@ IsUnanswered s (Asked.Check options model scripts) f =
 IsUnanswered s (Asked.Text text) f =
     (f ≡ ServeFault.Write) × (s.failed ≡ true) × (s.after ≡ s.before) × AppendsSome s.old s.new (string_bytes text)
 
--- ---- what is told on standard error
+-- ---- the texts on standard error
 
--- where it hasn't failed, it has got this text, and no other bytes
+-- if it hasn't failed, it has got this text, and no other bytes
 abbrev pub IsTold : Option (List ℕ) → Option (List ℕ) → Bool → List ℕ → Type 0
 IsTold old new failed text = failed ≡ false → Appends old new text
 
--- a command line that is refused is told by its text, and one that memory was short for is a fault
+-- a refused command line is told by its text, and running out of memory for one is a fault
 abbrev pub IsLineTold : Status → LineFault → Option (List ℕ) → Option (List ℕ) → Bool → Type 0
 IsLineTold Status.Refused (LineFault.Refused text) old new failed = IsTold old new failed (string_bytes text)
 IsLineTold Status.Failed LineFault.OutOfMemory old new failed = ⊤
@@ -122,15 +121,15 @@ abbrev pub seen_lines : ℕ → List (Vec ℕ) → List ℕ
 seen_lines viewer [] = []
 seen_lines viewer (seen ∷ rest) = (seen_text viewer seen.items ++ 10 ∷ []) ++ seen_lines (viewer + 1) rest
 
--- a fault is explained on a terminal, and where that is asked for
+-- a fault is explained on a terminal, and on request
 abbrev pub is_explained : Bool → Asked → Bool
 is_explained terminal (Asked.Input options destination) = terminal || options.explain
 is_explained terminal (Asked.Files options destination model scripts) = terminal || options.explain
 is_explained terminal (Asked.Check options model scripts) = terminal || options.explain
 is_explained terminal (Asked.Text text) = terminal
 
--- the line of a fault, and where it is explained whatever is told in the lines behind it; where memory is short for it,
--- that memory ran out
+-- the line of a fault, and any lines behind it if it is explained; if memory is short for it, the line of running out
+-- of memory
 abbrev pub IsToldFault : Bool → ServeFault → List ℕ → Type 0
 IsToldFault false f text = (text ≡ fault_text f ++ 10 ∷ []) ⊎ (text ≡ codes "cityed: out of memory\n")
 IsToldFault true f text =
@@ -138,14 +137,14 @@ IsToldFault true f text =
 
 -- ---- how the program ends
 
--- what is asked for is done, and standard error has got what each viewer saw
+-- the request is done, and standard error has got what each viewer saw
 pub record IsDone (asked : Asked) (withheld : Bool) (s : Streams) (told telling : Option (List ℕ)) (mute : Bool)
     : Type 0 where
   pub seen : List (Vec ℕ)
   pub answered : IsAnswered s asked seen withheld
   pub seen_told : IsTold told telling mute (seen_lines 0 seen)
 
--- a check found faults, which output has got; standard error has got nothing
+-- a check found faults, and output has got them; standard error has got nothing
 abbrev pub IsFoundFaulty : Asked → Streams → Option (List ℕ) → Option (List ℕ) → Bool → Type 0
 IsFoundFaulty (Asked.Check options model scripts) s told telling mute =
     IsChecked s (Asked.Check options model scripts) true × IsTold told telling mute []
@@ -160,8 +159,8 @@ pub record IsFaulty (terminal : Bool) (asked : Asked) (s : Streams) (told tellin
   pub line_is : IsToldFault (is_explained terminal asked) fault line
   pub why : IsTold told telling mute line
 
--- what holds at each status once it is known what is asked for, and whether standard error is a terminal: a fault is
--- one of the answer, or of memory for telling what viewers saw, when all is answered
+-- the promises at each status once it is known what is asked for, and whether standard error is a terminal: a fault is
+-- the answer's, or of memory for telling what viewers saw, after a complete answer
 abbrev pub EndsAsked : Bool → Asked → Status → Streams → Option (List ℕ) → Option (List ℕ) → Bool → Type 0
 EndsAsked terminal asked Status.Done s told telling mute = IsDone asked false s told telling mute
 EndsAsked terminal asked Status.Withheld s told telling mute = IsDone asked true s told telling mute
@@ -171,7 +170,7 @@ EndsAsked terminal asked Status.Failed s told telling mute =
     ⊎ ((seen : List (Vec ℕ)) × (withheld : Bool) × IsAnswered s asked seen withheld)
 EndsAsked terminal asked Status.Refused s told telling mute = ⊥
 
--- the words ask for it, and the status is that of what is asked for
+-- the words make this request, and the status is the request's
 pub record EndsAnswered (terminal : Bool) (arguments : List (List ℕ)) (status : Status) (s : Streams)
     (told telling : Option (List ℕ)) (mute : Bool) : Type 0 where
   pub asked : Asked
@@ -187,7 +186,7 @@ pub record EndsRefused (arguments : List (List ℕ)) (status : Status) (s : Stre
   pub same : s.after ≡ s.before
   pub line : IsLineTold status fault told telling mute
 
--- what holds of how the program ends
+-- the promises for the end of the program
 abbrev pub Ends : Bool → List (List ℕ) → Status → Streams → Option (List ℕ) → Option (List ℕ) → Bool → Type 0
 Ends terminal arguments status s told telling mute =
     EndsAnswered terminal arguments status s told telling mute ⊎ EndsRefused arguments status s told telling mute

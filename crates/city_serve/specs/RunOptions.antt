@@ -8,14 +8,14 @@ use Rattle.city_serve.specs.declared.options.Destination.{Destination}
 abbrev pub AreWithin : Options → Type 0
 AreWithin options = (1 ≤ options.workers) × (options.workers ≤ max_workers) × (options.viewers ≤ max_viewers)
 
--- those of a command line without options
+-- the options of a command line without any
 abbrev pub plain_options : Options
 plain_options = record { workers = 1; viewers = 0; decimals = false; explain = false }
 
--- the path of the file that gets the model
+-- the path of the output file, if there is one
 abbrev pub file_of : Destination → Option (List ℕ)
 file_of destination = option_map (λ s. s.now) destination.file
 
--- that of a command line without options
+-- the destination of a command line without options
 abbrev pub plain_destination : Destination
 plain_destination = record { file = None; atomic = false }

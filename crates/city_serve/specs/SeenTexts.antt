@@ -1,4 +1,4 @@
--- The line that reports what a viewer saw.
+-- The line to report what a viewer saw.
 use Rattle.std.specs.Prelude.{ℕ, List, [], ◌∷◌, ◌++◌, codes}
 use Rattle.std.specs.Fmt.{decimal}
 
@@ -7,6 +7,6 @@ abbrev pub numbers_text : List ℕ → List ℕ
 numbers_text [] = []
 numbers_text (n ∷ ns) = codes " " ++ decimal n ++ numbers_text ns
 
--- the viewer's number, and the numbers of changes that it saw
+-- the viewer's number, and the numbers of the changes it saw
 abbrev pub seen_text : ℕ → List ℕ → List ℕ
 seen_text viewer seen = codes "viewer " ++ decimal viewer ++ codes ":" ++ numbers_text seen

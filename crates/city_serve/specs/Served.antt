@@ -1,4 +1,4 @@
--- What is written for an input: a document in its first line, and scripts in the rest.
+-- The output for an input: a document in its first line, and scripts in the rest.
 use Rattle.std.specs.Prelude.{◌==◌, ◌≡◌, ◌⊎◌, ◌+◌, ◌*◌, ℕ, List, Bool, true, Option, IfSome, take}
 use Rattle.std.specs.Global.{Vec}
 use Rattle.std.specs.List.{before_first, after_first}
@@ -25,12 +25,12 @@ document_part bytes = before_first is_newline bytes
 abbrev pub scripts_part : List ℕ → List ℕ
 scripts_part bytes = after_first is_newline bytes
 
--- the writer has got the bytes that are written of the two texts of the input, and no others
+-- the writer has got the output for the two texts of the input, and no other bytes
 abbrev pub IsServedBy : Written → List ℕ → ℕ → ℕ → List (Vec ℕ) → Option (List ℕ) → Option (List ℕ) → Type 0
 IsServedBy ran input workers viewers seen old new =
     AreServedBy ran (document_part (read_of input)) (scripts_part (read_of input)) workers viewers seen old new
 
--- the writer has got the first of the bytes that are written of the two texts of the input, and no others
+-- the writer has got the first bytes of the output for the two texts of the input, and no others
 abbrev pub IsCutShortBy : Written → List ℕ → ℕ → ℕ → Option (List ℕ) → Option (List ℕ) → Type 0
 IsCutShortBy ran input workers viewers old new =
     AreCutShortBy ran (document_part (read_of input)) (scripts_part (read_of input)) workers viewers old new
@@ -43,8 +43,8 @@ IsServed = IsServedBy IsRun
 abbrev pub IsDeviceFault : Bool → ServeFault → Type 0
 IsDeviceFault failed f = ((f ≡ ServeFault.Read) × (failed ≡ true)) ⊎ (f ≡ ServeFault.Run RunFault.OutOfMemory)
 
--- Read comes only where the reader has failed, and Write only where the writer has. Where the reader or
--- the run is at fault, the writer has got nothing
+-- Read comes only if the reader has failed, and Write only if the writer has. If the reader or the run is at fault, the
+-- writer has got nothing
 abbrev pub IsServeFaultBy : Written → Faults → Option (List ℕ) → ℕ → ℕ → Bool → Option (List ℕ) → Option (List ℕ)
     → Bool → ServeFault → Type 0
 IsServeFaultBy ran faults input workers viewers reader_failed old new writer_failed ServeFault.Read =

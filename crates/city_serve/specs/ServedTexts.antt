@@ -1,4 +1,4 @@
--- What is written for two texts: a document and scripts.
+-- The output for two texts: a document and scripts.
 use Rattle.std.specs.Prelude.{◌≡◌, ◌⊎◌, ◌<◌, ◌≤◌, ℕ, Bool, true, false, List, Option, length, take}
 use Rattle.std.specs.Global.{Vec}
 use Rattle.std.specs.Io.KnownBytes.{Keeps, Appends, Consumes}
@@ -12,7 +12,7 @@ use Rattle.city_desk.specs.TextRuns.{IsRun}
 use Rattle.city_crew.specs.Seen.{AreSeen}
 use Rattle.city_serve.specs.declared.fault.ServeFault.{ServeFault}
 
--- a reader that had known bytes has lost the first of them, so many at the most
+-- a reader with known bytes has lost the first of them, so many at the most
 abbrev pub LosesAtMost : ℕ → Option (List ℕ) → Option (List ℕ) → Type 0
 LosesAtMost most old new = (lost : List ℕ) × Consumes old new lost × (length lost ≤ most)
 
@@ -20,16 +20,16 @@ LosesAtMost most old new = (lost : List ℕ) × Consumes old new lost × (length
 abbrev pub AppendsSome : Option (List ℕ) → Option (List ℕ) → List ℕ → Type 0
 AppendsSome old new bytes = (n : ℕ) × Appends old new (take n bytes)
 
--- where one worker runs the scripts and nobody looks
+-- if one worker runs the scripts and nobody looks
 abbrev pub WhereAlone : ℕ → ℕ → Type 0 → Type 0
 WhereAlone workers viewers A = workers ≡ 1 → viewers ≡ 0 → A
 
--- what is written of two texts: the ends and the bytes of a run
+-- the output for two texts: the ends and the bytes of a run
 abbrev pub Written : Type 1
 Written = List ℕ → List ℕ → List End → List ℕ → Type 0
 
--- the writer has got the bytes that are written of the two texts, and no others; one worker without viewers
--- runs the scripts in their order
+-- the writer has got the output for the two texts, and no other bytes; one worker without viewers runs the scripts in
+-- their order
 pub record AreServedBy (run : Written) (document scripts : List ℕ) (workers viewers : ℕ) (seen : List (Vec ℕ))
     (old new : Option (List ℕ)) : Type 0 where
   pub ends : List End
@@ -39,7 +39,7 @@ pub record AreServedBy (run : Written) (document scripts : List ℕ) (workers vi
   pub looked : AreSeen viewers (commits_in ends) seen
   pub written : Appends old new bytes
 
--- the writer has got the first of the bytes that are written of the two texts, and no others
+-- the writer has got the first bytes of the output for the two texts, and no others
 pub record AreCutShortBy (run : Written) (document scripts : List ℕ) (workers viewers : ℕ) (old new : Option (List ℕ))
     : Type 0 where
   pub ends : List End
@@ -52,7 +52,7 @@ pub record AreCutShortBy (run : Written) (document scripts : List ℕ) (workers 
 abbrev pub AreServed : List ℕ → List ℕ → ℕ → ℕ → List (Vec ℕ) → Option (List ℕ) → Option (List ℕ) → Type 0
 AreServed = AreServedBy IsRun
 
--- a fault of a run; one worker without viewers doesn't meet those of a crew
+-- a fault of a run; one worker without viewers doesn't meet a crew's
 abbrev pub IsFaultOfRun : List ℕ → List ℕ → ℕ → ℕ → RunFault → Type 0
 IsFaultOfRun document scripts workers viewers f =
     IsRunFault document scripts f × WhereAlone workers viewers (is_of_crew f ≡ false)
@@ -61,8 +61,8 @@ IsFaultOfRun document scripts workers viewers f =
 abbrev pub Faults : Type 1
 Faults = List ℕ → List ℕ → ℕ → ℕ → RunFault → Type 0
 
--- Write comes only where the writer has failed. Where the run is at fault, the writer has got nothing.
--- Nothing is read, so a reader is never at fault
+-- Write comes only if the writer has failed. If the run is at fault, the writer has got nothing. Nothing is read, so a
+-- reader is never at fault
 abbrev pub IsTextsFaultBy : Written → Faults → List ℕ → List ℕ → ℕ → ℕ → Option (List ℕ) → Option (List ℕ) → Bool
     → ServeFault → Type 0
 IsTextsFaultBy ran faults document scripts workers viewers old new failed ServeFault.Read = ⊥
@@ -74,6 +74,6 @@ IsTextsFaultBy ran faults document scripts workers viewers old new failed ServeF
 abbrev pub IsTextsFault : List ℕ → List ℕ → ℕ → ℕ → Option (List ℕ) → Option (List ℕ) → Bool → ServeFault → Type 0
 IsTextsFault = IsTextsFaultBy IsRun IsFaultOfRun
 
--- the bytes that were read of a text are the whole of it, or it is too long, and so are they
+-- the bytes read of a text are the whole of it, or it is too long, and so are they
 abbrev pub IsEnoughOf : List ℕ → List ℕ → Type 0
 IsEnoughOf all read = (read ≡ all) ⊎ ((max_text < length all) × (max_text < length read))

@@ -1,4 +1,4 @@
--- What only private functions and proofs speak of: nobody has to read it to know what the crate promises.
+-- Definitions for private functions and proofs: nobody has to read them to know the promises of the crate.
 pub mod CommandShape
 pub mod Telling
 pub mod WholeTexts

@@ -19,11 +19,11 @@ use city_model::OutOfMemory;
 use std::alloc::Global;
 use std::io::Write;
 
-/// Writes a line for each fault of the model, then for each of the scripts where there are any, and says whether there
-/// is a line.
+/// Writes a line for each fault of the model, then for each of the scripts if there are any, and
+/// says whether there is a line.
 ///
-/// The model is read to its end before the scripts are opened. Nothing is written before all lines are known, and each
-/// text is let go once its lines are.
+/// The model is read to its end before the scripts are opened. Nothing is written before all lines
+/// are known, and each text is let go once its lines are.
 pub(crate) fn check<F: TextFiles, W: Write>(
     alloc: Global,
     files: &F,
@@ -75,7 +75,7 @@ fn all_lines<F: TextFiles>(
     Ok(lines)
 }
 
-/// The lines of all faults of a document, which is let go.
+/// Returns the lines of all faults of a document, and lets it go.
 fn document_lines(alloc: Global, decimals: bool, text: &mut Text) -> Result<Vec<u8>, OutOfMemory>
     ensures { IfOk result (λ v. AreModelLines decimals text.old.bytes.items v.items) }
 {
@@ -85,7 +85,7 @@ fn document_lines(alloc: Global, decimals: bool, text: &mut Text) -> Result<Vec<
     Ok(lines)
 }
 
-/// The lines of all faults of scripts, which are let go.
+/// Returns the lines of all faults of scripts, and lets them go.
 fn scripts_lines(alloc: Global, decimals: bool, text: &mut Text) -> Result<Vec<u8>, OutOfMemory>
     ensures { IfOk result (λ v. AreScriptsLines decimals text.old.bytes.items v.items) }
 {
@@ -95,7 +95,7 @@ fn scripts_lines(alloc: Global, decimals: bool, text: &mut Text) -> Result<Vec<u
     Ok(lines)
 }
 
-/// Makes a text the one that is judged: where numbers of any form are taken what a run is given of it.
+/// Prepares a text for judging: if numbers of any form are taken, it is encoded as for a run.
 fn judge(alloc: Global, decimals: bool, text: &mut Text) -> Result<(), OutOfMemory>
     ensures { OnOk result (IsJudged decimals text.old.bytes.items text.new.bytes.items) }
 {

@@ -1,4 +1,4 @@
-//! What a command line asks for.
+//! The request of a command line.
 ghost use Rattle.std.specs.Prelude.{◌≡◌, ◌≢◌, ◌⊎◌, ◌≤◌, ◌∷◌, ℕ, Bool, true, false, List, Option, Some, None, Ok, Err};
 ghost use Rattle.std.specs.Prelude.{All, drop, map, option_map, string_bytes, IfOk, IsErr, MatchOption, MatchResult};
 ghost use Rattle.clap.specs.Words.{app_of, kind_of, rule_of};
@@ -78,14 +78,14 @@ Status:
   3  with --atomic: a script was refused or ran out of memory, and no model is written
 Without --atomic a script that is refused ends as \"refused\" in its line, and the status is 0.";
 
-/// What a command line asks for.
+/// The request of a command line.
 #[derive(Drop)]
 pub enum Asked<'a> {
     /// To serve standard input.
     Input(Options, Destination<'a>),
     /// To serve two files, by their paths: the model's and the scripts'.
     Files(Options, Destination<'a>, &'a str, &'a str),
-    /// To tell all faults of a model, and of scripts where they are given, by their paths. Nothing is run.
+    /// To tell all faults of a model, and of scripts if given, by their paths. Nothing is run.
     Check(Options, &'a str, Option<&'a str>),
     /// To show a text on standard output: help, or the version.
     Text(String),
@@ -94,7 +94,7 @@ pub enum Asked<'a> {
 /// Why a command line asks for nothing.
 #[derive(Drop)]
 pub enum LineFault {
-    /// It isn't understood. The text says what is wrong.
+    /// It isn't understood. The text says why.
     Refused(String),
     OutOfMemory,
 }
@@ -110,15 +110,16 @@ impl From<OutOfMemory> for LineFault {
     }
 }
 
-/// What a command line asks for. Its first word is the program's name.
+/// The request of a command line. Its first word is the program's name.
 ///
-/// An answer other than a text has 1 to `MAX_WORKERS` workers, 1 where `--workers` isn't given, 0 to
-/// `MAX_VIEWERS` viewers, 0 where `--watch` isn't given, takes numbers of any form where `--decimals` is given, and
-/// explains a fault where `--explain` is given. Its destination has the FILE of `--output` or `-o`, if there is one,
-/// and is atomic where `--atomic` is given. With `--check` it is a check, of a MODEL and maybe of SCRIPTS. The
-/// options stand in any order, and names before, between and after them. Refused: a number outside
-/// these ranges, a MODEL without SCRIPTS, a third name, and an option that is unknown, comes twice
-/// or has no value; with `--check` a line without a MODEL, and an option that only a run takes.
+/// An answer other than a text has 1 to `MAX_WORKERS` workers, 1 without `--workers`, and 0 to
+/// `MAX_VIEWERS` viewers, 0 without `--watch`. It takes numbers of any form with `--decimals`, and
+/// explains a fault with `--explain`. Its destination has the FILE of `--output` or `-o`, if there
+/// is one, and is atomic with `--atomic`. With `--check` it is a check, of a MODEL and maybe of
+/// SCRIPTS. The options stand in any order, and names before, between and after them. Refused: a
+/// number outside these ranges, a MODEL without SCRIPTS, a third name, and an option if it is
+/// unknown, comes twice or has no value; with `--check` a line without a MODEL, and an option for
+/// runs only.
 pub fn asked_by<'a>(alloc: Global, words: &'a [String]) -> Result<Asked<'a>, LineFault>
     ensures names { All IsName (drop 1 (map string_bytes words.now))
         → AnswersNames plain_options plain_destination (drop 1 (map string_bytes words.now)) result }
@@ -161,7 +162,7 @@ fn command<'a>(alloc: Global) -> Result<Command<'a>, OutOfMemory>
         .arg(flag(alloc, CHECK, check))
 }
 
-/// The command line without the options that say how faults are told.
+/// The command line without the options for telling faults.
 fn output_command<'a>(alloc: Global) -> Result<Command<'a>, OutOfMemory>
     ensures { IfOk result (λ c. app_of c ≡ output_command) }
 {
@@ -171,7 +172,7 @@ fn output_command<'a>(alloc: Global) -> Result<Command<'a>, OutOfMemory>
         .arg(flag(alloc, ATOMIC, atomic))
 }
 
-/// The command line without the options that say where output goes.
+/// The command line without the options for output.
 fn run_command<'a>(alloc: Global) -> Result<Command<'a>, OutOfMemory>
     ensures { IfOk result (λ c. app_of c ≡ run_command) }
 {
@@ -210,7 +211,7 @@ fn flag<'a>(alloc: Global, name: &'a str, help: &'a str) -> Arg<'a>
         .help(help)
 }
 
-/// An option with a value, which help shows by a name.
+/// An option with a value, shown in help by a name.
 fn value_option<'a>(alloc: Global, name: &'a str, value: &'a str, help: &'a str) -> Arg<'a>
     ensures rule { rule_of result ≡ option_rule name.entry.now }
     ensures local { result.global ≡ false }
@@ -221,7 +222,7 @@ fn value_option<'a>(alloc: Global, name: &'a str, value: &'a str, help: &'a str)
         .help(help)
 }
 
-/// The option that names the file which gets the model.
+/// The option for the output file.
 fn output_option<'a>(alloc: Global) -> Arg<'a>
     ensures rule { rule_of result ≡ output_rule }
     ensures local { result.global ≡ false }
@@ -231,7 +232,7 @@ fn output_option<'a>(alloc: Global) -> Arg<'a>
     value_option(alloc, OUTPUT, "FILE", help).short('o')
 }
 
-/// With `--check` an option that only a run takes is refused.
+/// Refuses an option for runs only, if `--check` is given.
 fn refuse_run_options<'a>(
     alloc: Global,
     command: &mut Command<'a>,
@@ -254,7 +255,7 @@ fn refuse_run_options<'a>(
     }
 }
 
-/// What is wrong with the first option that only a run takes, beside `--check`. `None` if there is none.
+/// The mistake in the first option for runs only, beside `--check`. `None` if there is none.
 fn of_run(
     workers: Option<&str>,
     watch: Option<&str>,
@@ -278,8 +279,8 @@ fn of_run(
     }
 }
 
-/// The options, by the texts of `--workers` and `--watch` and whether `--decimals` and `--explain` are given. A text
-/// that is no number, or one outside the option's range, is refused.
+/// The options, by the texts of `--workers` and `--watch` and whether `--decimals` and `--explain`
+/// are given. Refuses a text if it is no number, or outside the option's range.
 fn options_by<'a>(
     alloc: Global,
     command: &mut Command<'a>,
@@ -313,8 +314,8 @@ fn options_by<'a>(
     })
 }
 
-/// The number that an option's text writes, from `least` to `most`; `least` without a text. `None`
-/// if the text writes no such number.
+/// The number in an option's text, from `least` to `most`; `least` without a text. `None` if the
+/// text writes no such number.
 fn count_by(given: Option<&str>, least: usize, most: usize) -> Option<usize>
     requires { least ≤ most }
     ensures { MatchOption result
@@ -341,7 +342,7 @@ fn mistake<'a>(
     Ok(LineFault::Refused(error.to_string(alloc)?))
 }
 
-/// What the names of files ask for. A model's without the scripts' is refused.
+/// The request by names of files. A model's without the scripts' is refused.
 fn by_names<'a>(
     alloc: Global,
     command: &mut Command<'a>,
@@ -363,7 +364,7 @@ fn by_names<'a>(
     }
 }
 
-/// What the names of files ask for with `--check`. A line without a model's is refused.
+/// The request by names of files with `--check`. A line without a model's is refused.
 fn by_checked_names<'a>(
     alloc: Global,
     command: &mut Command<'a>,
@@ -381,7 +382,7 @@ fn by_checked_names<'a>(
     Ok(Asked::Check(options, model, scripts))
 }
 
-/// What a command line asks for that gives no names: help or the version, or it is refused.
+/// The request of a line without names: help or the version. Any other is refused.
 fn without_names<'a>(alloc: Global, error: &Error) -> Result<Asked<'a>, LineFault>
     ensures memory { kind_of error.now ≡ ErrorKind.OutOfMemory → result ≡ Err LineFault.OutOfMemory }
     ensures shown { (kind_of error.now ≡ ErrorKind.DisplayHelp)

@@ -1,4 +1,4 @@
-//! Runs scripts on a document where the numbers of both are of any form.
+//! Runs scripts on a document, both with numbers of any form.
 ghost use Rattle.std.specs.Prelude.{◌≡◌, true, IfOk, IfErr, OnOk};
 ghost use Rattle.city_model.specs.SerialEnds.{commits_in};
 ghost use Rattle.city_crew.specs.Seen.{AreSeen};
@@ -25,8 +25,8 @@ use std::thread::Threads;
 
 /// Runs the scripts on the document's city, both encoded, and decodes the output.
 ///
-/// Each text is let go once it is encoded. A fault is that of the run on the encoded texts; a text that is too long or
-/// no JSON is refused for that. No number is refused for its form.
+/// Each text is let go once it is encoded. A fault is the run's, on the encoded texts. A text is
+/// refused if it is too long or no JSON; no number is refused for its form.
 pub(crate) fn run_decimals<R: Threads + Wait + Sync, G: Gate + Sync>(
     rt: &R,
     alloc: Global,
@@ -58,7 +58,7 @@ pub(crate) fn run_decimals<R: Threads + Wait + Sync, G: Gate + Sync>(
     })
 }
 
-/// The buffer, with each line decoded behind what it holds.
+/// The buffer, with the decoded lines appended.
 fn decoded_behind(alloc: Global, lines: &[u8], buffer: Vec<u8>) -> Result<Vec<u8>, OutOfMemory>
     requires { AreJsonLines lines.now }
     ensures { IfOk result (λ v. AreDecodedBehind buffer.items lines.now v.items) }
@@ -71,8 +71,8 @@ fn decoded_behind(alloc: Global, lines: &[u8], buffer: Vec<u8>) -> Result<Vec<u8
     }
 }
 
-/// Encodes a text in its place, and lets the given one go. A text that is too long or no JSON stays as it is: it is
-/// refused for that.
+/// Encodes a text in its place, and lets the given one go. If the text is too long or no JSON it
+/// stays as it is: it is refused for that.
 pub(crate) fn encode_text(alloc: Global, text: &mut Text) -> Result<(), OutOfMemory>
     ensures given { OnOk result (IsGiven text.old.bytes.items text.new.bytes.items) }
     ensures whole { OnOk result (HasWholeNumbers text.new.bytes.items) }

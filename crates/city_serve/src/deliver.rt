@@ -1,4 +1,4 @@
-//! Writes the output of a run to where it goes.
+//! Writes the output of a run to its destination.
 ghost use Rattle.std.specs.Prelude.{◌≡◌, ◌≢◌, ◌≤◌, true, length, take, drop, Some, IfOk, IfErr};
 ghost use Rattle.std.specs.List.{list_any};
 ghost use Rattle.std.specs.Io.KnownBytes.{Appends};
@@ -17,16 +17,17 @@ use city_desk::Output;
 use city_model::end::{End, Outcome};
 use std::io::Write;
 
-/// What is known of a run once its output is written.
+/// The result of a run, once its output is written.
 #[derive(Drop)]
 pub struct Delivered {
-    /// For each viewer the numbers of changes that it saw.
+    /// For each viewer, the numbers of the changes it saw.
     pub seen: Vec<Vec<u64>>,
     /// Whether the model was written nowhere, since a script ended refused or out of memory.
     pub withheld: bool,
 }
 
-/// Writes a run's output to where it goes: the report to the writer, and the model behind it or to its file.
+/// Writes a run's output to its destination: the report to the writer, and the model behind it or
+/// to its file.
 pub(crate) fn deliver<F: OutputFiles, W: Write>(
     files: &mut F,
     seed: u64,
@@ -78,7 +79,7 @@ fn any_failed(ends: &[End]) -> bool
     false
 }
 
-/// Whether this is the end of a script that was refused, or that memory ran out for.
+/// Whether a script with this end was refused, or ran out of memory.
 fn is_failed(outcome: &Outcome) -> bool
     ensures { result ≡ outcome_failed outcome.now }
 {
@@ -88,8 +89,9 @@ fn is_failed(outcome: &Outcome) -> bool
     }
 }
 
-/// Replaces the file of this path by the model, once the model is on its device and the report is written, and says
-/// whether all of that succeeded. At every moment the file is the old one or the new one, whole.
+/// Replaces the file of this path by the model, once the model is on its device and the report is
+/// written, and says whether all steps succeeded. At every moment the file is the old one or the
+/// new one, whole.
 fn replace<F: OutputFiles, W: Write>(
     files: &mut F,
     seed: u64,

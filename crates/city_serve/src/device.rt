@@ -1,4 +1,4 @@
-//! A reader or a writer that keeps whether it has failed, and why.
+//! A reader or a writer, with a record of whether it has failed, and why.
 ghost use Rattle.std.specs.Prelude.{◌≡◌, ◌<◌, ◌≤◌, true, false, length, take, is_some, IfOk, IfErr, IfSome, IsSome};
 ghost use Rattle.std.specs.Prelude.{IsNone, OnOk, OnErr};
 ghost use Rattle.std.specs.Io.KnownBytes.{Appends, Consumes, IsAtEnd, Keeps};
@@ -39,7 +39,7 @@ impl<D> Device<D> {
         }
     }
 
-    /// Why it failed, where it has: its last error.
+    /// Why it failed, if it has: its last error.
     pub fn failure(&self) -> Option<io::Error>
         ensures { is_some result ≡ self.now.1 }
     {
@@ -87,9 +87,9 @@ impl<R: Read> Device<R> {
 }
 
 impl<W: Write> Device<W> {
-    /// Gives the writer some bytes, and returns how many it took, which is at least one.
+    /// Gives the writer some bytes, and returns how many it took, at least one.
     ///
-    /// None if it fails; then it took nothing.
+    /// `None` if it fails; then it took nothing.
     pub fn write_some(&mut self, bytes: &[u8]) -> Option<usize>
         requires { 0 < length bytes.now }
         ensures taken { IfSome result (λ n. (0 < n) × (n ≤ length bytes.now)) }
@@ -117,7 +117,7 @@ impl<W: Write> Device<W> {
         None
     }
 
-    /// Flushes the writer, again where that was interrupted, and says whether it succeeded.
+    /// Flushes the writer, again if interrupted, and says whether it succeeded.
     pub fn flush(&mut self) -> bool
         ensures kept { Keeps (W.contents self.old.0) (W.contents self.new.0) }
         ensures unfailed { result ≡ true → self.new.1 ≡ self.old.1 }

@@ -1,4 +1,4 @@
-//! What is told behind the line of a fault: the file, where in it, what is wrong, and what to do.
+//! Explains a fault behind its line: the file, the place in it, the mistake, and the repair.
 use crate::command_line::Asked;
 use crate::device::Device;
 use crate::fault::ServeFault;
@@ -11,8 +11,8 @@ use city_model::OutOfMemory;
 use std::alloc::Global;
 use std::io;
 
-/// What explains a fault of what is asked for: indented lines, each with its newline. Of a fault that neither a text
-/// nor a file has nothing is told.
+/// The explanation of a fault of a request: indented lines, each with its newline. Empty for a
+/// fault of neither a text nor a file.
 ///
 /// The texts are as the fault left them, and so are the files and the streams.
 pub(crate) fn explanation<F: TextFiles, R, W>(
@@ -33,7 +33,7 @@ pub(crate) fn explanation<F: TextFiles, R, W>(
     }
 }
 
-/// What explains a fault of a document.
+/// The explanation of a fault of a document.
 fn document(
     alloc: Global,
     asked: &Asked<'_>,
@@ -44,7 +44,7 @@ fn document(
     around(alloc, asked, model_name(asked), told.as_str())
 }
 
-/// What explains a fault of scripts.
+/// The explanation of a fault of scripts.
 fn scripts(
     alloc: Global,
     asked: &Asked<'_>,
@@ -55,7 +55,8 @@ fn scripts(
     around(alloc, asked, scripts_name(asked), told.as_str())
 }
 
-/// What is told of a text's fault, between the line that names the file and the one that says how all are told.
+/// The explanation of a text's fault, between the line with the file and the command to tell all
+/// faults.
 fn around(alloc: Global, asked: &Asked<'_>, name: &str, told: &str) -> Result<String, OutOfMemory> {
     let mut lines = String::new(alloc);
     push_line(&mut lines, "file", name)?;
@@ -73,7 +74,7 @@ fn around(alloc: Global, asked: &Asked<'_>, name: &str, told: &str) -> Result<St
     Ok(lines)
 }
 
-/// Adds the line that says how all faults are told.
+/// Adds the line with the command to tell all faults.
 fn push_command(
     lines: &mut String,
     words: &str,
@@ -93,7 +94,7 @@ fn push_command(
     lines.push_str("\n")
 }
 
-/// What explains that a text can't be read: which, and why. The model is read before the scripts.
+/// The explanation of an unread text: which, and why. The model is read before the scripts.
 fn unread(
     alloc: Global,
     asked: &Asked<'_>,
@@ -108,7 +109,7 @@ fn unread(
     }
 }
 
-/// What explains that output can't be written: standard output, or else the file that gets the model.
+/// The explanation of unwritten output: standard output, or else the output file.
 fn unwritten(
     alloc: Global,
     asked: &Asked<'_>,
@@ -121,7 +122,7 @@ fn unwritten(
     }
 }
 
-/// What is told of a file or a stream that failed: its name, and why, where that is known.
+/// The lines for a failed file or stream: its name, and why, if known.
 fn device(alloc: Global, name: &str, error: Option<io::Error>) -> Result<String, OutOfMemory> {
     let mut lines = String::new(alloc);
     push_line(&mut lines, "file", name)?;
@@ -132,7 +133,7 @@ fn device(alloc: Global, name: &str, error: Option<io::Error>) -> Result<String,
     Ok(lines)
 }
 
-/// Adds an indented line: a word, and what is said of it.
+/// Adds an indented line: a word, and the text told of it.
 fn push_line(lines: &mut String, word: &str, told: &str) -> Result<(), OutOfMemory> {
     lines.push_str("  ")?;
     lines.push_str(word)?;
@@ -158,7 +159,7 @@ fn scripts_name<'a>(asked: &Asked<'a>) -> &'a str {
     }
 }
 
-/// The path of the file that gets the model, if one does.
+/// The path of the output file, if there is one.
 fn output_file<'a>(asked: &Asked<'a>) -> Option<&'a str> {
     match asked {
         Asked::Input(_, destination) | Asked::Files(_, destination, _, _) => destination.file,

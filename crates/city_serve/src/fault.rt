@@ -4,7 +4,7 @@ use city_model::OutOfMemory;
 use std::error::Error;
 use std::fmt::{self, Display, Formatter, Write};
 
-/// Why bytes were not served. A fault of the run shows as that fault does.
+/// Why bytes were not served. A fault of the run shows as itself.
 #[derive(Debug, Drop)]
 pub enum ServeFault {
     /// The reader failed.

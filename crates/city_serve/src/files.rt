@@ -14,27 +14,26 @@ use std::fs;
 use std::fs::Files;
 use std::io::{self, ErrorKind, Read};
 
-/// The most bytes that are read of a text: one more than it may have, so that a text that is
-/// too long is noticed.
+/// The most bytes read of a text: one more than it may have, so a text too long is noticed.
 const MOST: usize = MAX_TEXT + 1;
 
-/// What has texts by their paths.
+/// Texts by their paths.
 pub trait TextFiles {
-    /// The text that a read of a path gives, where it is known.
+    /// The text from a read of a path, if it is known.
     ghost text: { Self → List ℕ → Option (List ℕ) } = { λ _ _. None };
 
-    /// The text that a file has, or where it is too long its first `MAX_TEXT` + 1 bytes.
+    /// The text of a file; if it is too long, its first `MAX_TEXT` + 1 bytes.
     fn read(&self, path: &str) -> Result<Vec<u8>, ServeFault>
         ensures read { IfOk result (λ v. IfSome (text self.now path.now) (λ all. v.items ≡ all)) }
         ensures fault { IfErr result (IsDeviceFault true) };
 
-    /// Why the last call that was refused was, where the system said why.
+    /// Why the last refused call was refused, if the system said why.
     fn why(&self) -> Option<io::Error> {
         None
     }
 }
 
-/// The text that a file has, or where it is too long its first `MAX_TEXT` + 1 bytes.
+/// The text of a file; if it is too long, its first `MAX_TEXT` + 1 bytes.
 ///
 /// A file that can't be opened or read is the fault Read.
 pub fn read_file<R: Files + AllocGlobal>(rt: &R, path: &str) -> Result<Vec<u8>, ServeFault>
@@ -65,7 +64,7 @@ pub(crate) fn read_noting<R: Files + AllocGlobal>(
     }
 }
 
-/// The fault that an error of this kind in opening a file is.
+/// The fault of an error of this kind in opening a file.
 fn open_fault(kind: ErrorKind) -> ServeFault
     ensures { IsDeviceFault true result }
 {
@@ -75,7 +74,8 @@ fn open_fault(kind: ErrorKind) -> ServeFault
     }
 }
 
-/// The text that a reader gives, or where it is too long its first `MAX_TEXT` + 1 bytes; no more are taken from it.
+/// The text from a reader; if it is too long, its first `MAX_TEXT` + 1 bytes. No more are taken
+/// from it.
 pub fn read_text<R: Read>(alloc: Global, reader: &mut Device<R>) -> Result<Vec<u8>, ServeFault>
     ensures read { IfOk result (λ v. IfSome (R.remaining reader.old.0)
         (λ all. v.items ≡ take (max_text + 1) all)) }

@@ -1,18 +1,19 @@
-//! Serving: a document and its scripts in, the report and the edited model out; and what the program is asked for.
+//! Serving: a document and its scripts in, the report and the edited model out; and the program's answers to
+//! command lines.
 //!
 //! - `serve`: from a reader to a writer; `serve_texts`: from two texts, borrowed or owned
-//! - `options`: by how many workers, before how many viewers, with which numbers, and where the output goes; `run`,
+//! - `options`: the workers, the viewers, the form of numbers, and the output's destination; `run`,
 //!   `decimals`: the run itself
-//! - `deliver`: the output goes where it is asked for, over `output_files`, whose texts are replaced whole
-//! - `device`: a reader or a writer that keeps whether it has failed; `files`: a text from a file; `runtime_files`: the
-//!   files of a runtime, `no_files`: none
-//! - `texts`: the two texts that are worked on, which are let go once they are read
-//! - `check`: all faults of two texts, told; `explain`: what is told behind the line of a fault
-//! - `fault`, `fault_line`: why nothing was served, and the line that reports it; `seen_line`: what a viewer saw
-//! - `command_line`: what the words of a command line ask for; `program`: how it is answered, and told
+//! - `deliver`: the output to its destination, over `output_files`, replaced whole
+//! - `device`: a reader or a writer, with a record of its failure; `files`: a text from a file;
+//!   `runtime_files`: the files of a runtime, `no_files`: none
+//! - `texts`: the two texts at work, let go once they are read
+//! - `check`: all faults of two texts, told; `explain`: the lines behind a fault's line
+//! - `fault`, `fault_line`: why nothing was served, and the line to report it; `seen_line`: a viewer's line
+//! - `command_line`: the request of a command line; `program`: how it is answered, and told
 //!
-//! Made for a program that ends once its output is written: the city of a run by one worker is left to the end of
-//! the process.
+//! Made for a program that ends once its output is written: the city of a run is left to the end of the
+//! process.
 #![tactic(auto)]
 
 mod check;

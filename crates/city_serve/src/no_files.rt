@@ -1,4 +1,4 @@
-//! No files, for runs whose model follows its report.
+//! No files, for runs with the model behind the report.
 ghost use Rattle.std.specs.Prelude.{true, false};
 
 use crate::fault::ServeFault;

@@ -1,6 +1,6 @@
 //! How a run is done, and where its output goes.
 
-/// By how many workers a run is done, before how many viewers, and with which numbers.
+/// The workers and viewers of a run, its form of numbers, and how its faults are told.
 #[derive(Clone, Copy)]
 pub struct Options {
     /// From 1 to `MAX_WORKERS`.
@@ -9,15 +9,15 @@ pub struct Options {
     pub viewers: usize,
     /// Whether numbers of any form are taken, and given back as they were written.
     pub decimals: bool,
-    /// Whether a fault is told with where it is and what to do.
+    /// Whether a fault is told with its place and the repair.
     pub explain: bool,
 }
 
 /// Where the output of a run goes, and whether all of it does.
 #[derive(Clone, Copy)]
 pub struct Destination<'a> {
-    /// The path of the file that gets the model. Without one the model follows the report.
+    /// The path of the model's output file. Without one the model follows the report.
     pub file: Option<&'a str>,
-    /// Whether the model goes there only where no script ended refused or out of memory.
+    /// Whether the model goes there only if no script ended refused or out of memory.
     pub atomic: bool,
 }

@@ -1,4 +1,4 @@
-//! What the program does with the words of its command line.
+//! Answers the words of a command line.
 ghost use Rattle.std.specs.Prelude.{◌≡◌, ◌++◌, ◌∷◌, [], ℕ, List, false, drop, map, string_bytes, IfOk, IfErr, OnOk};
 ghost use Rattle.city_serve.specs.CommandLines.{HasOptions};
 ghost use Rattle.city_serve.specs.FaultTexts.{fault_text};
@@ -29,26 +29,26 @@ use std::io::{Read, Write};
 use std::sync::Wait;
 use std::thread::Threads;
 
-/// What is told where memory runs out.
+/// Told if memory runs out.
 const MEMORY_LINE: &str = "cityed: out of memory\n";
 
 /// How the program ends.
 #[derive(Clone, Copy)]
 pub enum Status {
-    /// What was asked for is done, and written.
+    /// The request is done, and the answer written.
     Done,
-    /// There was a fault, which standard error tells.
+    /// There was a fault, told on standard error.
     Failed,
-    /// A check found faults, which standard output tells.
+    /// A check found faults, told on standard output.
     Faulty,
-    /// The command line was refused, and standard error says why.
+    /// The command line was refused, as told on standard error.
     Refused,
-    /// A script ended refused or out of memory, and so the model was written nowhere, as it was asked for.
+    /// A script ended refused or out of memory, and so the model was written nowhere, as requested.
     Withheld,
 }
 
 impl Status {
-    /// The number that the process ends with.
+    /// The exit status of the process.
     pub fn code(self) -> u8
         ensures { result ≡ status_code self }
     {
@@ -62,11 +62,11 @@ impl Status {
     }
 }
 
-/// Does what the words of a command line ask for, the program's name first.
+/// Answers the words of a command line, the program's name first.
 ///
-/// Output gets what is served, or the text that is asked for; a file that is to get the model is replaced whole, or
-/// stays as it was. Errors get a line for each viewer once the output is written, or why there is none. That errors
-/// can't be written changes no status.
+/// Output gets everything served, or the requested text; an output file is replaced whole, or stays
+/// as it was. Errors get a line for each viewer once the output is written, or why there is none. A
+/// failure to write errors changes no status.
 pub fn run_program<
     T: Threads + Wait + Sync,
     G: Gate + Sync,
@@ -107,7 +107,7 @@ pub fn run_program<
     }
 }
 
-/// Does what is asked for, and tells what viewers saw, or why it isn't done.
+/// Answers a request, and tells what viewers saw, or why there is no answer.
 fn run_asked<T: Threads + Wait + Sync, G: Gate + Sync, F: OutputFiles, R: Read, W: Write, E: Write>(
     rt: &T,
     alloc: Global,
@@ -145,7 +145,7 @@ fn run_asked<T: Threads + Wait + Sync, G: Gate + Sync, F: OutputFiles, R: Read, 
     }
 }
 
-/// Tells why what was asked for isn't done, and what explains that where it is explained.
+/// Tells why a request isn't answered, with the explanation, if any.
 fn tell_unanswered<F: OutputFiles, R: Read, W: Write, E: Write>(
     alloc: Global,
     terminal: bool,
@@ -165,7 +165,7 @@ fn tell_unanswered<F: OutputFiles, R: Read, W: Write, E: Write>(
     tell_fault(alloc, &fault, behind.as_str(), errors)
 }
 
-/// What is told behind the line of a fault: nothing where it isn't explained, or memory is short for that.
+/// The lines behind a fault's line: none if it isn't explained, or memory is short for them.
 fn behind_line<F: OutputFiles, R: Read, W: Write>(
     alloc: Global,
     terminal: bool,
@@ -187,7 +187,7 @@ fn behind_line<F: OutputFiles, R: Read, W: Write>(
     }
 }
 
-/// Whether a fault is explained: on a terminal, and where that is asked for.
+/// Whether a fault is explained: on a terminal, and on request.
 fn is_explained(terminal: bool, asked: &Asked<'_>) -> bool
     ensures { result ≡ is_explained terminal asked.now }
 {
@@ -199,10 +199,10 @@ fn is_explained(terminal: bool, asked: &Asked<'_>) -> bool
     }
 }
 
-/// What is known once what is asked for is done.
+/// The result of a request, once done.
 #[derive(Drop)]
 struct Answered {
-    /// For each viewer the numbers of changes that it saw.
+    /// For each viewer, the numbers of the changes it saw.
     seen: Vec<Vec<u64>>,
     status: Status,
 }
@@ -235,7 +235,7 @@ fn run_answer(delivered: Delivered) -> Answered
     }
 }
 
-/// Writes what is asked for. MODEL is read to its end before SCRIPTS is opened.
+/// Writes the answer to a request. MODEL is read to its end before SCRIPTS is opened.
 fn answer<T: Threads + Wait + Sync, G: Gate + Sync, F: OutputFiles, R: Read, W: Write>(
     rt: &T,
     alloc: Global,
@@ -305,7 +305,8 @@ fn answer<T: Threads + Wait + Sync, G: Gate + Sync, F: OutputFiles, R: Read, W: 
     }
 }
 
-/// Tells what each viewer saw. The output is written by then: where errors can't be, the status is that of the run.
+/// Tells what each viewer saw. The output is written by then: if errors can't be, the status is the
+/// run's.
 fn tell_seen<E: Write>(
     alloc: Global,
     seen: &[Vec<u64>],
@@ -359,7 +360,8 @@ fn tell_memory<E: Write>(errors: &mut Device<E>) -> Status
     Status::Failed
 }
 
-/// Tells a fault, and behind its line what explains it. Where memory is short for that, it is told that memory ran out.
+/// Tells a fault, with its explanation behind its line. If memory is short for that, tells that
+/// memory ran out.
 fn tell_fault<E: Write>(
     alloc: Global,
     fault: &ServeFault,
@@ -377,7 +379,7 @@ fn tell_fault<E: Write>(
     Status::Failed
 }
 
-/// The line that reports a fault, its newline, and what is told behind that.
+/// The line to report a fault, its newline, and the lines behind it.
 fn ended_line(alloc: Global, fault: &ServeFault, behind: &str) -> Result<String, OutOfMemory>
     ensures { IfOk result (λ s. string_bytes s ≡ (fault_text fault.now ++ 10 ∷ []) ++ behind.now) }
 {
@@ -387,7 +389,7 @@ fn ended_line(alloc: Global, fault: &ServeFault, behind: &str) -> Result<String,
     Ok(line)
 }
 
-/// Writes a text to errors. Where that fails the status is all that is left, and nobody is told.
+/// Writes a text to errors. If that fails, only the status is left, and nobody is told.
 fn tell<E: Write>(errors: &mut Device<E>, text: &str)
     ensures { IsToldAfter errors.old.1 (E.contents errors.old.0) (E.contents errors.new.0) errors.new.1 text.now }
 {

@@ -1,4 +1,4 @@
-//! Runs a text of scripts by as many workers, before as many viewers, and with such numbers as are asked for.
+//! Runs a text of scripts with the requested workers, viewers and form of numbers.
 ghost use Rattle.std.specs.Prelude.{◌≡◌, ℕ, List, false, length, IfOk, IfErr};
 ghost use Rattle.city_model.specs.CityMap.{object_at};
 ghost use Rattle.city_model.specs.Relations.{IsLawful};
@@ -28,9 +28,9 @@ use std::mem::forget;
 use std::sync::Wait;
 use std::thread::Threads;
 
-/// Runs the scripts on the document's city, through a gate. Every run that is served goes this way.
+/// Runs the scripts on the document's city, through a gate. Every served run goes this way.
 ///
-/// The texts are gone where it succeeds. Where it refuses one, that is there as the run was given it.
+/// If it succeeds the texts are gone. If it refuses one, the text is there as the run was given it.
 pub(crate) fn run<R: Threads + Wait + Sync, G: Gate + Sync>(
     rt: &R,
     alloc: Global,
@@ -56,9 +56,9 @@ pub(crate) fn run<R: Threads + Wait + Sync, G: Gate + Sync>(
     }
 }
 
-/// Runs scripts whose numbers are whole on such a document's city, and lets the texts go once they are read. As many
-/// threads as run and look read a large document. One worker without viewers needs no thread beside its own, and
-/// passes no gate.
+/// Runs scripts on a document's city, both of whole numbers, and lets the texts go once they are
+/// read. A large document is read by as many threads as run and look. One worker without viewers
+/// needs no thread beside its own, and passes no gate.
 pub(crate) fn run_whole<R: Threads + Wait + Sync, G: Gate + Sync>(
     rt: &R,
     alloc: Global,
@@ -93,7 +93,7 @@ pub(crate) fn run_whole<R: Threads + Wait + Sync, G: Gate + Sync>(
     Ok(output)
 }
 
-/// Runs scripts that were read on a city that was read, and gives the city that they leave beside the output.
+/// Runs scripts on a city, both already read, and returns the final city beside the output.
 fn run_read_texts<R: Threads + Wait + Sync, G: Gate + Sync>(
     rt: &R,
     alloc: Global,

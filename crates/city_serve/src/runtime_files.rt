@@ -13,7 +13,8 @@ use std::path::PathBuf;
 /// How many names of new files are tried.
 const MOST_NAMES: u64 = 100;
 
-/// The files of a runtime, whether a step of replacing one was refused, and why the last call that was refused was.
+/// The files of a runtime, whether a step of replacing one was refused, and why the last refused
+/// call was.
 #[derive(Drop)]
 pub struct RuntimeFiles<'a, R> {
     rt: &'a R,
@@ -33,7 +34,7 @@ impl<'a, R> RuntimeFiles<'a, R> {
 }
 
 impl<R: Files + AllocGlobal> RuntimeFiles<'_, R> {
-    /// Whether a step succeeded; that it didn't, and why, is kept.
+    /// Whether a step succeeded. If not, keeps the failure and why.
     fn noted(&mut self, step: io::Result<()>) -> bool
         ensures unfailed { result ≡ true → self.new.failed ≡ self.old.failed }
         ensures failed { result ≢ true → self.new.failed ≡ true }
@@ -52,10 +53,10 @@ impl<R: Files + AllocGlobal> RuntimeFiles<'_, R> {
 pub struct NewFile<F> {
     file: F,
     name: String,
-    /// Which file it is to replace: where links lead to it, the one that they lead to.
+    /// The file to replace; if links lead to it, the one at their end.
     target: PathBuf,
     synced: bool,
-    /// Why its last write that was refused was.
+    /// Why its last write was refused, if it was.
     why: Option<io::Error>,
 }
 
@@ -132,9 +133,9 @@ impl<R: Files + AllocGlobal> OutputFiles for RuntimeFiles<'_, R> {
     }
 }
 
-/// Makes a new file beside the file of this path, with the mode that the file has.
+/// Makes a new file beside the file of this path, with the same mode.
 ///
-/// Refused where the path is that of something else than a file: nothing else can be replaced.
+/// Refused if the path leads to anything but a file: nothing else can be replaced.
 fn create_beside<R: Files + AllocGlobal>(
     rt: &R,
     path: &str,
@@ -158,7 +159,7 @@ fn create_beside<R: Files + AllocGlobal>(
     Ok(new)
 }
 
-/// The file that a path leads to, or the path itself where no file is found.
+/// The file a path leads to, or the path itself if no file is found.
 fn target_of<R: Files + AllocGlobal>(rt: &R, path: &str) -> io::Result<PathBuf> {
     match fs::canonicalize(rt, path) {
         Ok(target) => Ok(target),
@@ -167,8 +168,8 @@ fn target_of<R: Files + AllocGlobal>(rt: &R, path: &str) -> io::Result<PathBuf> 
     }
 }
 
-/// Has the names in the folder of this path reach the device. A folder that can't be synced, since it can't be read or
-/// the system doesn't sync folders, is no error.
+/// Brings the names in the folder of this path to the device. If the folder can't be synced, since
+/// it can't be read or the system doesn't sync folders, there is no error.
 fn sync_folder_of<R: Files + AllocGlobal>(rt: &R, path: &str) -> io::Result<()> {
     let target = target_of(rt, path)?;
     let folder = match target.parent() {
@@ -181,7 +182,7 @@ fn sync_folder_of<R: Files + AllocGlobal>(rt: &R, path: &str) -> io::Result<()> 
     }
 }
 
-/// Whether an error says that a folder can't be synced at all.
+/// Whether an error says a folder can't be synced at all.
 fn is_unable(kind: ErrorKind) -> bool {
     matches!(
         kind,
@@ -189,7 +190,8 @@ fn is_unable(kind: ErrorKind) -> bool {
     )
 }
 
-/// Makes a new file under the first name that is free: the file's own, and behind it a number that begins at the seed.
+/// Makes a new file under the first free name: the file's own, and behind it a number from the seed
+/// on.
 fn create_new<R: Files + AllocGlobal>(
     rt: &R,
     target: PathBuf,
@@ -219,7 +221,7 @@ fn create_new<R: Files + AllocGlobal>(
     Err(io::Error::from(ErrorKind::AlreadyExists))
 }
 
-/// Removes a new file. Where that is refused it stays, and its name tells what it is.
+/// Removes a new file. If that is refused it stays, and its name tells what it is.
 fn remove<R: Files, F>(rt: &R, new: &NewFile<F>) {
     let _ = fs::remove_file(rt, new.name.as_str());
 }

@@ -1,4 +1,4 @@
-//! The line that reports what a viewer saw.
+//! The line to report what a viewer saw.
 ghost use Rattle.std.specs.Prelude.{◌≡◌, ◌++◌, IfOk, OnOk, codes, string_bytes};
 ghost use Rattle.std.specs.Fmt.{decimal};
 ghost use Rattle.city_serve.specs.SeenTexts.{seen_text};
@@ -6,7 +6,7 @@ ghost use Rattle.city_serve.specs.SeenTexts.{seen_text};
 use city_model::OutOfMemory;
 use std::alloc::Global;
 
-/// The line that reports which numbers of changes a viewer saw, without a newline:
+/// The line to report the numbers of the changes seen by a viewer, without a newline:
 /// `viewer 0: 0 1 3`. It fails only when out of memory.
 pub fn seen_line(alloc: Global, viewer: usize, seen: &[u64]) -> Result<String, OutOfMemory>
     ensures { IfOk result (λ s. string_bytes s ≡ seen_text viewer seen.now) }

@@ -21,7 +21,7 @@ use std::io::{Read, Write};
 use std::sync::Wait;
 use std::thread::Threads;
 
-/// The most bytes that are read: two texts of the greatest length, the newline, and one more.
+/// The most bytes read: two texts of the greatest length, the newline, and one more.
 const MOST: usize = 2 * MAX_TEXT + 2;
 
 /// How many bytes are asked for at a time.
@@ -30,11 +30,12 @@ const PIECE: usize = 64 * 1024;
 /// Reads a document and, after the first newline, scripts; runs the scripts on the document; writes
 /// the output.
 ///
-/// Workers are 1 to `MAX_WORKERS`, viewers 0 to `MAX_VIEWERS`, and neither device has failed yet. No more bytes are
-/// taken from the reader than 2 * `MAX_TEXT` + 2. Without a newline there are no scripts. Where the reader fails, or the
-/// run has no output, nothing is written; where the writer fails, it has got the first bytes of the output. `Read` and
-/// `Write` come only where the reader or the writer fails, and where either does there is no `Ok`. The answer has, for
-/// each viewer, the numbers of changes that it saw.
+/// Workers are 1 to `MAX_WORKERS`, viewers 0 to `MAX_VIEWERS`, and neither device has failed yet.
+/// No more bytes are taken from the reader than 2 * `MAX_TEXT` + 2. Without a newline there are no
+/// scripts. If the reader fails, or the run has no output, nothing is written; if the writer fails,
+/// it has got the first bytes of the output. `Read` and `Write` come only if the reader or the
+/// writer fails, and if either does there is no `Ok`. The answer has, for each viewer, the numbers
+/// of the changes it saw.
 pub fn serve<T: Threads + Wait + Sync, R: Read, W: Write>(
     rt: &T,
     alloc: Global,
@@ -62,8 +63,9 @@ pub fn serve<T: Threads + Wait + Sync, R: Read, W: Write>(
     serve_input(rt, alloc, &OpenGate, FIXED_SEED, reader, writer, options)
 }
 
-/// As `serve`, by such options, and through a gate: a worker passes it between its turns, and each viewer tells it what
-/// it saw. With `decimals` numbers of any form are taken, and given back as they were written.
+/// As `serve`, with these options, and through a gate: a worker passes it between its turns, and
+/// each viewer tells it what it saw. With `decimals` numbers of any form are taken, and given back
+/// as they were written.
 pub fn serve_input<T: Threads + Wait + Sync, G: Gate + Sync, R: Read, W: Write>(
     rt: &T,
     alloc: Global,
@@ -105,7 +107,7 @@ pub(crate) fn read_input<R: Read>(
     Ok(split(alloc, input)?)
 }
 
-/// What a reader gives, up to so many bytes; no more are taken from it.
+/// The bytes from a reader, up to so many. No more are taken from it.
 pub(crate) fn read_at_most<R: Read>(
     alloc: Global,
     reader: &mut Device<R>,
@@ -154,7 +156,7 @@ fn cut(input: &[u8]) -> (&[u8], &[u8])
     }
 }
 
-/// Where the first newline stands.
+/// The index of the first newline.
 fn first_newline(bytes: &[u8]) -> Option<usize>
     ensures { result ≡ position is_newline bytes.now }
 {

@@ -23,10 +23,10 @@ use std::thread::Threads;
 
 /// Runs the scripts of a text on a document, and writes the output.
 ///
-/// Workers are 1 to `MAX_WORKERS`, viewers 0 to `MAX_VIEWERS`. One worker without viewers runs the scripts
-/// in their order. The document is judged before the scripts. Where the run has no output, nothing is written; where
-/// the writer fails, it has got the first bytes of the output. The answer has, for each viewer, the numbers of
-/// changes that it saw.
+/// Workers are 1 to `MAX_WORKERS`, viewers 0 to `MAX_VIEWERS`. One worker without viewers runs the
+/// scripts in their order. The document is judged before the scripts. If the run has no output,
+/// nothing is written; if the writer fails, it has got the first bytes of the output. The answer
+/// has, for each viewer, the numbers of the changes it saw.
 pub fn serve_texts<R: Threads + Wait + Sync, W: Write>(
     rt: &R,
     alloc: Global,
@@ -56,11 +56,11 @@ pub fn serve_texts<R: Threads + Wait + Sync, W: Write>(
     )
 }
 
-/// As `serve_texts`, with texts of its own, by such options, and through a gate: a worker passes it between its turns,
-/// and each viewer tells it what it saw.
+/// As `serve_texts`, with texts of its own, with these options, and through a gate: a worker passes
+/// it between its turns, and each viewer tells it what it saw.
 ///
-/// One worker without viewers passes no gate, and lets the texts go once they are read. With `decimals` numbers of any
-/// form are taken, and given back as they were written.
+/// One worker without viewers passes no gate. The texts are let go once they are read. With
+/// `decimals` numbers of any form are taken, and given back as they were written.
 pub fn serve_owned<R: Threads + Wait + Sync, G: Gate + Sync, W: Write>(
     rt: &R,
     alloc: Global,
@@ -97,12 +97,13 @@ pub fn serve_owned<R: Threads + Wait + Sync, G: Gate + Sync, W: Write>(
     Ok(delivered.seen)
 }
 
-/// As `serve_owned`, and the output goes where the destination says: the report to the writer, and the model behind it or
-/// to a file, which is replaced whole once the report is written, or stays as it was.
+/// As `serve_owned`, with the output to a destination: the report to the writer, and the model
+/// behind it or to a file. The file is replaced whole once the report is written, or stays as it
+/// was.
 ///
-/// The answer says whether the model was withheld, as an atomic destination asks for where a script ended refused or out
-/// of memory. The texts are gone where the run succeeds, and where it refuses one that is there as it was given it.
-/// Every run that is served goes this way.
+/// The answer says whether the model was withheld: an atomic destination asks for that if a script
+/// ended refused or out of memory. If the run succeeds the texts are gone; if it refuses one, the
+/// text is there as the run was given it. Every served run goes this way.
 pub fn serve_to<R: Threads + Wait + Sync, G: Gate + Sync, F: OutputFiles, W: Write>(
     rt: &R,
     alloc: Global,

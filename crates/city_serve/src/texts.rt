@@ -1,4 +1,4 @@
-//! The two texts that are worked on, as long as they are needed.
+//! The two texts at work, as long as they are needed.
 ghost use Rattle.std.specs.Prelude.{◌≡◌};
 
 use std::alloc::Global;
@@ -22,7 +22,7 @@ pub struct Text {
 }
 
 impl Text {
-    /// A text that isn't there yet.
+    /// A text not there yet.
     pub fn unread(alloc: Global) -> Text {
         Text {
             bytes: Vec::new(alloc),
@@ -56,8 +56,8 @@ impl Text {
     }
 }
 
-/// A document and scripts, lent to what works on them: it lets them go once it has read them, and leaves them where it
-/// refuses them, so that a fault in them can be explained.
+/// A document and scripts, lent to a run or a check. It lets them go once it has read them. A
+/// refused text stays, so its fault can be explained.
 #[derive(Drop)]
 pub struct Texts {
     pub document: Text,
@@ -65,7 +65,7 @@ pub struct Texts {
 }
 
 impl Texts {
-    /// Texts that aren't there yet.
+    /// Texts not there yet.
     pub fn unread(alloc: Global) -> Texts {
         Texts {
             document: Text::unread(alloc),

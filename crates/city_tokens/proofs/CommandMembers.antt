@@ -1,4 +1,4 @@
--- What was read of a command's members, with one more; and the command of all of them.
+-- A command's members read so far, with one more; and the command of all of them.
 use Rattle.city_tokens.proofs.Prelude.{◌≡◌, ℕ, List, false, Option, Some, None, refl, arith, is_some, codes, Data}
 use Rattle.city_tokens.proofs.Prelude.{string, array, object, Members, no_members, put, items_of, Geometry, IsCommand}
 use Rattle.city_tokens.proofs.Prelude.{Token, IsReadAs, IsTaken, IsValue}
@@ -14,7 +14,7 @@ use Rattle.city_tokens.proofs.PlacedParts.{strings_read}
 unread : {A : Type 0} (o : Option A) → is_some o ≡ false → o ≡ None
 unread o h = grind arith
 
--- that of a verb, where there was none
+-- a verb's, if there was none
 pub verb_taken : (parts : CommandParts) (v : Verb) (copy text : List ℕ) {name : List ℕ} {depth : ℕ}
     {before after : List Token} → name ≡ verb_name v → copy ≡ text → is_some parts.verb ≡ false
     → IsValue depth before (string text) after
@@ -27,7 +27,7 @@ other_last : (verb : Option (Verb × List ℕ)) (o : Other) (d : Data)
     → put (other_name o) d (with_verb verb no_members) ≡ with_verb verb (put (other_name o) d no_members)
 other_last verb o d = grind arith
 
--- that beside the verb's, where there was none
+-- the one beside the verb's, if there was none
 pub other_taken : (parts : CommandParts) (o : Other) {name : List ℕ} {depth : ℕ} {before after : List Token}
     → name ≡ other_name o → is_some parts.other ≡ false → IsReadAs IsOther o depth before after
     → IsTaken IsCommandSoFar parts (record parts { other = Some o }) name depth before after

@@ -7,7 +7,7 @@ use Rattle.json.specs.Json.{Parse, if_last}
 use Rattle.json.proofs.Grammar.{items_end, items_more, members_end, members_more}
 use Rattle.json.specs.Json as json
 
--- what was converted was parsed
+-- a converted value was parsed
 pub converted_some : {A B : Type 0} (f : A → Option B) (o : Option (A × List Token)) (b : B) (r : List Token)
     → converted f o ≡ Some (b, r) → (a : A) × (o ≡ Some (a, r)) × (f a ≡ Some b)
 converted_some f o b r e = grind arith

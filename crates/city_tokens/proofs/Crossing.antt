@@ -1,4 +1,4 @@
--- What workers read, and place, may go to another thread.
+-- Parts read or placed by workers may go to another thread.
 use denote.Param.Send.{IsSend, IsSync, recorded_send, sendable}
 use denote.Struct.Declared.{field}
 use denote.RattleType.{RattleType}
@@ -21,7 +21,7 @@ unplaced_sends =
 pub position_sends : IsSend Position.the_field.row
 position_sends = search (place.the_field_send, sendable) depth 60 fits 20000
 
--- parts that were read, where each may
+-- parts read, if each may
 run_field_sends : (T : RattleType) → IsSend T → IsSend (Run.the_field T).row
 run_field_sends T s = search (s, position_sends, values.crosses, sendable) depth 60 fits 20000
 

@@ -1,4 +1,4 @@
--- Members that are put in among those that were found: where each is found, and which are kept.
+-- Members put in among the ones found: the place of each, and the kept ones.
 use Rattle.city_tokens.proofs.Prelude.{arith, ◌≡◌, ℕ, List, [], ◌∷◌, true, false, Option, Some, Less, Equal, nat_cmp}
 use Rattle.city_tokens.proofs.Prelude.{refl, sym, ◌∙◌, codes, if◌then◌else◌, slice_cmp, exact_bytes, Data, Members}
 use Rattle.city_tokens.proofs.Prelude.{no_members, member, put, get_member, same_id, has_id, without, without_each}
@@ -26,7 +26,7 @@ above_without a n (member k d ms) h =
     elim (same_id n k) as (λ b. AllAbove a (if b then without n ms else member k d (without n ms)))
     [ true ↦ above_without a n ms h.1 | false ↦ (h.0, above_without a n ms h.1) ]
 
--- names that ascend still do
+-- ascending names still ascend
 pub ordered_without : (n : List ℕ) (ms : Members) → AreOrdered ms → AreOrdered (without n ms)
 ordered_without n no_members h = tt
 ordered_without n (member k d ms) h =
@@ -71,7 +71,7 @@ other_name name n other = by_id name n (λ e. absurd (other e)) (λ apart. apart
 pub apart_back : (name n : List ℕ) → (name ≡ n → ⊥) → same_id n name ≡ false
 apart_back name n other = same_id_back n name ∙ other_name name n other
 
--- what was read of a member
+-- the value read of a member
 pub slot_here : {A : Type 0} (R : A → Data → Type 0) (x : A) (name : List ℕ) (d : Data) (ms : Members) → R x d
     → IsSlot R (Some x) (get_member name (put name d ms))
 slot_here R x name d ms h = (d, get_member-put name d ms, h)

@@ -1,4 +1,4 @@
--- What an option that has a value was made of, and lists that grow under one.
+-- The parts of an option's value, and lists growing under an option.
 use Rattle.city_tokens.proofs.Prelude.{◌≡◌, List, [], ◌∷◌, ◌++◌, Bool, true, Option, Some, None, IfSome, option_map}
 use Rattle.city_tokens.proofs.Prelude.{refl, append_assoc, arith, option_and_then, if◌then◌else◌}
 use Rattle.std.proofs.Common.{Result, Ok, Err}
@@ -17,24 +17,24 @@ pub if_some : {A : Type 0} (b : Bool) (o : Option A) (x : A) → (if b then o el
     → (b ≡ true) × (o ≡ Some x)
 if_some b o x h = grind arith
 
--- a value that goes first in what follows goes last in what is there
+-- the first of the items to follow is the last of the items there
 pub map_grown : {A : Type 0} (o : Option (List A)) (done : List A) (x : A)
     → option_map (λ xs. done ++ xs) (option_map (λ xs. x ∷ xs) o) ≡ option_map (λ xs. (done ++ x ∷ []) ++ xs) o
 map_grown o done x = grind (arith, append_assoc)
 
--- what the value of a result is, where it is taken by `ok`
+-- a property of a result's value taken by `ok`
 pub ok_holds : {T E : Type 0} (r : Result T E) (o : Option T) (P : T → Type 0) → o ≡ result_ok r
     → ((x : T) → r ≡ Ok x → P x) → IfSome o P
 ok_holds (Ok x) o P is h = rw is (h x refl)
 ok_holds (Err e) o P is h = rw is tt
 
--- what a call promises of its value, where `ok` gave one
+-- a call's promise of its value, if `ok` gave one
 pub given : {A E : Type 0} (r : Result A E) (o : Option A) (x : A) (P : A → Type 0) → o ≡ result_ok r → o ≡ Some x
     → IfOk r P → P x
 given (Ok y) o x P is some h = let same : y ≡ x = cc in rw same at h
 given (Err e) o x P is some h = absurd (cc)
 
--- what follows from two facts of the value of an option
+-- a consequence of two facts of an option's value
 pub both_hold : {A : Type 0} (o : Option A) {P Q R : A → Type 0} → IfSome o P → IfSome o Q
     → ((x : A) → P x → Q x → R x) → IfSome o R
 both_hold None p q f = tt

@@ -1,4 +1,4 @@
--- Lists whose items belong together one by one, and lists written one item after another.
+-- Lists related item by item, and lists written one item after another.
 use Rattle.city_tokens.proofs.Prelude.{List, [], ◌∷◌, ◌++◌, ◌≡◌, ℕ, zero, suc, ◌<◌, drop, take, length, get_or, refl}
 use Rattle.city_tokens.proofs.Prelude.{◌∙◌, append_assoc}
 use Rattle.city_tokens.proofs.Prelude.{ap, arith, AllByRecursion, Pairs, slice_set, Option, Some, None, IfSome}
@@ -14,7 +14,7 @@ pairs_push R [] [] x y all one = (one, tt)
 pairs_push R (v ∷ xs) (w ∷ ys) x y all one = (all.0, pairs_push R xs ys x y all.1 one)
 pairs_push R _ _ x y all one = absurd all
 
--- where two lists belong to a third one, they belong together
+-- two lists related to a third one are related
 pub pairs_over : {A B C : Type 0} (P : A → B → Type 0) (Q : A → C → Type 0) (R : B → C → Type 0)
     → ((x : A) (y : B) (z : C) → P x y → Q x z → R y z) → (xs : List A) (ys : List B) (zs : List C)
     → Pairs P xs ys → Pairs Q xs zs → Pairs R ys zs
@@ -22,7 +22,7 @@ pairs_over P Q R one [] [] [] p q = tt
 pairs_over P Q R one (x ∷ xs) (y ∷ ys) (z ∷ zs) p q = (one x y z p.0 q.0, pairs_over P Q R one xs ys zs p.1 q.1)
 pairs_over P Q R one _ _ _ p q = search
 
--- what holds at each place holds of each item
+-- a property at each place holds of each item
 pub each_given : {A : Type 0} (P : A → Type 0) (xs : List A) → ((i : ℕ) (d : A) → i < length xs → P (get_or xs i d))
     → AllByRecursion P xs
 each_given P [] h = tt
@@ -40,7 +40,7 @@ item_written R (suc i) (s ∷ start) (d ∷ done) x y all below is one =
 item_written R _ [] [] x y all below is one = absurd (let no : ⊥ = omega (arith, below) in no)
 item_written R _ _ _ x y all below is one = absurd all
 
--- what holds at each place of two lists of one length holds of both
+-- two lists of one length, related at each place, are related
 pub pairs_given : {A B : Type 0} (R : A → B → Type 0) (xs : List A) (ys : List B) → length ys ≡ length xs
     → ((i : ℕ) (d : A) (e : B) → i < length xs → R (get_or xs i d) (get_or ys i e)) → Pairs R xs ys
 pairs_given R [] [] same h = tt
@@ -58,7 +58,7 @@ pairs_append R [] more [] rest h k = k
 pairs_append R (x ∷ xs) more (y ∷ ys) rest h k = (h.0, pairs_append R xs more ys rest h.1 k)
 pairs_append R _ more _ rest h k = absurd h
 
--- stretches that belong together are lists that do
+-- related stretches make related lists
 pub pairs_joined : {A B Z : Type 0} (R : A → B → Type 0) (xs : List (Vec A Z)) (ys : List (Option (Vec B Z)))
     (all : List B) → Pairs (λ s o. IfSome o (λ p. Pairs R s.items p.items)) xs ys → AreJoined ys all
     → Pairs R (flat_map vec_items xs) all

@@ -1,4 +1,4 @@
--- Parts that stand one after another: runs of them, and what is read so far with the next ones.
+-- Parts one after another: runs of them, and the parts so far with the next ones.
 use Rattle.city_tokens.proofs.Prelude.{ℕ, ◌<◌, ◌≤◌, List, [], ◌∷◌, ◌++◌, length, Option, Some, None, refl, ap}
 use Rattle.city_tokens.proofs.Prelude.{subst, append_assoc, append-nil, arith, Token, Data, Members, put, Object}
 use Rattle.city_tokens.proofs.Prelude.{Pairs}
@@ -35,12 +35,12 @@ module _ {A : Type 0} (R : A → List Token → List Token → Type 0) where
       let more = rw (← is.1) at k in
       rw (is.0, is.2, is.3) (next_append old.parts.items next.parts.items _ _ _ h more)
 
-  -- what is left of a run is a run
+  -- the rest of a run is a run
   pub run_left : (text : List ℕ) (old new : Run A) → IsLeft old new → IsRun R text old → IsRun R text new
   run_left text old new (inl same) h = rw same h
   run_left text old new (inr end) h = rw (end.0, end.1, end.2) refl
 
-  -- what was passed stands there
+  -- the passed parts stand there
   pub run_passed : (text : List ℕ) (run : Run A) (more : List A) (before after : List Token)
       → ArePassed text run more before after → IsRun R text run → AreNext R more before after
   run_passed text run more before after (inl none) h = rw (none.0, none.1) refl
@@ -53,7 +53,7 @@ pub item_shorter : {A : Type 0} (R : A → Data → Type 0) (depth : ℕ) (x : A
     → IsNextItem R depth x old new → length new < length old
 item_shorter R depth x old new h = value_shorter depth old new h.0 h.1
 
--- the members so far, and objects that stand next
+-- the members so far, and the next objects
 pub objects_over : (es more : List (List ℕ × Object)) (start now new : List Token) (found : Members)
     → AreFound 125 start now found → IsListing es found → AreNext IsNextObject more now new
     → (all : Members) × AreFound 125 start new all × IsListing (es ++ more) all
@@ -66,7 +66,7 @@ objects_over es (e ∷ more) start now new found h is next =
     next.2 in
     (rest.0, rest.1, subst (λ xs. IsListing xs rest.0) (append_assoc es (e ∷ []) more) rest.2)
 
--- the items so far, and those that stand next
+-- the items so far, and the next ones
 module _ {A : Type 0} (R : A → Data → Type 0) (depth : ℕ) where
   pub items_over : (xs more : List A) (start now new : List Token) (ds : List Data) → AreRead depth start now ds
       → Pairs R xs ds → AreNext (IsNextItem R depth) more now new

@@ -1,4 +1,4 @@
--- What is read of trees by what stood for their parts: objects, bodies that commands give, and commands.
+-- Trees read by their placed parts: objects, bodies of commands, and commands.
 use Rattle.city_tokens.proofs.Prelude.{◌≡◌, ℕ, List, [], ◌∷◌, Option, Some, None, refl, sym, Bool, true, false, codes, Data}
 use Rattle.city_tokens.proofs.Prelude.{array, no_items, Members, put, get, get_member, as_str, items_of, Geometry}
 use Rattle.city_tokens.proofs.Prelude.{Point, object_of, geometry_of, IsGeometry, IsObject, IsObjectSoFar, IsPlaced}
@@ -36,7 +36,7 @@ pub strings_read : (xs : List (List ℕ)) (member : Option Data) → IsListSlot 
 strings_read xs member h =
     slot_placed IsString as_str xs xs member (array_placed IsString as_str xs xs (strings_same xs)) h
 
--- an object whose geometries are placed
+-- an object with placed geometries
 pub object_placed : (points : List Point) (o : Object) (geometry : List Geometry)
     → IsPlaced (IsArrayOf IsGeometry) (list_of (geometry_of points)) o.body.geometry geometry → (d : Data)
     → IsObject o d → object_of points d ≡ Some (record o { body = record (o.body) { geometry = geometry } })
@@ -51,7 +51,7 @@ absent : (q name : List ℕ) (d : Data) (ms : Members) → (name ≡ q → ⊥) 
     → get_member q (put name d ms) ≡ None
 absent q name d ms other none = rw (get_member-put_apart q name d ms (apart_back name q other)) none
 
--- the member of a name that is no relation's was read as one of an object, or is to be kept
+-- the member of a name other than a relation's was read as an object's, or is to be kept
 pub body_taken : (taken : Bool) (old new : ObjectParts) (name : List ℕ) (depth : ℕ) (before after : List Token)
     → (name ≡ codes "parents" → ⊥) → (name ≡ codes "children" → ⊥)
     → MatchBool taken (IsTaken IsObjectSoFar old new name depth before after)
@@ -98,7 +98,7 @@ reshape_placed points c id old new is placed d h =
     let member = get (codes "geometry") reshape.0 in
     rw (reshape.1, slot_placed IsGeometry (geometry_of points) old new member placed reshape.2) refl
 
--- a command that has none
+-- a command without any
 pub unplaced : (points : List Point) (c : Command) → ((id : List ℕ) (b : Body) → c ≡ Put id b → ⊥)
     → ((id : List ℕ) (b : Body) → c ≡ Add id b → ⊥) → ((id : List ℕ) (gs : List Geometry) → c ≡ Reshape id gs → ⊥)
     → IsPlaced IsCommand (command_of points) c c

@@ -1,4 +1,4 @@
--- The words that proofs of this crate share, from std, from the libraries and from its own definitions.
+-- Shared names of this crate's proofs, from std, from the libraries and from its own definitions.
 pub use Rattle.std.proofs.Common.{Bool, Equal, Greater, IfSome, Less, List, None, Option, Some, [], ap, append-nil}
 pub use Rattle.std.proofs.Common.{append_assoc, ap₂, arith, codes, drop, false, get_or, length, map, nat_cmp}
 pub use Rattle.std.proofs.Common.{option_map, refl, rules, subst, suc, sym, take, true, true≢false, w64, zero, ℕ, ℤ}

@@ -1,4 +1,4 @@
--- Values that are read of tokens, an item or a member at a time, and brackets that open.
+-- Values read from tokens, an item or a member at a time, and opening brackets.
 use Rattle.city_tokens.proofs.Prelude.{◌≡◌, ℕ, ◌+◌, ◌-◌, ◌<◌, ◌≤◌, List, [], ◌∷◌, ◌++◌, length, ℤ, Bool, true, Option}
 use Rattle.city_tokens.proofs.Prelude.{Some, None, refl, ap, ◌∙◌, arith, zero, suc, Token, begin_array, parse_map}
 use Rattle.city_tokens.proofs.Prelude.{after_end_array, read_key, items, members, value, Data, number, string, array}
@@ -28,7 +28,7 @@ array_value depth ts new ds some h =
     let all = h.read (length ts) (omega arith) in
     record { read = rw (value-begin_array depth ts some, converted-array, all) refl; whole = h.whole }
 
--- the items that nest so deep
+-- the items nested so deep
 pub items_value : (depth : ℕ) (ts new : List Token) (ds : Items) → IsRestOfArray depth ts ds new
     → IsValue (depth + 1) (Token.begin_array ∷ ts) (array ds) new
 items_value depth ts new ds h =
@@ -98,7 +98,7 @@ pub record AreRead (depth : ℕ) (start now : List Token) (ds : List Data) : Typ
 pub items_begin : (depth : ℕ) (start : List Token) → AreRead depth start start []
 items_begin depth start = record { read = λ turns enough. (turns, enough, front-begins _); whole = refl }
 
--- a value begins with no bracket that closes
+-- a value begins with no closing bracket
 pub value_going : (depth : ℕ) (ts new : List Token) (d : Data) → IsValue depth ts d new → after_end_array ts ≡ None
 value_going depth ts new d h = grind (arith, value_is depth ts)
 
@@ -137,7 +137,7 @@ after_value {depth} {before} {now} {new} {d} ds v rest =
     } in
     items_value depth before new (items_of (d ∷ ds)) all
 
--- three items, and the bracket that closes them
+-- three items, and the closing bracket
 pub three_value : (depth : ℕ) {a b c e new : List Token} {x y z : Data} → 0 < depth → IsValue (depth - 1) a x b
     → IsValue (depth - 1) b y c → IsValue (depth - 1) c z e → after_end_array e ≡ Some new
     → IsValue depth (Token.begin_array ∷ a) (array (items_of (x ∷ y ∷ z ∷ []))) new
@@ -195,7 +195,7 @@ opened_more n ts =
     let next : suc n ≡ n + 1 = omega arith in
     opened_within n ts ∙ ap (λ k. opened k ts) next
 
--- one more list around what is within n brackets
+-- one more list around a value within n brackets
 pub within : (n : ℕ) (x : Nested n) (all : Nested (suc n)) (inner : ℕ) (before : List Token) {old new : List Token}
     → ((b : List Token) → IsReadAs (IsNested n) x (inner + n) b old
     → IsReadAs (IsNested (suc n)) all (inner + n + 1) (begin_array ∷ b) new)
@@ -203,7 +203,7 @@ pub within : (n : ℕ) (x : Nested n) (all : Nested (suc n)) (inner : ℕ) (befo
     → IsReadAs (IsNested (suc n)) all (inner + suc n) (opened (suc n) before) new
 within n x all inner before more h = let one : inner + n + 1 ≡ inner + suc n = omega arith in rw one at (more _ h)
 
--- what stands for a value behind so many brackets, by other names
+-- a value behind so many brackets, by other names
 pub read_within : (n : ℕ) (x : Nested n) {brackets depth : ℕ} (before : List Token) {old new : List Token}
     → old ≡ opened brackets before → brackets ≡ n → brackets ≤ depth
     → IsReadAs (IsNested n) x (depth - brackets + n) (opened n before) new

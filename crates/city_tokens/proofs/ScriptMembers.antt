@@ -1,4 +1,4 @@
--- What was read of a script's members, with one more; and the script of all of them.
+-- A script's members read so far, with one more; and the script of all of them.
 use Rattle.city_tokens.proofs.Prelude.{◌≡◌, ◌≤◌, ℕ, List, length, true, Option, Some, Less, codes, refl, ap, ap₂, ◌∙◌}
 use Rattle.city_tokens.proofs.Prelude.{arith, nat_list_cmp_total, Token, Data, array, object, Members, no_members}
 use Rattle.city_tokens.proofs.Prelude.{member, put, as_str, items_of, Command, Point, ends_once, Vertex, command_of}
@@ -57,7 +57,7 @@ script_read : (commands : List Data) (text : Data) (vertices : Option Data) (fou
 script_read commands text vertices found name cs points is named read ends short right placed =
     grind (arith, items_list-of, ends_once-read, all_read-length)
 
--- a member is there where anything was read of it
+-- a member is there if anything was read of it
 part_there : {A : Type 0} (R : A → Data → Type 0) (slot : Option A) (x : A) (m : Option Data) → slot ≡ Some x
     → IsPart R slot m → (d : Data) × (m ≡ Some d) × R x d
 part_there R slot x m is h = grind arith
@@ -70,7 +70,7 @@ right_there : (m : Option Data) (points : List Point) → vertex_points m ≡ So
     → are_vertices m ≡ true
 right_there m points h = grind (arith, are_triples-read)
 
--- its commands are those that were read, placed at its vertices
+-- its commands are the ones read, placed at its vertices
 pub script_made : (parts : ScriptParts) (name : List ℕ) (commands cs : List Command) (found kept : Members)
     → parts.name ≡ Some name → parts.commands ≡ Some commands
     → IsPlaced (IsArrayOf IsCommand) (list_of (command_of (points_of parts.vertices))) commands cs → ends_once cs ≡ true

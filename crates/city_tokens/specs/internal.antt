@@ -1,4 +1,4 @@
--- What only private clauses and proofs use: nothing here has to be believed.
+-- Definitions for private clauses and proofs: nothing here has to be believed.
 pub mod Commands
 pub mod DocumentRuns
 pub mod Faultless

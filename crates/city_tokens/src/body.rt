@@ -1,4 +1,4 @@
-//! Reads the bodies that commands give: objects that name no relations.
+//! Reads the bodies of commands: objects without relations.
 ghost use Rattle.std.specs.Prelude.{IfSome};
 ghost use Rattle.city_tokens.specs.internal.Commands.{IsBody, IsBodySoFar};
 ghost use Rattle.city_tokens.specs.internal.Standing.{IsReadAs};
@@ -11,7 +11,7 @@ use city_model::shared_ids::SharedIds;
 use city_reader::Reader;
 use std::alloc::Global;
 
-/// What was read of an object that may name neither parents nor children.
+/// The members read so far of an object without relations.
 #[derive(Drop)]
 pub struct BodyParts {
     pub object: ObjectParts,
@@ -34,7 +34,7 @@ impl MemberVisitor for BodyParts {
     }
 }
 
-/// The next value, which is an object without relations, as a put and an add have it.
+/// The next value, an object without relations, as put and add have it.
 pub fn read_body(alloc: Global, reader: &mut Reader<'_>, depth: usize) -> Option<Body>
     ensures { IfSome result (λ b. IsReadAs IsBody b depth reader.old reader.new) }
 {

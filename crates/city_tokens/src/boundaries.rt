@@ -1,4 +1,4 @@
-//! Reads boundaries, whose type may come after them.
+//! Reads boundaries. Their type may come after them.
 ghost use Rattle.std.specs.Prelude.{◌≡◌, ◌+◌, ◌∷◌, ℕ, List, IfSome};
 ghost use Rattle.json.specs.Token.{Token as SpecToken, begin_array};
 ghost use Rattle.city_tokens.specs.internal.Geometries.{AreBoundaries};
@@ -38,7 +38,7 @@ fn read_brackets(reader: &mut Reader<'_>) -> Option<(usize, Point)>
     None
 }
 
-/// Reads the items up to the bracket that closes them, after the first one.
+/// Reads the items up to the closing bracket, after the first one.
 fn read_after<T: FromTokens>(
     alloc: Global,
     reader: &mut Reader<'_>,
@@ -54,7 +54,7 @@ fn read_after<T: FromTokens>(
     read_rest(alloc, reader, depth, start)
 }
 
-/// The boundaries; none where a list is empty that should hold the first position.
+/// The next boundaries; `None` if a list is empty before the first position.
 pub fn read_boundaries(alloc: Global, reader: &mut Reader<'_>, depth: usize) -> Option<Boundaries>
     ensures { IfSome result (λ b. IsReadAs AreBoundaries b depth reader.old reader.new) }
 {

@@ -1,4 +1,4 @@
-//! Reads commands, whose positions aren't replaced by points yet.
+//! Reads commands before points replace their positions.
 ghost use Rattle.std.specs.Prelude.{◌≡◌, Some, None, IfSome};
 ghost use Rattle.serde_json.specs.Data.{Members, object, string};
 ghost use Rattle.city_tokens.specs.script.Commands.{command_of};
@@ -24,7 +24,7 @@ use json::Token;
 use std::alloc::Global;
 use std::mem::replace;
 
-/// What a command does with the id or the name that it has.
+/// The kind of a command with an id or a name.
 #[derive(Clone, Copy)]
 pub enum Verb {
     Read,
@@ -41,7 +41,7 @@ pub enum Verb {
     Back,
 }
 
-/// What was read of a command's members so far.
+/// The members of a command read so far.
 #[derive(Drop)]
 pub struct CommandParts {
     pub verb: Option<(Verb, Text)>,
@@ -128,7 +128,7 @@ fn pair_command(verb: Verb, id: Id, other: Other) -> Option<Command>
     }
 }
 
-/// The command of what was read of all its members.
+/// The command of all its members.
 fn command_of(parts: CommandParts) -> Option<Command>
     ensures { IfSome result (λ c. (found kept : Members)
         → IsCommandSoFar parts found kept → IsCommand c (object found)) }
@@ -140,7 +140,7 @@ fn command_of(parts: CommandParts) -> Option<Command>
     }
 }
 
-/// The command that a word is.
+/// The command of a single word.
 fn word_command(word: &str) -> Option<Command>
     ensures { IfSome result (λ c. IsCommand c (string word.now)) }
 {
@@ -172,7 +172,7 @@ impl FromTokens for Command {
     }
 }
 
-/// The body with points in the places of its positions. From here on all copies share it.
+/// The body with points in place of its positions. From here on all copies share it.
 fn placed_body(alloc: Global, vertices: &[Vertex], body: Shared<Body>) -> Option<Shared<Body>>
     ensures kind { IfSome result (λ placed. placed.kind ≡ body.kind) }
     ensures extra { IfSome result (λ placed. placed.extra ≡ body.extra) }
@@ -185,7 +185,7 @@ fn placed_body(alloc: Global, vertices: &[Vertex], body: Shared<Body>) -> Option
     Some(shared)
 }
 
-/// The command with points in the places of its positions.
+/// The command with points in place of its positions.
 fn placed(alloc: Global, vertices: &[Vertex], command: Command) -> Option<Command>
     ensures { IfSome result (λ placed. IsPlaced IsCommand (command_of (points_of vertices.now)) command placed) }
 {

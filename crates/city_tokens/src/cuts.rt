@@ -1,5 +1,5 @@
-//! Guesses where a text can be cut into pieces. A wrong guess costs time, and nothing else: what is read of the pieces
-//! is taken only where one ends just where the next one begins.
+//! Guesses where a text can be cut into pieces. A wrong guess costs only time: pieces are taken
+//! only if each ends just where the next one begins.
 
 use crate::pieces::Pieces;
 use city_reader::Position;
@@ -9,7 +9,7 @@ use std::alloc::Global;
 /// How many bytes are searched for a cut.
 const WINDOW: usize = 131_072;
 
-/// Where pieces of a text begin and end, each right behind a comma.
+/// The bounds of a text's pieces, each right behind a comma.
 #[derive(Drop)]
 pub struct Cuts {
     /// Between objects.
@@ -18,20 +18,20 @@ pub struct Cuts {
     pub vertices: Vec<Position>,
 }
 
-/// How what stands on both sides of a comma looks.
+/// The form of both sides of a comma.
 #[derive(Clone, Copy, Drop)]
 struct Sides {
-    /// The byte that ends what stands before it.
+    /// The last byte of the left side.
     end: u8,
-    /// The byte that begins what stands after it.
+    /// The first byte of the right side.
     start: u8,
-    /// What the first name of what stands after it may be; any, where there is none.
+    /// The possible first names of the right side; empty if any will do.
     names: &'static [&'static [u8]],
-    /// Whether there are texts in what stands there.
+    /// Whether the sides have texts in them.
     has_texts: bool,
 }
 
-/// Between members that are objects.
+/// Between members with objects as values.
 const MEMBERS: Sides = Sides {
     end: b'}',
     start: b'"',
@@ -39,7 +39,7 @@ const MEMBERS: Sides = Sides {
     has_texts: true,
 };
 
-/// Between items that are arrays of numbers.
+/// Between items, each an array of numbers.
 const ITEMS: Sides = Sides {
     end: b']',
     start: b'[',
@@ -47,7 +47,7 @@ const ITEMS: Sides = Sides {
     has_texts: false,
 };
 
-/// Between scripts, whose first name no command has.
+/// Between scripts: no command has one of these names first.
 const SCRIPTS: Sides = Sides {
     end: b'}',
     start: b'{',
@@ -55,22 +55,22 @@ const SCRIPTS: Sides = Sides {
     has_texts: true,
 };
 
-/// Part of a text that has what is cut.
+/// The part of a text to be cut.
 #[derive(Clone, Copy, Drop)]
 struct Stretch {
     start: usize,
     end: usize,
-    /// How many brackets fewer are open where it ends than between its parts.
+    /// How many fewer brackets are open at its end than between its parts.
     closed: i64,
 }
 
-/// What a walk over bytes knows.
+/// The state of a walk over bytes.
 #[derive(Drop)]
 struct Walk {
     in_string: bool,
-    /// How many brackets more are open than at its start.
+    /// How many more brackets are open than at its start.
     open: i64,
-    /// The last byte that is no blank.
+    /// The last byte other than a blank.
     last: u8,
 }
 
@@ -83,7 +83,7 @@ impl Walk {
         }
     }
 
-    /// Passes a byte; whether it is a comma behind such an end.
+    /// Passes a byte; returns whether it is a comma behind such an end.
     fn pass(&mut self, byte: u8, end: u8) -> bool {
         if byte == b'"' {
             self.in_string = !self.in_string;
@@ -102,7 +102,7 @@ impl Walk {
     }
 }
 
-/// The bytes behind the blanks that they begin with, and behind this byte; none where another byte stands there.
+/// The bytes behind any blanks and then `start`; `None` if another byte comes first.
 fn behind(bytes: &[u8], start: u8) -> Option<&[u8]> {
     let at = bytes.iter().position(|byte| *byte > b' ')?;
     if bytes.get(at).copied() != Some(start) {
@@ -122,7 +122,7 @@ fn begins_with_any(bytes: &[u8], names: &[&[u8]]) -> bool {
     names.iter().any(|known| name.starts_with(known))
 }
 
-/// Whether a comma, behind which these bytes stand, has such a right side.
+/// Whether the comma at this index has such a right side.
 fn is_followed(window: &[u8], comma: usize, sides: Sides) -> bool {
     let Some(after) = window.get(comma.saturating_add(1)..) else {
         return false;
@@ -133,7 +133,7 @@ fn is_followed(window: &[u8], comma: usize, sides: Sides) -> bool {
     }
 }
 
-/// How many brackets more are open at the end of the bytes than at their start.
+/// How many more brackets are open at the end of the bytes than at their start.
 fn opened(window: &[u8]) -> i64 {
     let mut walk = Walk::new();
     for byte in window {
@@ -142,7 +142,7 @@ fn opened(window: &[u8]) -> i64 {
     walk.open
 }
 
-/// The first comma of such sides where so many brackets are open.
+/// The first comma between such sides with so many brackets open.
 fn first_at(window: &[u8], sides: Sides, open: i64) -> Option<usize> {
     let mut walk = Walk::new();
     for (i, byte) in window.iter().enumerate() {
@@ -153,7 +153,7 @@ fn first_at(window: &[u8], sides: Sides, open: i64) -> Option<usize> {
     None
 }
 
-/// The last comma of such sides where so many brackets are open.
+/// The last comma between such sides with so many brackets open.
 fn last_at(window: &[u8], sides: Sides, open: i64) -> Option<usize> {
     let mut walk = Walk::new();
     let mut found = None;
@@ -165,7 +165,7 @@ fn last_at(window: &[u8], sides: Sides, open: i64) -> Option<usize> {
     found
 }
 
-/// The first comma of such sides of those where the fewest brackets are open.
+/// Of the commas between such sides, the first with the fewest brackets open.
 fn first_outermost(window: &[u8], sides: Sides) -> Option<usize> {
     let mut walk = Walk::new();
     let mut found = None;
@@ -185,7 +185,7 @@ fn after_name(window: &[u8]) -> Option<usize> {
     Some(at.saturating_add(1))
 }
 
-/// Where the bytes surely stand outside of a string.
+/// An index surely outside of a string.
 fn outside(window: &[u8], sides: Sides) -> Option<usize> {
     if sides.has_texts {
         after_name(window)
@@ -228,7 +228,7 @@ fn last_cut(bytes: &[u8], stretch: Stretch, sides: Sides) -> Option<usize> {
     Some(start.saturating_add(comma).saturating_add(1))
 }
 
-/// Keeps a cut that lies behind the others.
+/// Keeps a cut if it lies behind the others.
 fn keep(cuts: &mut Vec<Position>, cut: Option<usize>) -> Option<()> {
     let Some(at) = cut else {
         return Some(());
@@ -239,8 +239,8 @@ fn keep(cuts: &mut Vec<Position>, cut: Option<usize>) -> Option<()> {
     cuts.push(Position::after_comma(at)).ok()
 }
 
-/// Cuts of a stretch, before which the last part stands, into so many pieces; fewer where it is short or a cut isn't
-/// found.
+/// The cuts of a stretch into so many pieces, but for the last cut; fewer if it is short or a cut
+/// isn't found.
 fn cuts_before(
     alloc: Global,
     bytes: &[u8],
@@ -261,7 +261,8 @@ fn cuts_before(
     Some(cuts)
 }
 
-/// Cuts of a stretch of a document; none without a last one, for what stands behind the last part may look like parts.
+/// The cuts of a stretch of a document. Empty if no last cut is found: the text behind
+/// the last part may look like parts.
 fn cuts_of(
     alloc: Global,
     bytes: &[u8],
@@ -282,7 +283,7 @@ fn cuts_of(
     Some(cuts)
 }
 
-/// The stretch of the member whose name stands here; `other` is where the other member's name does.
+/// The stretch of the member named at `name`; `other` is the place of the other member's name.
 fn stretch_of(bytes: &[u8], name: usize, other: usize, bracket: u8) -> Option<Stretch> {
     let before = memchr(bracket, bytes.get(name..)?)?;
     let start = name.saturating_add(before).saturating_add(1);
@@ -301,7 +302,7 @@ fn stretch_of(bytes: &[u8], name: usize, other: usize, bracket: u8) -> Option<St
     }
 }
 
-/// Into how many pieces the bytes are cut; none where they are too short, or have an escape.
+/// Into how many pieces the bytes are cut; `None` if they are too short or have an escape.
 fn count_of(bytes: &[u8], pieces: Pieces) -> Option<usize> {
     let most = bytes.len().checked_div(pieces.least);
     let count = pieces.count.min(most.unwrap_or(pieces.count));
@@ -311,7 +312,8 @@ fn count_of(bytes: &[u8], pieces: Pieces) -> Option<usize> {
     Some(count)
 }
 
-/// Where a document can be cut; none where it is too short, has an escape or but one part, or doesn't look like one.
+/// The cuts of a document; `None` if it is too short, has an escape or but one part, or doesn't
+/// look like one.
 pub fn cuts_of_document(alloc: Global, text: &str, pieces: Pieces) -> Option<Cuts> {
     let bytes = text.as_bytes();
     let count = count_of(bytes, pieces)?;
@@ -329,8 +331,8 @@ pub fn cuts_of_document(alloc: Global, text: &str, pieces: Pieces) -> Option<Cut
     Some(cuts)
 }
 
-/// Where a text of scripts can be cut; none where it is too short, has an escape or less than three scripts, or doesn't
-/// look like one.
+/// The cuts of a text of scripts; `None` if it is too short, has an escape or less than three
+/// scripts, or doesn't look like one.
 pub fn cuts_of_scripts(alloc: Global, text: &str, pieces: Pieces) -> Option<Vec<Position>> {
     let bytes = text.as_bytes();
     let count = count_of(bytes, pieces)?;

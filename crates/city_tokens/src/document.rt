@@ -1,4 +1,4 @@
-//! Reads documents, whose cities have no fault in a body.
+//! Reads documents into cities without a fault in a body.
 ghost use Rattle.std.specs.Prelude.{◌≡◌, ◌&&◌, List, IfSome, Some, true, codes, option_map};
 ghost use Rattle.serde_json.specs.Data.{Data, Members, object};
 ghost use Rattle.serde_json.specs.Find.{get_member};
@@ -38,7 +38,7 @@ use std::alloc::Global;
 use std::collections::BTreeMap;
 use std::thread::Threads;
 
-/// What was read of the members of a document's top so far.
+/// The members of a document's top read so far.
 #[derive(Drop)]
 pub struct TopParts {
     pub objects: Option<Sequence<(Id, UnplacedObject)>>,
@@ -80,7 +80,7 @@ pub fn is_text(member: Option<&Value>, text: &str) -> bool
     }
 }
 
-/// Whether the type and the version are those of a document.
+/// Whether the type and the version are a document's.
 fn is_city_json(rest: &Map<String, Value>) -> bool
     ensures { result ≡ (is_text (codes "CityJSON")
         (get_member (codes "type") (members_view rest.now.entries))
@@ -89,7 +89,7 @@ fn is_city_json(rest: &Map<String, Value>) -> bool
     is_text(member(rest, "type"), "CityJSON") && is_text(member(rest, "version"), "2.0")
 }
 
-/// The objects that were read of all members of the top, with points in the places of their positions.
+/// The objects of a top, with points in place of their positions.
 fn placed_objects(alloc: Global, parts: TopParts) -> Option<Vec<(Id, Object)>>
     ensures { IfSome result (λ placed. ArePlaced parts placed.items) }
 {
@@ -114,8 +114,8 @@ fn placed_objects_by<R: Threads + Sync>(
 
 /// The objects by their ids.
 ///
-/// All are put into the map at once: where the text has them in the order of their ids, each id is compared with the
-/// one before it alone, and the nodes of the map are full.
+/// All are put into the map at once: if the text has them in the order of their ids, each id is
+/// compared only with the one before it, and the nodes of the map are full.
 fn by_ids(alloc: Global, placed: Vec<(Id, Object)>) -> Option<BTreeMap<Id, Object>>
     ensures entries { IfSome result (λ objects. (points : List SpecPoint) (all : Entries) (found : Members)
         → Pairs (IsPlacedObject points) all placed.items → IsListing all found
@@ -127,7 +127,7 @@ fn by_ids(alloc: Global, placed: Vec<(Id, Object)>) -> Option<BTreeMap<Id, Objec
     Some(objects)
 }
 
-/// The city of the objects of a top, and of the members that are kept.
+/// The city of the objects of a top and of its kept members.
 fn city_of(alloc: Global, placed: Vec<(Id, Object)>, rest: Map<String, Value>) -> Option<City>
     ensures { IfSome result (λ c. (parts : SpecTopParts) (found : Members) → ArePlaced parts placed.items
         → IsTopSoFar parts found (members_view rest.entries) → IsCity c (object found)) }
@@ -140,11 +140,11 @@ fn city_of(alloc: Global, placed: Vec<(Id, Object)>, rest: Map<String, Value>) -
     Some(City::from_parts(frame, objects))
 }
 
-/// What was read of a document.
+/// The top of a document, as read.
 #[derive(Drop)]
 pub struct Top {
     pub parts: TopParts,
-    /// The members that are kept.
+    /// The kept members.
     pub rest: Map<String, Value>,
 }
 
@@ -163,7 +163,7 @@ impl FromTokens for Top {
     }
 }
 
-/// The city that a text stands for; none where anything about the text is odd, or memory runs out.
+/// The city of a text; `None` if anything about the text is odd, or memory runs out.
 ///
 /// No body of it has a fault. Whether parents and children agree isn't judged.
 pub fn streamed_city(alloc: Global, bytes: &[u8]) -> Option<City>
@@ -176,8 +176,8 @@ pub fn streamed_city(alloc: Global, bytes: &[u8]) -> Option<City>
     city_of(alloc, placed, top.rest)
 }
 
-/// The city that a text stands for, of which so many threads read and place pieces; none also where it can't be cut, or
-/// was cut at wrong places.
+/// The city of a text, with pieces read and placed by so many threads; `None` also if the text
+/// can't be cut, or was cut at wrong places.
 pub fn city_in_pieces<R: Threads + Sync>(
     rt: &R,
     alloc: Global,
@@ -192,7 +192,7 @@ pub fn city_in_pieces<R: Threads + Sync>(
     city_of(alloc, placed, top.rest)
 }
 
-/// The city that a text stands for, as `streamed_city` gives it; a large text is read by so many threads, in pieces.
+/// The city of a text, as `streamed_city` gives it; so many threads read a large text, in pieces.
 pub fn streamed_city_by<R: Threads + Sync>(
     rt: &R,
     alloc: Global,

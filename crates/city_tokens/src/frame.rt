@@ -21,7 +21,7 @@ pub fn triple_at(object: &Value, name: &str) -> Option<[i64; 3]>
     triple_of(object.get(name)?)
 }
 
-/// The members that are kept at a transform.
+/// The kept members of a transform.
 fn kept_at_transform(mut transform: Map<String, Value>) -> Option<Extra<AtTransform>>
     ensures { result ≡ kept_if kept_at_transform
         (without_transform_members (members_view transform.entries)) }
@@ -37,7 +37,7 @@ fn more_of(transform: Value) -> Option<Extra<AtTransform>>
     kept_at_transform(into_object(transform)?)
 }
 
-/// The members that are kept at the top, of those but `CityObjects` and `transform`.
+/// The kept members of the top, given without `CityObjects` and `transform`.
 fn extra_of(mut top: Map<String, Value>) -> Option<Extra<AtTop>>
     ensures { result ≡ kept_if kept_at_top (without (codes "vertices") (without (codes "version")
         (without (codes "type") (members_view top.entries)))) }
@@ -48,7 +48,7 @@ fn extra_of(mut top: Map<String, Value>) -> Option<Extra<AtTop>>
     Extra::new(top).ok()
 }
 
-/// The frame of a transform and of the kept members of the top, which are consumed.
+/// The frame of a transform and of the kept members of the top. Consumes both.
 fn frame_with(extra: Extra<AtTop>, transform: Value) -> Option<Frame>
     ensures { result ≡ frame_with extra (view transform) }
 {
@@ -63,7 +63,7 @@ fn frame_with(extra: Extra<AtTop>, transform: Value) -> Option<Frame>
     })
 }
 
-/// The frame of the members of the top but `CityObjects`, which are consumed.
+/// The frame of the members of the top without `CityObjects`. Consumes them.
 pub fn frame_of_rest(mut rest: Map<String, Value>) -> Option<Frame>
     ensures { result ≡ frame_of_rest (members_view rest.entries) }
 {

@@ -1,4 +1,4 @@
-//! Reads geometries, whose positions aren't replaced by points yet.
+//! Reads geometries before points replace their positions.
 ghost use Rattle.std.specs.Prelude.{◌≡◌, ℕ, Some, IfSome};
 ghost use Rattle.serde_json.specs.Data.{Data, Members, object};
 ghost use Rattle.serde_json.specs.View.{members_view};
@@ -61,7 +61,7 @@ fn shape_of(kind: Kind, boundaries: Boundaries) -> Option<Shape>
     }
 }
 
-/// What was read of a geometry so far.
+/// The members of a geometry read so far.
 #[derive(Drop)]
 pub struct GeometryParts {
     pub kind: Option<Kind>,
@@ -98,7 +98,7 @@ impl MemberVisitor for GeometryParts {
     }
 }
 
-/// The geometry of what was read of all its members, and of the kept ones.
+/// The geometry of all its members, read and kept.
 fn geometry_of(parts: GeometryParts, kept: Map<String, Value>) -> Option<Geometry>
     ensures { IfSome result (λ g. (found : Members)
         → IsGeometrySoFar parts found (members_view kept.entries) → IsGeometry g (object found)) }

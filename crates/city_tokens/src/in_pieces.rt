@@ -1,4 +1,4 @@
-//! Reads documents of which several workers read pieces beforehand.
+//! Reads documents with pieces read beforehand by several workers.
 ghost use Rattle.std.specs.Prelude.{◌≡◌, [], true, IfSome};
 ghost use Rattle.serde_json.specs.Data.{Data, Members};
 ghost use Rattle.city_model.specs.Integral.{is_integral};
@@ -25,7 +25,7 @@ use json::{Scratch, Token};
 use std::alloc::Global;
 use std::thread::Threads;
 
-/// Reads the objects up to the brace that closes them, but for those that were read beforehand.
+/// Reads the objects up to the closing brace, but for the ones read beforehand.
 fn rest_of_objects(
     alloc: Global,
     reader: &mut Reader<'_>,
@@ -44,7 +44,7 @@ fn rest_of_objects(
     Some(Sequence::from_vec(objects))
 }
 
-/// The next value, an object whose members are city objects.
+/// The next value, an object of city objects.
 fn read_objects(
     alloc: Global,
     reader: &mut Reader<'_>,
@@ -58,7 +58,7 @@ fn read_objects(
     rest_of_objects(alloc, reader, runs)
 }
 
-/// What was read of the members of a document's top so far, and of its objects and vertices beforehand.
+/// The members of a document's top read so far, and the objects and vertices read beforehand.
 #[derive(Drop)]
 pub struct TopInPieces<'t> {
     pub parts: TopParts,
@@ -75,7 +75,7 @@ impl<'t> MemberVisitor for TopInPieces<'t> {
         reader: &mut Reader<'_>,
         depth: usize,
     ) -> Option<bool> {
-        // The pieces were read as what stands so deep.
+        // The pieces were read at this depth.
         if depth != PART_DEPTH + 1 {
             return None;
         }
@@ -94,7 +94,7 @@ impl<'t> MemberVisitor for TopInPieces<'t> {
     }
 }
 
-/// The top of a document that all the tokens are.
+/// The top of a document, of all the tokens.
 fn read_top(alloc: Global, reader: &mut Reader<'_>, runs: Runs<'_>) -> Option<Top>
     ensures { IfSome result (λ top. IsReadAs IsTop top 127 reader.old []) }
 {
@@ -115,8 +115,8 @@ fn read_top(alloc: Global, reader: &mut Reader<'_>, runs: Runs<'_>) -> Option<To
     })
 }
 
-/// The top of a document, of which so many threads read pieces; none where anything about the text is odd, where it
-/// can't be cut or is cut at wrong places, or memory runs out.
+/// The top of a document, with pieces read by so many threads. `None` if anything about the text is
+/// odd, it can't be cut or is cut at wrong places, or memory runs out.
 pub fn top_in_pieces<R: Threads + Sync>(
     rt: &R,
     alloc: Global,

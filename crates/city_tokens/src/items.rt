@@ -1,4 +1,4 @@
-//! Reads arrays of which several workers read items beforehand.
+//! Reads arrays with items read beforehand by several workers.
 ghost use Rattle.std.specs.Prelude.{◌+◌, List, IfSome};
 ghost use Rattle.serde_json.specs.Data.{Data};
 ghost use Rattle.serde_json.specs.View.{items_of};
@@ -14,7 +14,7 @@ use city_reader::Reader;
 use json::Token;
 use std::alloc::Global;
 
-/// Reads the items up to the bracket that closes them, but for those of a text that were read beforehand.
+/// Reads the items up to the closing bracket, but for the items of `text` read beforehand.
 fn rest_of_items<T: FromTokens>(
     alloc: Global,
     reader: &mut Reader<'_>,
@@ -37,7 +37,8 @@ fn rest_of_items<T: FromTokens>(
     Some(Sequence::from_vec(items))
 }
 
-/// The next value, an array whose items nest so deep, of which those of a text were read beforehand.
+/// The next value, an array of items nested so deep; the items of `text` in `run` were read
+/// beforehand.
 pub fn read_items<T: FromTokens>(
     alloc: Global,
     reader: &mut Reader<'_>,

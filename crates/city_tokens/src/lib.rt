@@ -1,14 +1,14 @@
 //! Reads lawful texts of city models from their tokens, straight into cities and scripts.
 //!
-//! `specs/` has what a document and a text of scripts stand for; no word is said here of faults. Where anything about
-//! a text is odd there is no answer, and the text has to be read from its tree.
+//! `specs/` says what a document and a text of scripts stand for; no word is said here of faults. If
+//! anything about a text is odd there is no answer, and the text has to be read from its tree.
 //!
 //! - `value`, `text`, `list`: values, texts and arrays
-//! - `member_visitor`: objects some of whose members have places of their own, while the others are kept
-//! - `position`, `vertices`, `boundaries`, `placing`, `stretches`: positions, and the points that take their places
-//! - `geometry`, `object`, `objects`, `document`: what a city is made of, and the city
-//! - `cuts`, `part`, `run`, `items`, `runs`, `in_pieces`: texts of which several workers read pieces
-//! - `body`, `other`, `command`, `script`, `scripts`: bodies, what else commands have, commands and scripts
+//! - `member_visitor`: objects with members of their own beside the kept ones
+//! - `position`, `vertices`, `boundaries`, `placing`, `stretches`: positions, and the points in their place
+//! - `geometry`, `object`, `objects`, `document`: the parts of a city, and the city
+//! - `cuts`, `part`, `run`, `items`, `runs`, `in_pieces`: texts with pieces read by several workers
+//! - `body`, `other`, `command`, `script`, `scripts`: bodies, other parts of commands, commands and scripts
 //! - `frame`, `triples`: the frame of a document, three whole numbers, both of trees
 //! - `whole_text`, `limits`: whole texts, and how large they may be
 #![tactic(auto)]

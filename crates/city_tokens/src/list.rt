@@ -10,19 +10,19 @@ use city_reader::Reader;
 use json::Token;
 use std::alloc::Global;
 
-/// What is made of the tokens of a value, without a tree.
+/// A value built from its tokens, without a tree.
 pub trait FromTokens: Sized + Drop {
     ghost stands: { Self → Data → Type 0 };
 
     /// For how many items a list has room at first.
     const ROOM: usize;
 
-    /// What stands for the next value; none where it is of another form.
+    /// The next value; `None` if it is of another form.
     fn from_tokens(alloc: Global, reader: &mut Reader<'_>, depth: usize) -> Option<Self>
         ensures { IfSome result (λ x. IsReadAs stands x depth reader.old reader.new) };
 }
 
-/// Reads the items up to the bracket that closes them, after those that are read already.
+/// Reads the items up to the closing bracket, after the ones already read.
 pub fn read_rest<T: FromTokens>(
     alloc: Global,
     reader: &mut Reader<'_>,

@@ -1,4 +1,4 @@
-//! Reads objects some of whose members have places of their own, while the others are kept.
+//! Reads objects: some members have places of their own, the others are kept.
 ghost use Rattle.std.specs.Prelude.{◌∷◌, IfSome};
 ghost use Rattle.std.specs.Bool.{MatchBool};
 ghost use Rattle.json.specs.Token.{begin_object};
@@ -13,9 +13,9 @@ use json::Token;
 use serde_json::{Map, Value};
 use std::alloc::Global;
 
-/// What is read of the members of an object so far.
+/// The members of an object read so far.
 pub trait MemberVisitor: Sized + Drop {
-    /// It stands for the members that were found, of which those are kept.
+    /// It stands for the members found; the second list has the kept ones among them.
     ghost stands: { Self → Members → Members → Type 0 };
 
     /// Reads the member of this name, if it has a place of its own; false if it has to be kept.
@@ -31,7 +31,7 @@ pub trait MemberVisitor: Sized + Drop {
             (IsPassed stands self.old self.new name.now reader.old reader.new)) };
 }
 
-/// Reads the members up to the brace that closes them.
+/// Reads the members up to the closing brace.
 fn read_rest<O: MemberVisitor>(
     alloc: Global,
     reader: &mut Reader<'_>,
@@ -55,7 +55,7 @@ fn read_rest<O: MemberVisitor>(
     Some((own, kept))
 }
 
-/// Reads an object, whose brace is read: what is made of its own members, and the kept ones.
+/// Reads an object after its opening brace: the visitor with its own members, and the kept ones.
 pub fn read_opened<O: MemberVisitor>(
     alloc: Global,
     reader: &mut Reader<'_>,
@@ -73,7 +73,7 @@ pub fn read_opened<O: MemberVisitor>(
     read_rest(alloc, reader, depth - 1, start)
 }
 
-/// Reads an object: what is made of its own members, and the kept ones.
+/// Reads an object: the visitor with its own members, and the kept ones.
 pub fn read_object<O: MemberVisitor>(
     alloc: Global,
     reader: &mut Reader<'_>,

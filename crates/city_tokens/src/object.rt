@@ -1,4 +1,4 @@
-//! Reads city objects, whose positions aren't replaced by points yet.
+//! Reads city objects before points replace their positions.
 ghost use Rattle.std.specs.Prelude.{◌≡◌, ℕ, Some, IfSome};
 ghost use Rattle.serde_json.specs.Data.{Members, object};
 ghost use Rattle.serde_json.specs.View.{members_view};
@@ -21,7 +21,7 @@ use serde_json::{Map, Value};
 use std::alloc::Global;
 use std::marker::Model;
 
-/// What was read of an object so far.
+/// The members of an object read so far.
 #[derive(Drop)]
 pub struct ObjectParts {
     pub kind: Option<ObjectType>,
@@ -63,7 +63,7 @@ impl MemberVisitor for ObjectParts {
     }
 }
 
-/// The next value, which is an array of ids.
+/// The next value, an array of ids.
 fn read_ids(alloc: Global, reader: &mut Reader<'_>, depth: usize) -> Option<SharedIds>
     ensures { IfSome result (λ ids. IsReadAs (IsArrayOf IsString) ids depth reader.old reader.new) }
 {
@@ -71,7 +71,7 @@ fn read_ids(alloc: Global, reader: &mut Reader<'_>, depth: usize) -> Option<Shar
     SharedIds::from_sequence(alloc, ids).ok()
 }
 
-/// An object whose positions aren't replaced by points yet, with a body of its own. Contracts see the object.
+/// An object before points replace its positions, with a body of its own. Contracts see the object.
 #[derive(Drop)]
 pub struct UnplacedObject {
     body: Body,
@@ -100,7 +100,7 @@ impl UnplacedObject {
     }
 }
 
-/// The object of what was read of all its members, and of the kept ones.
+/// The object of all its members, read and kept.
 pub fn object_of(
     alloc: Global,
     parts: ObjectParts,
@@ -124,7 +124,7 @@ pub fn object_of(
     })
 }
 
-/// The next value, which is an object of a city.
+/// The next value, a city object.
 pub fn read_object(alloc: Global, reader: &mut Reader<'_>, depth: usize) -> Option<UnplacedObject>
     ensures { IfSome result (λ o. IsReadAs IsObject o depth reader.old reader.new) }
 {

@@ -34,7 +34,7 @@ impl MemberVisitor for Listing {
     }
 }
 
-/// The next value, an object whose members are city objects.
+/// The next value, an object of city objects.
 pub fn read_objects(
     alloc: Global,
     reader: &mut Reader<'_>,

@@ -1,4 +1,4 @@
-//! Reads what a command has beside its id: an object, a parent, attributes or geometries.
+//! Reads a command's member beside its id: an object, a parent, attributes or geometries.
 ghost use Rattle.std.specs.Prelude.{◌≡◌, IfSome, codes};
 ghost use Rattle.city_tokens.specs.internal.Commands.{other_name, IsOther};
 ghost use Rattle.city_tokens.specs.internal.Standing.{IsReadAs};
@@ -16,7 +16,7 @@ use city_reader::Reader;
 use json::Token;
 use std::alloc::Global;
 
-/// What a command has beside its id.
+/// The value of a command's member beside its id.
 #[derive(Drop)]
 pub enum Other {
     Object(Body),
@@ -28,7 +28,7 @@ pub enum Other {
     Geometry(Geometries),
 }
 
-/// The next value, which has attributes with their values, or their names alone.
+/// The next value: attributes with their values, or their names alone.
 fn read_attributes(alloc: Global, reader: &mut Reader<'_>, depth: usize) -> Option<Other>
     ensures named { IfSome result (λ o. codes "attributes" ≡ other_name o) }
     ensures read { IfSome result (λ o. IsReadAs IsOther o depth reader.old reader.new) }
@@ -51,7 +51,7 @@ fn read_attributes(alloc: Global, reader: &mut Reader<'_>, depth: usize) -> Opti
     }
 }
 
-/// The value of the member of this name; none where no command has the member beside its id.
+/// The value of the member of this name; `None` if no command has the member beside its id.
 pub fn read_other(alloc: Global, name: &str, reader: &mut Reader<'_>, depth: usize) -> Option<Other>
     ensures named { IfSome result (λ o. name.now ≡ other_name o) }
     ensures read { IfSome result (λ o. IsReadAs IsOther o depth reader.old reader.new) }

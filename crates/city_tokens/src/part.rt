@@ -1,4 +1,5 @@
-//! Reads parts that stand one after another between two positions of a text: objects by their ids, vertices, scripts.
+//! Reads the parts between two positions of a text, one after another: objects by their ids,
+//! vertices, scripts.
 ghost use Rattle.std.specs.Prelude.{◌≡◌, ◌<◌, List, length, IfSome};
 ghost use Rattle.json.specs.Token.{Token as SpecToken};
 ghost use Rattle.city_reader.specs.Positions.{tokens_from};
@@ -19,9 +20,9 @@ pub const PART_DEPTH: usize = 125;
 /// How deep a script may nest.
 pub const SCRIPT_DEPTH: usize = 126;
 
-/// What stands many times, one after another, in a text.
+/// A repeated part of a text.
 pub trait Part: Sized + Drop {
-    /// The tokens begin with it, and those are left.
+    /// The first tokens begin with it, and the second are left.
     ghost stands: { Self → List SpecToken → List SpecToken → Type 0 };
 
     /// The next one.
@@ -57,7 +58,7 @@ impl Part for Script {
     }
 }
 
-/// The parts between two positions of a text; none where no part ends at the second.
+/// The parts between two positions of a text; `None` if no part ends at the second.
 pub fn read_between<T: Part>(
     alloc: Global,
     text: &str,

@@ -21,13 +21,13 @@ use city_model::text::Id;
 use std::alloc::Global;
 use std::mem::replace;
 
-/// What has positions, each to be replaced by its point.
+/// A value with positions, each to be replaced by its point.
 pub trait Places: Sized + Drop {
     ghost stands: { Self → Data → Type 0 };
 
     ghost reads: { List p.Point → Data → Option Self };
 
-    /// Replaces each position by the point of its vertex; none where a position names no vertex.
+    /// Replaces each position by the point of its vertex; `None` if a position names no vertex.
     fn place(&mut self, alloc: Global, vertices: &[Vertex]) -> Option<()>
         ensures { IfSome result
             (λ _. IsPlaced stands (reads (points_of vertices.now)) self.old self.new) };
@@ -114,8 +114,8 @@ impl Places for Geometries {
     }
 }
 
-/// Puts points in the places of an object's positions; none where a position names no vertex, or
-/// where the object's body has a fault, which is judged at once.
+/// Puts points in place of an object's positions, and judges its body at once; `None` if a position
+/// names no vertex, or the body has a fault.
 fn place_object(alloc: Global, vertices: &[Vertex], object: UnplacedObject) -> Option<Object>
     ensures placed { IfSome result (λ placed. IsPlaced IsObject (object_of (points_of vertices.now)) object placed) }
     ensures faultless { IfSome result (λ placed. body_fault placed.body ≡ None) }
@@ -133,8 +133,8 @@ fn place_object(alloc: Global, vertices: &[Vertex], object: UnplacedObject) -> O
     })
 }
 
-/// Puts points in the places of the positions of all objects; none where a position names no vertex,
-/// or where a body has a fault.
+/// Puts points in place of the positions of all objects; `None` if a position names no vertex, or a
+/// body has a fault.
 pub fn place_objects(
     alloc: Global,
     vertices: &[Vertex],

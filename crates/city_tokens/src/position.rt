@@ -1,4 +1,4 @@
-//! Reads positions, whose points may not be known yet.
+//! Reads positions. Their points may not be known yet.
 ghost use Rattle.city_tokens.specs.internal.Positions.{IsPosition};
 
 use crate::list::FromTokens;

@@ -1,4 +1,4 @@
-//! Parts of a text that several workers read beforehand.
+//! Parts of a text, read beforehand by several workers.
 ghost use Rattle.std.specs.Prelude.{◌≡◌, ◌++◌, ℕ, List, [], IfSome};
 ghost use Rattle.std.specs.List.{AllByRecursion};
 ghost use Rattle.city_tokens.specs.internal.Runs.{IsRun, IsAppended, IsLeft, ArePassed};
@@ -9,7 +9,7 @@ use std::alloc::Global;
 use std::mem::replace;
 use std::thread::{Threads, map_indices};
 
-/// Parts that stand one after another between two positions of a text.
+/// The parts between two positions of a text, one after another.
 #[derive(Drop)]
 pub struct Run<T> {
     pub from: Position,
@@ -29,7 +29,7 @@ impl<T: Drop> Run<T> {
         }
     }
 
-    /// Puts the parts of the next run after these, if it begins where this one ends; none otherwise.
+    /// Appends the parts of the next run, if it begins at the end of this one; `None` otherwise.
     fn append(&mut self, next: Run<T>) -> Option<()>
         ensures { IsAppended result self.old next self.new }
     {
@@ -42,7 +42,8 @@ impl<T: Drop> Run<T> {
         Some(())
     }
 
-    /// Passes these parts of a text, if the reader stands where they begin: they go to the others.
+    /// Passes these parts of a text, and appends them to the others, if the reader stands at their
+    /// start.
     pub fn pass(
         &mut self,
         alloc: Global,
@@ -70,7 +71,7 @@ impl<T: Drop> Run<T> {
     }
 }
 
-/// The last cut; the beginning of the text where there is none.
+/// The last cut; without cuts, the beginning of the text.
 fn last_cut(cuts: &[Position]) -> Position {
     match cuts.last() {
         Some(cut) => *cut,
@@ -78,7 +79,7 @@ fn last_cut(cuts: &[Position]) -> Position {
     }
 }
 
-/// The cut of this number; the last one where there are fewer.
+/// The cut of this number; the last one if there are fewer.
 fn cut_at(cuts: &[Position], i: usize) -> Position {
     match cuts.get(i) {
         Some(cut) => *cut,
@@ -113,7 +114,7 @@ fn read_runs<R: Threads + Sync, T: Part + Send>(
     Some(runs)
 }
 
-/// The runs as one; none where they don't go from the first cut to the last.
+/// The runs as one; `None` if they don't go from the first cut to the last.
 fn joined<T: Part>(
     alloc: Global,
     text: &str,
@@ -133,7 +134,8 @@ fn joined<T: Part>(
     Some(all)
 }
 
-/// The run from the first cut of a text to the last; what stands between two cuts is read by a thread.
+/// The run from the first cut of a text to the last; each piece between two cuts is read by a
+/// thread.
 pub fn read_pieces<R: Threads + Sync, T: Part + Send>(
     rt: &R,
     alloc: Global,

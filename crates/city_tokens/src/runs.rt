@@ -1,4 +1,4 @@
-//! The objects and the vertices of a document that several workers read beforehand.
+//! The objects and the vertices of a document, read beforehand by several workers.
 ghost use Rattle.std.specs.Prelude.{◌≡◌, ◌++◌, ℕ, List, IfSome};
 ghost use Rattle.city_model.specs.declared.object.Object.{Object};
 ghost use Rattle.city_tokens.specs.internal.Parts.{AreNext, IsNextObject, IsNextVertex};
@@ -19,7 +19,7 @@ use std::alloc::Global;
 use std::marker::Model;
 use std::thread::Threads;
 
-/// The objects and the vertices of a text that were read beforehand. Contracts see the text.
+/// The objects and the vertices of a text, read beforehand. Contracts see the text.
 #[derive(Drop)]
 pub struct Runs<'t> {
     text: &'t str,
@@ -40,7 +40,7 @@ impl<'t> Model for Runs<'t> {
 }
 
 impl<'t> Runs<'t> {
-    /// Reads all pieces of a text that is cut so, each by a thread.
+    /// Reads all pieces of a text with these cuts, each by a thread.
     pub fn read<R: Threads + Sync>(
         rt: &R,
         alloc: Global,
@@ -56,7 +56,8 @@ impl<'t> Runs<'t> {
         })
     }
 
-    /// Passes the objects that were read beforehand, if the reader stands where they begin: they go to the others.
+    /// Passes the objects read beforehand, and appends them to the others, if the reader stands at
+    /// their start.
     pub fn pass_objects(
         &mut self,
         alloc: Global,
@@ -70,7 +71,7 @@ impl<'t> Runs<'t> {
         self.objects.pass(alloc, self.text, reader, objects)
     }
 
-    /// The next value, an array of vertices, of which some were read beforehand.
+    /// The next value, an array of vertices, some read beforehand.
     pub fn read_vertices(
         &mut self,
         alloc: Global,
@@ -82,7 +83,7 @@ impl<'t> Runs<'t> {
         read_items(alloc, reader, PART_DEPTH, self.text, &mut self.vertices)
     }
 
-    /// Whether all that was read beforehand was passed.
+    /// Whether everything read beforehand was passed.
     pub fn are_passed(&self) -> bool {
         self.objects.is_passed() && self.vertices.is_passed()
     }

@@ -15,7 +15,7 @@ use city_model::text::Text;
 use city_reader::Reader;
 use std::alloc::Global;
 
-/// What was read of a script's members so far.
+/// The members of a script read so far.
 #[derive(Drop)]
 pub struct ScriptParts {
     pub name: Option<Text>,
@@ -52,7 +52,7 @@ impl MemberVisitor for ScriptParts {
     }
 }
 
-/// The script of what was read of all its members.
+/// The script of all its members.
 fn script_of(alloc: Global, parts: ScriptParts) -> Option<Script>
     ensures { IfSome result (λ s. (found kept : Members)
         → IsScriptSoFar parts found kept → IsScript s (object found)) }

@@ -33,7 +33,7 @@ fn if_few(scripts: Sequence<Script>) -> Option<Sequence<Script>>
     Some(scripts)
 }
 
-/// The scripts that a text stands for; none where anything about the text is odd, or memory runs out.
+/// The scripts of a text; `None` if anything about the text is odd, or memory runs out.
 pub fn streamed_scripts(alloc: Global, bytes: &[u8]) -> Option<Sequence<Script>>
     ensures { IfSome result (λ ss. IsReadAs bytes.now ss) }
 {
@@ -41,7 +41,7 @@ pub fn streamed_scripts(alloc: Global, bytes: &[u8]) -> Option<Sequence<Script>>
     if_few(scripts)
 }
 
-/// The scripts that all the tokens of a text are, of which those of the run were read beforehand.
+/// The scripts of all the tokens of a text; the run's were read beforehand.
 fn read_array(
     alloc: Global,
     reader: &mut Reader<'_>,
@@ -59,7 +59,7 @@ fn read_array(
     Some(scripts)
 }
 
-/// The scripts of an array that a text is, of which so many threads read pieces.
+/// The scripts of a text, an array with pieces read by so many threads.
 fn array_in_pieces<R: Threads + Sync>(
     rt: &R,
     alloc: Global,
@@ -83,8 +83,8 @@ fn array_in_pieces<R: Threads + Sync>(
     Some(scripts)
 }
 
-/// The scripts that a text stands for, of which so many threads read pieces; none also where it can't be cut, or was
-/// cut at wrong places.
+/// The scripts of a text, with pieces read by so many threads; `None` also if it can't be cut, or
+/// was cut at wrong places.
 pub fn scripts_in_pieces<R: Threads + Sync>(
     rt: &R,
     alloc: Global,
@@ -97,7 +97,7 @@ pub fn scripts_in_pieces<R: Threads + Sync>(
     if_few(scripts)
 }
 
-/// The scripts that a text stands for, as `streamed_scripts` gives them; a large text is read by so many threads, in
+/// The scripts of a text, as `streamed_scripts` gives them; so many threads read a large text, in
 /// pieces.
 pub fn streamed_scripts_by<R: Threads + Sync>(
     rt: &R,

@@ -35,7 +35,7 @@ fn stretches_of(
     Some(stretches)
 }
 
-/// Puts points in the places of the positions of each stretch, by a thread.
+/// Puts points in place of the positions of each stretch, by a thread.
 fn place_each<R: Threads + Sync>(
     rt: &R,
     alloc: Global,
@@ -52,7 +52,7 @@ fn place_each<R: Threads + Sync>(
     Some(placed)
 }
 
-/// The objects of all stretches; none where those of some stretch are missing.
+/// The objects of all stretches; `None` if a stretch is missing.
 fn joined(alloc: Global, stretches: Vec<Option<Vec<(Id, Object)>>>) -> Option<Vec<(Id, Object)>>
     ensures { IfSome result (λ all. AreJoined stretches.items all.items) }
 {
@@ -64,7 +64,8 @@ fn joined(alloc: Global, stretches: Vec<Option<Vec<(Id, Object)>>>) -> Option<Ve
     Some(all)
 }
 
-/// Puts points in the places of the positions of all objects as `place_objects` does, by so many threads.
+/// Puts points in place of the positions of all objects as `place_objects` does, by so many
+/// threads.
 pub fn place_objects_by<R: Threads + Sync>(
     rt: &R,
     alloc: Global,

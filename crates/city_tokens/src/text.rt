@@ -10,7 +10,7 @@ use city_reader::Reader;
 use json::Token;
 use std::alloc::Global;
 
-/// The next value, which is a text.
+/// The next value, a text.
 pub fn read_str<'t>(reader: &mut Reader<'t>) -> Option<&'t str>
     ensures { IfSome result (λ s. (depth : ℕ) → IsValue depth reader.old (string s.now) reader.new) }
 {

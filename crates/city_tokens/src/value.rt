@@ -1,4 +1,4 @@
-//! Reads the JSON values that are kept.
+//! Reads kept JSON values.
 ghost use Rattle.std.specs.Prelude.{◌≡◌, IfSome};
 ghost use Rattle.serde_json.specs.Data.{Data, put};
 ghost use Rattle.serde_json.specs.View.{view, items_view, members_view};
@@ -43,7 +43,7 @@ pub fn read_value(alloc: Global, reader: &mut Reader<'_>, depth: usize) -> Optio
     }
 }
 
-/// The items up to the bracket that closes them.
+/// The items up to the closing bracket.
 #[cycle(value)]
 fn read_items(alloc: Global, reader: &mut Reader<'_>, depth: usize) -> Option<Vec<Value>>
     ensures { IfSome result (λ v. IsRestOfArray depth reader.old (items_view v.items) reader.new) }
@@ -57,7 +57,7 @@ fn read_items(alloc: Global, reader: &mut Reader<'_>, depth: usize) -> Option<Ve
     Some(found)
 }
 
-/// The members up to the brace that closes them.
+/// The members up to the closing brace.
 #[cycle(value)]
 pub fn read_members(
     alloc: Global,
@@ -74,7 +74,7 @@ pub fn read_members(
     Some(found)
 }
 
-/// Reads the value of a member, whose name is read, and puts it among the others.
+/// Reads the value of a member, after its name, and puts it among the others.
 #[cycle(value)]
 pub fn read_member(
     alloc: Global,

@@ -17,7 +17,7 @@ pub struct Vertex {
     pub point: Point,
 }
 
-/// The next value, which is a whole number.
+/// The next value, a whole number.
 #[inline(always)]
 pub fn read_whole(reader: &mut Reader<'_>) -> Option<i64>
     ensures value { IfSome result

@@ -14,7 +14,7 @@ use std::alloc::Global;
 /// How deep a text's arrays and objects may nest.
 pub const DEPTH: usize = 127;
 
-/// What stands for all the tokens.
+/// The value of all the tokens.
 fn read_tokens<T: FromTokens>(alloc: Global, reader: &mut Reader<'_>) -> Option<T>
     ensures { IfSome result (λ x. IsReadAs T.stands x 127 reader.old []) }
 {
@@ -25,7 +25,7 @@ fn read_tokens<T: FromTokens>(alloc: Global, reader: &mut Reader<'_>) -> Option<
     Some(read)
 }
 
-/// What stands for a text; none where anything about the text is odd, or memory runs out.
+/// The value of a text; `None` if anything about the text is odd, or memory runs out.
 pub fn read_whole_text<T: FromTokens>(alloc: Global, bytes: &[u8]) -> Option<T>
     ensures { IfSome result (λ x. (d : Data) × HasTree bytes.now d × (is_integral d ≡ true) × T.stands x d) }
 {

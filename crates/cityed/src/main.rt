@@ -1,14 +1,15 @@
 //! Edits a CityJSON 2.0 document by scripts.
 //!
-//! Two names are files, the model's and the scripts'. Without names standard input has the document in its first line
-//! and the scripts after it. With `--decimals` numbers of any form are taken, and given back as they were written;
-//! `--workers` and `--watch` say how many workers run the scripts and how many viewers look on. Standard output gets a
-//! line for each script and the model, standard error one for each viewer. With `--output` the model goes to a file
-//! instead, which is replaced whole; with `--atomic` it goes nowhere where a script is refused or out of memory. With
-//! `--check` nothing is run: standard output gets a line for each fault of a model and of scripts. Status 1: a fault,
-//! told on standard error, or faults that a check found; 2: a command line that is refused; 3: a model that goes
-//! nowhere. A fault is explained with `--explain`, and where standard error is a terminal. All that is city_serve's
-//! `run_program`: here it gets the real files and streams.
+//! Two names are files, the model's and the scripts'. Without names standard input has the document
+//! in its first line and the scripts after it. With `--decimals` numbers of any form are taken, and
+//! given back as they were written; `--workers` and `--watch` say how many workers run the scripts
+//! and how many viewers look on. Standard output gets a line for each script and the model,
+//! standard error one for each viewer. With `--output` the model goes to a file instead, replaced
+//! whole; with `--atomic` it goes nowhere if a script is refused or out of memory. With `--check`
+//! nothing is run: standard output gets a line for each fault of a model and of scripts. Status 1:
+//! a fault, told on standard error, or faults found by a check; 2: a refused command line; 3: a
+//! withheld model. A fault is explained with `--explain`, and if standard error is a terminal. All
+//! this is city_serve's `run_program`: here it gets the real files and streams.
 #![tactic(auto)]
 
 use city_crew::OpenGate;

@@ -1,4 +1,4 @@
--- What is told on standard error, step by step.
+-- The texts on standard error, step by step.
 use Rattle.std.specs.Prelude.{◌≡◌, ◌≢◌, ◌⊎◌, ℕ, Bool, true, false, List, [], ◌∷◌, ◌++◌, codes, Option}
 use Rattle.std.specs.Global.{Vec}
 use Rattle.city_serve.specs.declared.command_line.Asked.{Asked}
@@ -7,17 +7,17 @@ use Rattle.city_serve.specs.declared.program.Status.{Status}
 use Rattle.city_serve.specs.FaultTexts.{fault_text}
 use Rattle.city_serve.specs.Programs.{Streams, IsAnswered, IsChecked, IsTold, seen_lines}
 
--- where standard error hasn't failed, it hadn't before, and has got this text and no other bytes
+-- if standard error hasn't failed, it hadn't before, and has got this text and no other bytes
 abbrev pub IsToldAfter : Bool → Option (List ℕ) → Option (List ℕ) → Bool → List ℕ → Type 0
 IsToldAfter failed_before old new failed text = IsTold old new failed text × (failed ≡ false → failed_before ≡ false)
 
--- where all viewers were told of, it has got their lines, and the status is that of what is done. That it isn't comes
--- of memory, and only where there are viewers
+-- if all viewers were told of, it has got their lines, and the status is the request's. If not, memory was short, and
+-- there are viewers
 abbrev pub IsSeenTold : Status → Status → Option (List ℕ) → Option (List ℕ) → Bool → List (Vec ℕ) → Type 0
 IsSeenTold done status old new failed seen =
     ((status ≡ done) × IsTold old new failed (seen_lines 0 seen)) ⊎ ((status ≡ Status.Failed) × (seen ≢ []))
 
--- the line of a fault and what is told behind it; where memory is short for that, that memory ran out
+-- the line of a fault and the lines behind it; if memory is short for that, the line of running out of memory
 abbrev pub IsFaultText : ServeFault → List ℕ → List ℕ → Type 0
 IsFaultText f behind text =
     (text ≡ (fault_text f ++ 10 ∷ []) ++ behind) ⊎ (text ≡ codes "cityed: out of memory\n")
@@ -27,7 +27,7 @@ abbrev pub run_status : Bool → Status
 run_status true = Status.Withheld
 run_status false = Status.Done
 
--- that of a check, by whether it found faults
+-- the status of a check, by whether it found faults
 abbrev pub check_status : Bool → Status
 check_status true = Status.Faulty
 check_status false = Status.Done
@@ -38,7 +38,7 @@ IsFound s (Asked.Check options model scripts) seen =
     (seen ≡ []) × IsChecked s (Asked.Check options model scripts) true
 IsFound s _ seen = ⊥
 
--- what is asked for is done, with this status
+-- the request is done, with this status
 abbrev pub IsAnsweredAs : Streams → Asked → List (Vec ℕ) → Status → Type 0
 IsAnsweredAs s asked seen Status.Done = IsAnswered s asked seen false
 IsAnsweredAs s asked seen Status.Withheld = IsAnswered s asked seen true

@@ -1,9 +1,9 @@
--- Texts that have only whole numbers.
+-- Texts with only whole numbers.
 use Rattle.std.specs.Prelude.{◌≡◌, ℕ, true, List}
 use Rattle.serde_json.specs.Data.{Data}
 use Rattle.city_model.specs.Integral.{is_integral}
 use Rattle.city_tokens.specs.tree.Texts.{HasTree}
 
--- each tree that the editor may read from the text has only whole numbers
+-- each tree the editor may read from the text has only whole numbers
 abbrev pub HasWholeNumbers : List ℕ → Type 0
 HasWholeNumbers text = (d : Data) → HasTree text d → is_integral d ≡ true

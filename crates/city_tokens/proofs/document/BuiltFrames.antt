@@ -1,4 +1,4 @@
--- A frame is what is built, in whichever order its parts are read; and the city of a top.
+-- A frame is the one built, in any order of its parts; and the city of a top.
 use Rattle.city_tokens.proofs.Prelude.{◌≡◌, Option, Some, codes, refl, ap, ◌∙◌, arith, List, [], ◌∷◌, true}
 use Rattle.city_tokens.proofs.Prelude.{option_and_then, Data, object, Members, get_member, get_member-without, items_of}
 use Rattle.city_tokens.proofs.Prelude.{Point, Entries, without, Vertex, entries_of, objects_of, IsVertex, points_of}

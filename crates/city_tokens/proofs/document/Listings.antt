@@ -1,4 +1,4 @@
--- The objects that a list makes: the list that they make again, their faults, and how they are placed.
+-- The objects made from a list: the list made from them again, their faults, and their placing.
 use Rattle.city_tokens.proofs.Prelude.{◌≡◌, ℕ, List, [], ◌∷◌, length, Some, Less, Equal, Greater, nat_cmp, sym, ap}
 use Rattle.city_tokens.proofs.Prelude.{subst, ◌∙◌, arith, None, ◌++◌, refl, slice_cmp, AllByRecursion}
 use Rattle.city_tokens.proofs.Prelude.{nat_list_cmp_total, Object, Entries, same_id_back, objects_of, entries_of, Point}
@@ -28,7 +28,7 @@ pub listed_again : (objects : Objects) → objects_of (entries objects) ≡ obje
 listed_again objects =
     same_objects (objects_of (entries objects)) objects (at_listed (entries objects) ∙ sym (at_entries objects))
 
--- what holds of each object of a list holds of each that it makes
+-- a property of each object of a list holds of each object made from it
 module _ (P : Object → Type 0) where
   abbrev pub OfEach : Entries → Type 0
   OfEach es = AllByRecursion (λ e. P e.1) es
@@ -54,7 +54,7 @@ module _ (P : Object → Type 0) where
       subst OfEach (sym (entries-insert nat_list_cmp_total (objects_of es) e.0 e.1))
       (of_each_put e.0 e.1 (entries (objects_of es)) h.0 (of_each_listed es h.1))
 
--- those that were placed
+-- the placed ones
 pub faultless_each : (points : List Point) (all placed es : Entries) → Pairs (IsPlacedObject points) all placed
     → AreFaultless es → AreFaultless (put_each placed es)
 faultless_each points [] [] es pairs h = h
@@ -109,7 +109,7 @@ entries_put_all points (x ∷ xs) (m ∷ ms) start es pairs here =
     grind (arith, entries_put_all points xs ms, entries_put points m.0 m.1 x.1 start es pairs.0.1 here)
 entries_put_all points _ _ start es pairs here = absurd pairs
 
--- what is listed stands for the entries of what is placed
+-- the listed members stand for the entries of the placed objects
 pub listed_entries : (points : List Point) (all placed : Entries) (m : BTreeMap (List ℕ) Object) (found : Members)
     → IsFromIterResult cmp placed m → Pairs (IsPlacedObject points) all placed → IsListing all found
     → entries_of points found ≡ Some m.entries

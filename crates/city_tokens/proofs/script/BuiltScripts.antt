@@ -1,4 +1,4 @@
--- Scripts that are built or read item by item are those of the whole array.
+-- Scripts built or read item by item are the scripts of the whole array.
 use Rattle.city_tokens.proofs.Prelude.{◌≡◌, ℕ, ◌<◌, ◌≤◌, List, [], ◌∷◌, length, map, Option, Some, None, option_map}
 use Rattle.city_tokens.proofs.Prelude.{refl, sym, ◌∙◌, arith, option_and_then, if◌then◌else◌, length-map, Data}
 use Rattle.city_tokens.proofs.Prelude.{all_read, array_of, read_items, items_of, Pairs, IsArrayOf, IsScript}
@@ -10,7 +10,7 @@ use Rattle.city_tokens.specs.script.Scripts.{scripts_of}
 use Rattle.city_tokens.proofs.tree.AllRead.{all_read-length}
 use Rattle.city_tokens.proofs.tree.IntegralParts.{items_list-of}
 
--- the scripts of these parts, where none has too many commands
+-- the scripts of these parts, if none has too many commands
 abbrev fit_scripts_of : List ScriptParts → Option (List Scripted)
 fit_scripts_of ps = if list_any has_too_many_commands ps then None else all_read script_of ps
 
@@ -64,7 +64,7 @@ all_scripts [] [] h = refl
 all_scripts (s ∷ ss) (d ∷ ds) h = rw (h.0, all_scripts ss ds h.1) refl
 all_scripts _ _ h = absurd h
 
--- the scripts of an array that isn't too long
+-- the scripts of an array, if it isn't too long
 pub scripts_read : (ss : List Scripted) (d : Data) → length ss ≤ max_scripts → IsArrayOf IsScript ss d
     → scripts_of d ≡ Some ss
 scripts_read ss d short h =

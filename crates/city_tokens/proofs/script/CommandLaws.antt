@@ -1,4 +1,4 @@
--- Which commands end a script: those whose trees are words that do.
+-- The commands to end a script: their trees are words to end one.
 use Rattle.city_tokens.proofs.Prelude.{◌≡◌, List, [], ◌∷◌, Some, refl, arith, Data, Point, Command, ends_once}
 use Rattle.city_tokens.proofs.Prelude.{command_of, all_read}
 use Rattle.city_tokens.specs.script.CommandForms.{CommandForm}
@@ -12,7 +12,7 @@ command_end : (points : List Point) (f : CommandForm) (c : Command) → command_
     → is_end c ≡ is_end_form f
 command_end points f c h = grind arith
 
--- a command ends its script where its tree is a word that does
+-- a command ends its script just if its tree is a word to end one
 pub command_of-end : (points : List Point) (d : Data) (c : Command) → command_of points d ≡ Some c
     → is_end c ≡ is_end_word d
 command_of-end points d c h = grind (arith, command_end, form_ends)

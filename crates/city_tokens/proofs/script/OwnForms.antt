@@ -1,4 +1,4 @@
--- What the form of a command tells of its tree: whether the tree is a word that ends a script, and what it gives.
+-- A tree by the form of its command: whether the tree is a word to end a script, and what it gives.
 use Rattle.city_tokens.proofs.Prelude.{◌≡◌, ℕ, List, Bool, true, false, Option, Some, None, option_map, refl}
 use Rattle.city_tokens.proofs.Prelude.{subst, arith, option_and_then, if◌then◌else◌, codes, Data, Members, object}
 use Rattle.city_tokens.proofs.Prelude.{string, get, as_str, list_of}
@@ -15,7 +15,7 @@ is_end_form CommitForm = true
 is_end_form AbortForm = true
 is_end_form _ = false
 
--- what is given stands in the tree
+-- the given value stands in the tree
 abbrev pub owns : Data → CommandForm → Type 0
 owns d (PutForm id tree) = get (codes "object") d ≡ Some tree
 owns d (AddForm id tree) = get (codes "object") d ≡ Some tree
@@ -25,11 +25,11 @@ owns d (ReshapeForm id tree) = tree ≡ d
 owns d (ExpectForm id named) = option_and_then as_object (get (codes "attributes") d) ≡ Some named
 owns d f = Unit {0}
 
--- it ends a script where the tree is a word that does, and gives what the tree has
+-- it ends a script just if the tree is a word to end one, and its value is the tree's
 abbrev fits : Data → CommandForm → Type 0
 fits d f = (is_end_form f ≡ is_end_word d) × owns d f
 
--- a property of a form, where there is one
+-- a property of a form, if there is one
 abbrev holds : (CommandForm → Type 0) → Option CommandForm → Type 0
 holds P None = Unit {0}
 holds P (Some f) = P f

@@ -1,4 +1,4 @@
--- Lists each of whose items is read, and those of three whole numbers.
+-- Lists read item by item, and lists of three whole numbers.
 use Rattle.city_tokens.proofs.Prelude.{◌≡◌, ℕ, zero, suc, List, [], ◌∷◌, length, Bool, true, Option, Some, None}
 use Rattle.city_tokens.proofs.Prelude.{option_map, refl, arith, ℤ, option_and_then, is_some, if◌then◌else◌, list_all}
 use Rattle.city_tokens.proofs.Prelude.{all_read, read_items, Data, Items, no_items, item, Point, point_of, all_triples}
@@ -25,7 +25,7 @@ pub all_read-length : {A B : Type 0} (read : A → Option B) (xs : List A) (ys :
 all_read-length read [] ys h = grind arith
 all_read-length read (x ∷ xs) ys h = grind (arith, all_read-length read xs)
 
--- where each item is read, so is the list
+-- if each item is read, so is the list
 pub all_read-some : {A B : Type 0} (read : A → Option B) (xs : List A)
     → ((n : ℕ) (x : A) → slice_get xs n ≡ Some x → (y : B) × (read x ≡ Some y))
     → (ys : List B) × (all_read read xs ≡ Some ys)
@@ -35,7 +35,7 @@ all_read-some read (x ∷ xs) each =
     let ys = all_read-some read xs (λ n. each (suc n)) in
     (y.0 ∷ ys.0, rw (y.1, ys.1) refl)
 
--- what is read of items that pass one test passes another
+-- values read of items with one property have another
 pub all_read-all : {A B : Type 0} (read : A → Option B) (ok : A → Bool) (test : B → Bool)
     → ((x : A) (y : B) → ok x ≡ true → read x ≡ Some y → test y ≡ true)
     → (xs : List A) (ys : List B) → list_all ok xs ≡ true → all_read read xs ≡ Some ys → list_all test ys ≡ true

@@ -1,4 +1,4 @@
--- What a tree is that has members or items, and trees of whole numbers, whose parts are such trees.
+-- Trees with members or items, and trees of whole numbers: their parts are such trees.
 use Rattle.city_tokens.proofs.Prelude.{◌≡◌, ℕ, List, Option, Some, Less, Equal, Greater, nat_cmp, Bool, true, false}
 use Rattle.city_tokens.proofs.Prelude.{true≢false, None, refl, sym, ◌∙◌, arith, [], ◌∷◌, length, map, match_ordering}
 use Rattle.city_tokens.proofs.Prelude.{slice_cmp, Data, Members, no_members, member, put, array, object, Items}
@@ -14,7 +14,7 @@ use Rattle.city_tokens.specs.script.Scripts.{count_of}
 module _ (P : Data → Type 0) (All : Members → Type 0) (none : All no_members)
     (join : (k : List ℕ) (d : Data) (ms : Members) → P d → All ms → All (member k d ms))
     (parts : (k : List ℕ) (d : Data) (ms : Members) → All (member k d ms) → P d × All ms) where
-  -- it still holds where one of which it holds is put in
+  -- it still holds after one more value of `P` is put in
   pub all_put : (k : List ℕ) (d : Data) (ms : Members) → P d → All ms → All (put k d ms)
   all_put k d no_members one h = join k d no_members one none
   all_put k d (member l e ms) one h =
@@ -26,7 +26,7 @@ module _ (P : Data → Type 0) (All : Members → Type 0) (none : All no_members
         | Greater ↦ join l e _ hs.0 (all_put k d ms one hs.1)
       ]
 
-  -- it holds of the value that a look-up finds
+  -- it holds of the value found by a look-up
   pub all_found : (k : List ℕ) (ms : Members) (d : Data) → All ms → get_member k ms ≡ Some d → P d
   all_found k no_members d h is = absurd (cc)
   all_found k (member l e ms) d h is =
@@ -41,7 +41,7 @@ array_is d ds h = grind arith
 pub object_is : (d : Data) (ms : Members) → as_object d ≡ Some ms → d ≡ object ms
 object_is d ms h = grind arith
 
--- a tree with a member that passes a test, as none does that isn't there, is an object
+-- a tree with a member passing a test is an object, if an absent one fails the test
 pub object_with : (test : Option Data → Bool) → test None ≡ false → (name : List ℕ) (d : Data)
     → test (get name d) ≡ true → (ms : Members) × (as_object d ≡ Some ms)
 object_with test absent name (object ms) h = (ms, refl)

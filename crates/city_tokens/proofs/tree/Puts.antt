@@ -1,4 +1,4 @@
--- Members that are put in at their names, looked up and taken out.
+-- Members put in at their names, looked up and taken out.
 use Rattle.city_tokens.proofs.Prelude.{◌≡◌, ℕ, List, Less, Equal, Greater, nat_cmp, refl, sym, ap, ◌∙◌, arith, [], ◌∷◌}
 use Rattle.city_tokens.proofs.Prelude.{true, false, None, true≢false, slice_cmp, match_ordering, nat_list_cmp_total}
 use Rattle.city_tokens.proofs.Prelude.{exact_bytes, Data, Members, no_members, member, put, AllAbove, AreOrdered}
@@ -31,7 +31,7 @@ pub above_put : (a k : List ℕ) (d : Data) (ms : Members) → cmp a k ≡ Less 
 above_put a k d no_members less h = (less, tt)
 above_put a k d (member l e ms) less h = let rest = above_put a k d ms less h.1 in grind arith
 
--- names that ascend still do
+-- ascending names still ascend
 pub ordered_put : (k : List ℕ) (d : Data) (ms : Members) → AreOrdered ms → AreOrdered (put k d ms)
 ordered_put k d no_members h = (tt, tt)
 ordered_put k d (member l e ms) h =
@@ -45,7 +45,7 @@ pub put_first : (k : List ℕ) (d : Data) (ms : Members) → AllAbove k ms → p
 put_first k d no_members h = refl
 put_first k d (member l e ms) h = rw h.0 refl
 
--- what isn't below a is below b
+-- a name not above a is below b
 later : (a b l : List ℕ) → cmp a b ≡ Less → (cmp a l ≡ Less → ⊥) → cmp b l ≡ Greater
 later a b l less at = grind (arith, exact_bytes, turned, back, nat_list_cmp_total.trans)
 
@@ -72,14 +72,14 @@ pub without-twice : (a : List ℕ) (ms : Members) → without a (without a ms) �
 without-twice a no_members = refl
 without-twice a (member k d ms) = grind (arith, without-twice a ms)
 
--- a member that is gone stays gone
+-- an absent member stays absent
 gone_each : (names : List (List ℕ)) (name : List ℕ) (ms : Members) → get_member name ms ≡ None
     → get_member name (without_each names ms) ≡ None
 gone_each [] name ms h = h
 gone_each (n ∷ names) name ms h = gone_each names name (without n ms)
     (by_id name n (λ same. rw (same, get_member-without_same) refl) (λ apart. get_member-without name n ms apart ∙ h))
 
--- what was taken out is gone
+-- members taken out are absent
 pub lacks_each-without_each : (names : List (List ℕ)) (ms : Members) → lacks_each names (without_each names ms) ≡ true
 lacks_each-without_each [] ms = refl
 lacks_each-without_each (n ∷ names) ms =
@@ -116,12 +116,12 @@ pub get_member-put_list_apart : {A : Type 0} (q k : List ℕ) (f : A → Data) (
 get_member-put_list_apart q k f [] ms apart = refl
 get_member-put_list_apart q k f xs ms apart = get_member-put_apart q k (list_data f xs) ms apart
 
--- where the name isn't there, nothing is taken out
+-- if the name isn't there, nothing is taken out
 pub without-absent : (name : List ℕ) (ms : Members) → get_member name ms ≡ None → without name ms ≡ ms
 without-absent name no_members none = refl
 without-absent name (member k d ms) none = grind (arith, without-absent name ms)
 
--- what was put in is taken out again, and what was there before it
+-- a member put in is taken out again, with any before it
 pub without-put_own : (n : List ℕ) (d : Data) (ms : Members) → without n (put n d ms) ≡ without n ms
 without-put_own n d no_members = grind (arith, same_id_itself)
 without-put_own n d (member l e ms) = let own = same_id_itself n in grind (arith, without-put_own n d ms)

@@ -1,4 +1,4 @@
--- What a document stands for.
+-- The city of a document.
 use Rattle.std.specs.Prelude.{◌≡◌, ◌&&◌, ℕ, List, [], ◌∷◌, Bool, true, Option, Some, None, option_and_then}
 use Rattle.std.specs.Prelude.{option_map, codes, if◌then◌else◌}
 use Rattle.std.specs.FinMap.{from_entries}
@@ -38,8 +38,7 @@ entries_in points d = do
 abbrev pub objects_of : Entries → Objects
 objects_of entries = from_entries entries
 
--- the city that a tree stands for, where it has the form of a document; whether the city is lawful is
--- judged apart
+-- the city of a tree with the form of a document; whether the city is lawful is judged apart
 abbrev pub city_of : Data → Option CityValue
 city_of d =
     if is_city_json d then (do
@@ -48,11 +47,11 @@ city_of d =
       option_map (λ frame. (frame, objects_of entries)) (frame_of d))
     else None
 
--- the text, however long it is, is JSON whose tree stands for this city; `IsAdmitted` judges its length too
+-- the text, however long, is JSON, and its tree stands for this city; `IsAdmitted` judges its length too
 abbrev pub IsTextOfCity : List ℕ → CityValue → Type 0
 IsTextOfCity text city = (d : Data) × IsText text d × (city_of d ≡ Some city)
 
--- the text isn't too long, its numbers are whole, and it stands for this city, which is lawful
+-- the text isn't too long, its numbers are whole, and it stands for this lawful city
 abbrev pub IsAdmitted : List ℕ → CityValue → Type 0
 IsAdmitted text city =
     (d : Data) × HasTree text d × (is_integral d ≡ true) × (city_of d ≡ Some city) × IsLawful (object_at city.1)

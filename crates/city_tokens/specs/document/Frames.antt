@@ -12,7 +12,7 @@ use Rattle.city_tokens.specs.tree.Triples.{triple_of}
 abbrev pub triple_at : List ℕ → Data → Option (List ℤ)
 triple_at name d = option_and_then triple_of (get name d)
 
--- all members of a transform but those that are read
+-- the members of a transform, except the ones read
 abbrev pub without_transform_members : Members → Members
 without_transform_members ms = without_each transform_members ms
 
@@ -22,7 +22,7 @@ more_of transform = do
   members ← as_object transform
   kept_if kept_at_transform (without_transform_members members)
 
--- all members of the top but those that are read
+-- the members of the top, except the ones read
 abbrev pub without_top_members : Members → Members
 without_top_members ms = without_each top_members ms
 

@@ -1,4 +1,4 @@
--- The frame of a document, from the members of its top that are left without `CityObjects`.
+-- The frame of a document, from the members of its top without `CityObjects`.
 use Rattle.std.specs.Prelude.{Option, drop, option_map, codes}
 use Rattle.serde_json.specs.Data.{Data, Members}
 use Rattle.serde_json.specs.Find.{get_member}
@@ -9,7 +9,7 @@ use Rattle.city_tokens.specs.document.Frames.{triple_at, more_of}
 use Rattle.city_tokens.specs.tree.Members.{kept_if}
 use Rattle.city_tokens.specs.tree.Steps.{◌>>=◌}
 
--- all members but those that are read at the top beside `CityObjects`, which is the first of `top_members`
+-- the members, except the ones read at the top beside `CityObjects`, the first of `top_members`
 abbrev pub without_rest_members : Members → Members
 without_rest_members rest = without_each (drop 1 top_members) rest
 

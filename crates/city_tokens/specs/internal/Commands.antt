@@ -1,4 +1,4 @@
--- Commands whose positions aren't replaced by points yet.
+-- Commands before points replace their positions.
 use Rattle.std.specs.Prelude.{◌≡◌, ℕ, List, Option, Some, None, true, false, codes}
 use Rattle.serde_json.specs.Data.{Data, string, object, Members, no_members, put}
 use Rattle.serde_json.specs.Find.{get, get_member}
@@ -21,13 +21,13 @@ use Rattle.city_tokens.specs.internal.Standing.{IsArrayOf, IsListSlot, IsString}
 
 -- ---- bodies
 
--- an object that names neither parents nor children has this body
+-- an object naming neither parents nor children has this body
 abbrev pub IsBody : Body → Data → Type 0
 IsBody b d =
     (parents : List (List ℕ)) × (children : List (List ℕ))
     × IsObject (record { body = b; parents = parents; children = children }) d × (names_relations d ≡ false)
 
--- what was read of the members of such an object so far
+-- the members of such an object read so far
 abbrev pub IsBodySoFar : BodyParts → Members → Members → Type 0
 IsBodySoFar parts found kept =
     IsObjectSoFar parts.object found kept
@@ -65,7 +65,7 @@ abbrev pub with_verb : Option (Verb × List ℕ) → Members → Members
 with_verb None others = others
 with_verb (Some v) others = put (verb_name v.0) (string v.1) others
 
--- the name of a member beside that of the verb
+-- the name of the member beside the verb's
 abbrev pub other_name : Other → List ℕ
 other_name (other.Object body) = codes "object"
 other_name (other.Parent id) = codes "parent"
@@ -73,7 +73,7 @@ other_name (other.Attributes values) = codes "attributes"
 other_name (other.Names names) = codes "attributes"
 other_name (other.Geometry geometry) = codes "geometry"
 
--- what was read of it stands for its value
+-- the other member, as read, stands for its value
 abbrev pub IsOther : Other → Data → Type 0
 IsOther (other.Object body) d = IsBody body d
 IsOther (other.Parent id) d = IsString id d
@@ -81,7 +81,7 @@ IsOther (other.Attributes values) d = (d ≡ object values) × (kept_at_attribut
 IsOther (other.Names names) d = IsArrayOf IsString names d
 IsOther (other.Geometry geometry) d = IsArrayOf IsGeometry geometry d
 
--- the members beside that of the verb
+-- the members beside the verb's
 abbrev pub AreOthers : Option Other → Members → Type 0
 AreOthers None others = others ≡ no_members
 AreOthers (Some o) others = (d : Data) × (others ≡ put (other_name o) d no_members) × IsOther o d

@@ -1,4 +1,4 @@
--- The frame that a tree stands for, in the order in which it is built: the kept members of the top first.
+-- The frame of a tree, in the order of its building: the kept members of the top first.
 use Rattle.std.specs.Prelude.{Option, codes}
 use Rattle.serde_json.specs.Data.{Data}
 use Rattle.serde_json.specs.Find.{as_object}

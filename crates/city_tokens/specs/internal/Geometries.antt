@@ -1,4 +1,4 @@
--- Geometries whose positions aren't replaced by points yet.
+-- Geometries before points replace their positions.
 use Rattle.std.specs.Prelude.{◌≡◌, ℕ, List, Some, option_and_then, codes}
 use Rattle.serde_json.specs.Data.{Data, object, Members}
 use Rattle.serde_json.specs.Find.{get_member, as_str}
@@ -51,7 +51,7 @@ pub record IsGeometry (g : Geometry) (d : Data) : Type 0 where
   pub lod : option_and_then as_str (get_member (codes "lod") found) ≡ Some g.lod
   pub extra : kept_if kept_at_geometry (without_geometry_members found) ≡ Some g.extra
 
--- what was read of a geometry's members so far
+-- a geometry's members read so far
 pub record IsGeometrySoFar (parts : GeometryParts) (found kept : Members) : Type 0 where
   pub kind : IsSlot IsKind parts.kind (get_member (codes "type") found)
   pub lod : IsSlot IsString parts.lod (get_member (codes "lod") found)

@@ -1,4 +1,4 @@
--- Objects whose positions aren't replaced by points yet.
+-- Objects before points replace their positions.
 use Rattle.std.specs.Prelude.{◌≡◌, ℕ, List, [], ◌∷◌, Some, None, option_and_then, codes}
 use Rattle.serde_json.specs.Data.{Data, object, Members, no_members, put}
 use Rattle.serde_json.specs.Find.{get_member, as_str}
@@ -29,7 +29,7 @@ pub record IsObject (o : Object) (d : Data) : Type 0 where
   pub children : IsListSlot IsString o.children (get_member (codes "children") found)
   pub extra : kept_if kept_at_object (without_object_members found) ≡ Some o.body.extra
 
--- what was read of an object's members so far
+-- an object's members read so far
 pub record IsObjectSoFar (parts : ObjectParts) (found kept : Members) : Type 0 where
   pub kind : IsSlot IsType parts.kind (get_member (codes "type") found)
   pub geometry : IsListSlot IsGeometry parts.geometry (get_member (codes "geometry") found)
@@ -59,7 +59,7 @@ IsListingSoFar listing found kept = IsListing listing.objects found
 abbrev pub AreObjects : List (List ℕ × Object) → Data → Type 0
 AreObjects es d = (found : Members) × (d ≡ object found) × IsListing es found
 
--- an object with points in the places of its positions, whose body has no fault
+-- an object with points in place of its positions, and a body without a fault
 abbrev pub IsPlacedObject : List Point → List ℕ × Object → List ℕ × Object → Type 0
 IsPlacedObject points unplaced placed =
     (placed.0 ≡ unplaced.0) × IsPlaced IsObject (object_of points) unplaced.1 placed.1

@@ -1,4 +1,4 @@
--- What stands many times, one after another, in a text.
+-- Repeated parts of a text, one after another.
 use Rattle.std.specs.Prelude.{◌≡◌, ℕ, List, [], ◌∷◌, Some}
 use Rattle.json.specs.Token.{Token}
 use Rattle.json.specs.Json.{read_key}
@@ -16,12 +16,12 @@ abbrev pub AreNext : {A : Type 0} → (A → List Token → List Token → Type 
 AreNext R [] old new = old ≡ new
 AreNext R (x ∷ xs) old new = (next : List Token) × R x old next × AreNext R xs next new
 
--- the tokens begin with a member whose name is the id and whose value is the object
+-- the tokens begin with a member: the id is its name, the object its value
 abbrev pub IsNextObject : List ℕ × Object → List Token → List Token → Type 0
 IsNextObject e old new =
     (after : List Token) × (read_key old ≡ Some (Some e.0, after)) × IsReadAs IsObject e.1 125 after new
 
--- the tokens begin with an item of an array, which nests no deeper than the number
+-- the tokens begin with an item of an array, nested no deeper than the number
 abbrev pub IsNextItem : {A : Type 0} → (A → Data → Type 0) → ℕ → A → List Token → List Token → Type 0
 IsNextItem R depth x old new = IsReadAs R x depth old new
 

@@ -1,4 +1,4 @@
--- Points of vertices, and positions, whose points may not be known yet.
+-- Points of vertices, and positions before their points are known.
 use Rattle.std.specs.Prelude.{◌≡◌, ◌∷◌, ℕ, zero, suc, List, map, Option, Some, option_and_then}
 use Rattle.json.specs.Token.{Token, begin_array}
 use Rattle.serde_json.specs.Data.{Data}
@@ -23,11 +23,11 @@ abbrev pub IsNested : (n : ℕ) → Nested n → Data → Type 0
 IsNested zero = IsPosition
 IsNested (suc n) = IsArrayOf (IsNested n)
 
--- where this stood for a value, that is what is read of the value
+-- if the old one stood for a value, the value is read as the new one
 abbrev pub IsPlaced : {A : Type 0} → (A → Data → Type 0) → (Data → Option A) → A → A → Type 0
 IsPlaced stands reads old new = (d : Data) → stands old d → reads d ≡ Some new
 
--- the tokens, behind so many brackets that open
+-- the tokens, behind so many opening brackets
 abbrev pub opened : ℕ → List Token → List Token
 opened zero ts = ts
 opened (suc n) ts = begin_array ∷ opened n ts

@@ -1,4 +1,4 @@
--- Parts of a text that several workers read beforehand, and what they stand for.
+-- Parts of a text read beforehand by several workers, and their meaning.
 use Rattle.std.specs.Prelude.{◌≡◌, ◌++◌, ◌⊎◌, ℕ, List, [], Option, Some, None}
 use Rattle.json.specs.Token.{Token}
 use Rattle.city_reader.specs.Positions.{tokens_from}
@@ -17,11 +17,11 @@ IsAppended (Some _) old next new =
     (new.from ≡ old.from) × (old.to ≡ next.from) × (new.to ≡ next.to)
     × (new.parts.items ≡ old.parts.items ++ next.parts.items)
 
--- what is left of a run is all of it, or its end
+-- all of a run is left, or only its end
 abbrev pub IsLeft : {A : Type 0} → Run A → Run A → Type 0
 IsLeft old new = (new ≡ old) ⊎ ((new.from ≡ old.to) × (new.to ≡ old.to) × (new.parts.items ≡ []))
 
--- the parts that were passed are none, or all of a run, which begins where the reader stood
+-- the passed parts are none, or all of a run from the reader's place
 abbrev pub ArePassed : {A : Type 0} → List ℕ → Run A → List A → List Token → List Token → Type 0
 ArePassed text run more before after =
     ((more ≡ []) × (after ≡ before))

@@ -1,4 +1,4 @@
--- What was read of the members of a script.
+-- The members of a script, as read.
 use Rattle.std.specs.Prelude.{◌≡◌, ℕ, List, Option, Some, None, codes}
 use Rattle.serde_json.specs.Data.{Data, Members, no_members, put}
 use Rattle.city_model.specs.Runs.{Scripted}
@@ -11,13 +11,13 @@ use Rattle.city_tokens.specs.internal.Standing.{IsArrayOf, IsListSlot, IsString}
 abbrev pub IsScript : Scripted → Data → Type 0
 IsScript s d = script_of_item d ≡ Some s
 
--- what was read of a member, which is there where anything was
+-- the value read of a member; both are there, or neither
 abbrev pub IsPart : {A : Type 0} → (A → Data → Type 0) → Option A → Option Data → Type 0
 IsPart R None None = Unit {0}
 IsPart R (Some x) (Some d) = R x d
 IsPart R _ _ = ⊥
 
--- the members with one that may be absent
+-- the members with one more, if it is there
 abbrev pub with_part : List ℕ → Option Data → Members → Members
 with_part name None ms = ms
 with_part name (Some d) ms = put name d ms

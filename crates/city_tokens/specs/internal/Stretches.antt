@@ -1,11 +1,11 @@
--- Objects that several workers place, each a stretch of them.
+-- Objects placed by several workers, a stretch each.
 use Rattle.std.specs.Prelude.{◌≡◌, ◌++◌, ℕ, List, [], ◌∷◌, Option, Some, None, IfSome, Vec}
 use Rattle.city_model.specs.declared.object.Object.{Object}
 use Rattle.city_model.specs.declared.object.Point.{Point}
 use Rattle.city_tokens.specs.internal.Objects.{IsPlacedObject}
 use Rattle.city_tokens.specs.internal.Standing.{Pairs}
 
--- each stretch of objects was placed, where there is an answer
+-- each stretch of objects was placed, if there is an answer
 abbrev pub PairsIfPlaced : {Z : Type 0} → List Point → List (Vec (List ℕ × Object) Z)
     → List (Option (Vec (List ℕ × Object) Z)) → Type 0
 PairsIfPlaced points stretches placed =

@@ -1,4 +1,4 @@
--- What was read of a document's top, so far and whole.
+-- A document's top, read so far or whole.
 use Rattle.std.specs.Prelude.{◌≡◌, List, Some, codes}
 use Rattle.serde_json.specs.Data.{Data, Members, object}
 use Rattle.serde_json.specs.Find.{get_member}
@@ -21,19 +21,19 @@ pub record IsTopSoFar (parts : TopParts) (found kept : Members) : Type 0 where
   pub ordered : AreOrdered found
   pub extra : kept ≡ without (codes "vertices") (without (codes "CityObjects") found)
 
--- the objects of a top, with points in the places of their positions
+-- the objects of a top, with points in place of their positions
 abbrev pub ArePlaced : TopParts → Entries → Type 0
 ArePlaced parts placed =
     (vertices : List Vertex) × (listed : Entries) × (parts.vertices ≡ Some vertices) × (parts.objects ≡ Some listed)
     × Pairs (IsPlacedObject (points_of vertices)) listed placed
 
--- what is read beforehand stands for nothing of itself
+-- parts read beforehand stand for nothing by themselves
 abbrev pub IsTopInPieces : TopInPieces → Members → Members → Type 0
 IsTopInPieces top found kept = IsTopSoFar top.parts found kept
 
 abbrev pub IsTop : Top → Data → Type 0
 IsTop top d = (found : Members) × (d ≡ object found) × IsTopSoFar top.parts found (members_view top.rest.entries)
 
--- the city that a document's tree stands for, none of whose bodies has a fault
+-- the city of a document's tree, without a fault in a body
 abbrev pub IsCity : CityValue → Data → Type 0
 IsCity c d = (city_of d ≡ Some c) × IsFaultless (object_at c.1)

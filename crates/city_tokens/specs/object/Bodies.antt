@@ -1,4 +1,4 @@
--- The object that a tree stands for, its positions replaced by points (CityJSON 2.0, sections 2 and 3).
+-- The object of a tree, with points in place of its positions (CityJSON 2.0, sections 2 and 3).
 use Rattle.std.specs.Prelude.{ℕ, List, Option, option_map, option_and_then, codes}
 use Rattle.serde_json.specs.Data.{Data, Members}
 use Rattle.serde_json.specs.Find.{get, as_str, as_object}
@@ -14,7 +14,7 @@ use Rattle.city_tokens.specs.tree.Members.{kept_if, text_at}
 use Rattle.city_tokens.specs.tree.Steps.{◌>>=◌}
 use Rattle.city_tokens.specs.shape.Geometries.{geometry_of}
 
--- all members but those that are read
+-- the members, except the ones read
 abbrev pub without_object_members : Members → Members
 without_object_members ms = without_each object_members ms
 

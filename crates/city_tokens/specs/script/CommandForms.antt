@@ -1,4 +1,4 @@
--- What the tree of a command says, by the members that it has.
+-- The form of a command's tree, by its members.
 use Rattle.std.specs.Prelude.{ℕ, ◌==◌, List, [], ◌∷◌, Option, Some, None, option_map, option_and_then, codes}
 use Rattle.std.specs.Prelude.{if◌then◌else◌}
 use Rattle.std.specs.Option.{option_or}
@@ -11,8 +11,8 @@ use Rattle.city_tokens.specs.tree.Steps.{◌>>=◌}
 
 -- ---- forms
 
--- What the tree of a command says. A put and an add have the tree of their object, a reshape the tree in which its
--- `geometry` stands, which is its own.
+-- The form of a command's tree. A put and an add have the tree of their object; a reshape has its own tree, with its
+-- `geometry`.
 pub data CommandForm : Type 0 where
   ReadForm : List ℕ → CommandForm
   PutForm : List ℕ → Data → CommandForm
@@ -36,15 +36,15 @@ word_form s =
 
 -- ---- members
 
--- the member of this name, where it is a text
+-- the member of this name, if it is a text
 abbrev pub text_in : List ℕ → Members → Option (List ℕ)
 text_in name ms = option_and_then as_str (get_member name ms)
 
--- commands by the names of their members, and what each makes of its member's text
+-- commands by the names of their members, each made of its member's text
 abbrev pub Named : Type 0
 Named = List (List ℕ × (List ℕ → CommandForm))
 
--- the first of the commands whose member is there, a text
+-- the first command with its member there, a text
 abbrev pub first_named : Named → Members → Option CommandForm
 first_named [] ms = None
 first_named (k ∷ ks) ms = option_or (option_map k.1 (text_in k.0 ms)) (first_named ks ms)
@@ -98,7 +98,7 @@ pair_form ms =
     option_or (object_form ms)
     (option_or (relation_form ms) (option_or (values_form ms) (option_or (names_form ms) (reshape_form ms))))
 
--- just the members of a command: one that is a text, or two
+-- just the members of a command: a single text, or two members
 abbrev pub members_form : Members → Option CommandForm
 members_form ms =
     if members_count ms == 1 then first_named of_one_text ms
@@ -108,13 +108,13 @@ members_form ms =
 abbrev pub form_of : Data → Option CommandForm
 form_of d = option_or (option_and_then word_form (as_str d)) (option_and_then members_form (as_object d))
 
--- the tree of the object that the command gives
+-- the tree of the command's object
 abbrev pub object_tree : CommandForm → Option Data
 object_tree (PutForm id tree) = Some tree
 object_tree (AddForm id tree) = Some tree
 object_tree f = None
 
--- the tree in which the `geometry` stands that the command gives to an object that is there
+-- the tree with the `geometry` given by the command to an existing object
 abbrev pub geometry_tree : CommandForm → Option Data
 geometry_tree (ReshapeForm id tree) = Some tree
 geometry_tree f = None

@@ -1,4 +1,4 @@
--- The command that a tree stands for.
+-- The command of a tree.
 use Rattle.std.specs.Prelude.{List, Bool, Option, Some, None, option_map, option_and_then, codes, is_some}
 use Rattle.std.specs.Prelude.{◌||◌, if◌then◌else◌}
 use Rattle.serde_json.specs.Data.{Data}
@@ -22,11 +22,11 @@ use Rattle.city_tokens.specs.script.CommandForms.{MarkForm, BackForm, CommitForm
 abbrev pub names_relations : Data → Bool
 names_relations d = is_some (get (codes "parents") d) || is_some (get (codes "children") d)
 
--- the body of an object that names no relations; positions count in these points
+-- the body of an object without relations; positions count in these points
 abbrev pub unrelated_body : List Point → Data → Option Body
 unrelated_body points tree = if names_relations tree then None else body_of points tree
 
--- the geometries that stand in a tree
+-- the geometries of a tree
 abbrev pub geometries_of : List Point → Data → Option (List Geometry)
 geometries_of points tree = list_or_absent (geometry_of points) (get (codes "geometry") tree)
 

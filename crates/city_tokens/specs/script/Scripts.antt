@@ -1,4 +1,4 @@
--- The scripts that a tree stands for, and a text.
+-- The scripts of a tree, and of a text.
 use Rattle.std.specs.Prelude.{◌==◌, ◌&&◌, ◌||◌, ℕ, nat_lt, List, [], ◌∷◌, length, Bool, true, false, Option}
 use Rattle.std.specs.Prelude.{Some, None, option_map, option_and_then, codes, if◌then◌else◌, ◌≡◌}
 use Rattle.std.specs.List.{list_any}
@@ -22,7 +22,7 @@ abbrev pub is_end_text : Option (List ℕ) → Bool
 is_end_text None = false
 is_end_text (Some s) = bytes_eq s (codes "commit") || bytes_eq s (codes "abort")
 
--- the tree is the word that ends a script
+-- the tree is a word to end a script
 abbrev pub is_end_word : Data → Bool
 is_end_word d = is_end_text (as_str d)
 
@@ -30,12 +30,12 @@ abbrev pub is_last : List Data → Bool
 is_last [] = true
 is_last (d ∷ ds) = false
 
--- exactly the last of the trees is a word that ends a script
+-- exactly the last of the trees is such a word
 abbrev pub word_ends : List Data → Bool
 word_ends [] = false
 word_ends (d ∷ ds) = if is_end_word d then is_last ds else word_ends ds
 
--- the parts of a script: its name, the trees of its commands, and that of its vertices where it has any
+-- the parts of a script: its name, the trees of its commands, and the tree of its vertices, if it has any
 pub record ScriptParts : Type 0 where
   pub name : List ℕ
   pub commands : List Data
@@ -51,7 +51,7 @@ abbrev pub are_vertices : Option Data → Bool
 are_vertices None = true
 are_vertices (Some d) = are_triples d
 
--- the commands, where exactly the last ends the script
+-- the commands, if exactly the last ends the script
 abbrev pub ended : List Data → Option (List Data)
 ended ds = if word_ends ds then Some ds else None
 
@@ -73,7 +73,7 @@ parts_in ms = do
 abbrev pub parts_if : Members → Option ScriptParts
 parts_if ms = if has_script_members ms then parts_in ms else None
 
--- the parts of a script, where the tree has the form of one
+-- the parts of a script, if the tree has the form of one
 abbrev pub parts_of : Data → Option ScriptParts
 parts_of d = option_and_then parts_if (as_object d)
 

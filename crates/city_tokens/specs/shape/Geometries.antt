@@ -1,4 +1,4 @@
--- The geometry that a tree stands for, its positions replaced by points (CityJSON 2.0, section 3).
+-- The geometry of a tree, with points in place of its positions (CityJSON 2.0, section 3).
 use Rattle.std.specs.Prelude.{ℕ, zero, suc, ℤ, pos, negsuc, List, Option, None, option_map, option_and_then, slice_get}
 use Rattle.std.specs.Prelude.{codes}
 use Rattle.serde_json.specs.Data.{Data, Members}
@@ -33,7 +33,7 @@ shape_of points kind d = do
 
 -- ---- geometries
 
--- all members but those that are read
+-- the members, except the ones read
 abbrev pub without_geometry_members : Members → Members
 without_geometry_members ms = without_each geometry_members ms
 

@@ -1,4 +1,4 @@
--- Lists: the arrays that they are read from, and those that they are written as.
+-- Lists, read from arrays and written as arrays.
 use Rattle.std.specs.Prelude.{List, [], ◌∷◌, Option, Some, None, option_map, option_and_then, ℕ, map}
 use Rattle.serde_json.specs.Data.{Data, Items, no_items, item, array, Members, put}
 use Rattle.serde_json.specs.Find.{as_array}
@@ -8,11 +8,11 @@ abbrev pub read_items : {A : Type 0} → (Data → Option A) → Items → Optio
 read_items read no_items = Some []
 read_items read (item d ds) = option_and_then (λ x. option_map (λ xs. x ∷ xs) (read_items read ds)) (read d)
 
--- an array, each of whose items is read
+-- an array, with each item read
 abbrev pub list_of : {A : Type 0} → (Data → Option A) → Data → Option (List A)
 list_of read d = option_and_then (read_items read) (as_array d)
 
--- the same, where an absent member is the empty list
+-- the same, with the empty list for an absent member
 abbrev pub list_or_absent : {A : Type 0} → (Data → Option A) → Option Data → Option (List A)
 list_or_absent read None = Some []
 list_or_absent read (Some d) = list_of read d
@@ -25,12 +25,12 @@ items_list (item d ds) = d ∷ items_list ds
 abbrev pub array_of : Data → Option (List Data)
 array_of d = option_map items_list (as_array d)
 
--- what each item is read as, where each can be read
+-- each item as read, if all can be read
 abbrev pub all_read : {A B : Type 0} → (A → Option B) → List A → Option (List B)
 all_read read [] = Some []
 all_read read (x ∷ xs) = option_and_then (λ y. option_map (λ ys. y ∷ ys) (all_read read xs)) (read x)
 
--- an array of what is written for each
+-- an array of the items, as written
 abbrev pub list_data : {A : Type 0} → (A → Data) → List A → Data
 list_data f xs = array (items_of (map f xs))
 

@@ -1,10 +1,10 @@
--- The members of a tree: kept where they may be, and read as texts.
+-- The members of a tree: kept if they may be, and read as texts.
 use Rattle.std.specs.Prelude.{ℕ, List, Bool, Option, Some, None, option_and_then, if◌then◌else◌, false}
 use Rattle.serde_json.specs.Data.{Data, Members}
 use Rattle.serde_json.specs.Find.{get, as_str}
 use Rattle.std.specs.Str.{bytes_eq}
 
--- the members, where they may be kept
+-- the members, if they may be kept
 abbrev pub kept_if : (Members → Bool) → Members → Option Members
 kept_if test ms = if test ms then Some ms else None
 

@@ -1,4 +1,4 @@
--- What is read in steps: where one of them finds nothing, there is nothing.
+-- Reading in steps: if one of them finds nothing, there is nothing.
 use Rattle.std.specs.Prelude.{Option, option_and_then}
 
 infixl 10 ◌>>=◌

@@ -1,4 +1,4 @@
--- Which texts are JSON of whole numbers, and which aren't.
+-- Texts of JSON with whole numbers, and other texts.
 use Rattle.std.specs.Prelude.{◌≡◌, ◌≤◌, ◌<◌, ℕ, List, length, false, Some}
 use Rattle.std.specs.Str.{IsUtf8}
 use Rattle.serde_json.specs.Data.{Data}
@@ -13,7 +13,7 @@ max_text = 67108864
 abbrev pub IsText : List ℕ → Data → Type 0
 IsText text d = IsUtf8 text × (read text ≡ Some d)
 
--- the text is longer than any that is read
+-- the text is too long to be read
 abbrev pub IsTooLong : List ℕ → Type 0
 IsTooLong text = max_text < length text
 

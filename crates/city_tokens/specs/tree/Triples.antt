@@ -6,11 +6,11 @@ use Rattle.serde_json.specs.Find.{at, as_array, as_number, as_i64, of_integer}
 use Rattle.city_model.specs.declared.object.Point.{Point}
 use Rattle.city_tokens.specs.tree.Lists.{list_of, list_data}
 
--- the whole number that stands at index i
+-- the whole number at index i
 abbrev pub integral_at : ℕ → Data → Option ℤ
 integral_at i d = option_and_then as_i64 (option_and_then as_number (at i d))
 
--- what an array of three whole numbers makes
+-- the value made of an array of three whole numbers
 abbrev pub three_of : {A : Type 0} → (ℤ → ℤ → ℤ → A) → Data → Option A
 three_of make d =
     if is_some (at 3 d) then None

@@ -14,7 +14,7 @@ use Rattle.city_serve.proofs.OtherOptions.{text_never_free, text_shown, unknown_
 use Rattle.city_serve.proofs.OtherOptions.{unknown_refused}
 use Rattle.city_serve.proofs.command_line.asked_by.Goals as goal
 
--- what the getters give, of the rows that the walk found
+-- the getters' answers, by the rows found on the walk
 module _ (m : Found) (args : List Text) (are : rows_of m ≡ rows args) where
   text_read : (id : Text) (o : Option Text) → o ≡ first_value m id → first_of id (rows args) ≡ o
   text_read id o is = sym (is ∙ first_value-rows m id ∙ ap (first_of id) are)
