@@ -12,7 +12,7 @@ pub apart_from : (ids : List (List ℕ)) (n : ℕ) (id q : List ℕ) → n < len
     → has_id ids q ≡ false → same_id id q ≡ false
 apart_from ids n id q lt is h = grind (arith, list_any_at (same_id q) ids n id lt, same_id_back id q)
 
--- ---- ---- ids without a place
+-- ---- ids without a place
 
 -- an id without a place was listed
 pub missing_more : (m : CityMap) (all : Bool) (ids rest : List (List ℕ)) (id q : List ℕ) → is_some (m id) ≡ false

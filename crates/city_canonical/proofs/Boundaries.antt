@@ -32,7 +32,7 @@ abbrev mutual
   ArePlain no_items = Unit {0}
   ArePlain (item d ds) = IsPlain d × ArePlain ds
 
--- ---- ---- the value it was read from
+-- ---- the value it was read from
 
 -- it was encoded as itself, and is written as itself
 mutual
@@ -68,7 +68,7 @@ mutual
   plain_items no_items h = refl
   plain_items (item d ds) h = ap₂ json.item (plain_decoded d h.0) (plain_items ds h.1)
 
--- ---- ---- readers of plain data only
+-- ---- readers of plain data only
 
 abbrev pub ReadsPlain : {A : Type 0} → (Data → Option A) → Type 0
 ReadsPlain {A} read = (d : Data) (x : A) → read d ≡ Some x → IsPlain d
@@ -125,7 +125,7 @@ vertices_plain = list_plain point_of (λ d p h. (vertex_is d p h).0)
 pub vertex_itself : (d : Data) (p : Point) → point_of d ≡ Some p → outline d ≡ outline (vertex_data p)
 vertex_itself d p h = (vertex_is d p h).1
 
--- ---- ---- vertices showing points
+-- ---- vertices showing points
 
 -- the value written for a point
 abbrev pub shown_point : Point → json.Json
@@ -148,7 +148,7 @@ shows_written [] m p e = not_found p e
 shows_written (q ∷ ps) zero p e = ap (option_map shown_point) e
 shows_written (q ∷ ps) (suc m) p e = shows_written ps m p e
 
--- ---- ---- boundaries as read, with the vertices themselves
+-- ---- boundaries as read, with the vertices themselves
 
 abbrev pub shown_list : {A : Type 0} → (A → json.Json) → List A → json.Items
 shown_list f [] = json.no_items
@@ -191,7 +191,7 @@ module _ (vs : json.Items) where
     nested_placed zero = point_placed
     nested_placed (suc n) = list_placed (nested_of ps n) (shown n) (nested_placed n)
 
--- ---- ---- the first to pass a test
+-- ---- the first to pass a test
 
 pub pick : {A : Type 0} (P : A → Type 0) (b : Bool) (x y : A) (rest : Option A) → (b ≡ true → P x)
     → (rest ≡ Some y → P y) → cond b (Some x) rest ≡ Some y → P y
@@ -213,7 +213,7 @@ pub type_is : (kind : List ℕ) (t : GeometryType) → geometry_type kind ≡ So
     → (bytes_eq kind t.name ≡ true) × IsOfShape t
 type_is kind = type_found kind geometry_types ((λ x. (refl, refl)), grind arith)
 
--- ---- ---- written boundaries
+-- ---- written boundaries
 
 module _ (pool : List Point) (small : length pool < 2 ^ 63) where
   point_back : (p : Point) → of_json (outline (point_data pool p)) ≡ Some (point_data pool p)

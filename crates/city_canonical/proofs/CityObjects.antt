@@ -30,7 +30,7 @@ use Rattle.city_canonical.proofs.Boundaries.{plain_decoded}
 use Rattle.json.specs.Json as json
 use Rattle.json.specs.Find as look
 
--- ---- ---- the source of a geometry
+-- ---- the source of a geometry
 
 record IsGeometryOf (ps : List Point) (d : Data) (g : Geometry) : Type 0 where
   ms : Members
@@ -52,7 +52,7 @@ geometry_read ps d g h =
     let same_name : shape_name g.shape ≡ p.kind = search (arith, bytes_eq-Decides) in
     search (arith, and_then_some, object_is, if_some, codes, string_is, nested_plain, nested_placed, shown_shape)
 
--- ---- ---- the source of an object
+-- ---- the source of an object
 
 record IsObjectOf (ps : List Point) (d : Data) (o : Object) : Type 0 where
   ms : Members
@@ -119,7 +119,7 @@ listed_both : {A : Type 0} (f : A → Data) (xs : List A)
     × (unless_empty o ≡ o)
 listed_both f xs = grind arith
 
--- ---- ---- written values
+-- ---- written values
 
 -- the boundaries of the geometry h show the shape
 abbrev pub IsShown : json.Items → json.Json → Geometry → Type 0

@@ -84,7 +84,7 @@ whole_read ms ds read =
     sym (members_whole ds) ∙ integral (encoded (json.object ms)) (object ds) (whole (json.object ms))
     (ap (option_map object) read)
 
--- ---- ---- the attributes, as given and as read
+-- ---- the attributes, as given and as read
 
 record Both (i : Option Members) (g : Option json.Members) : Type 0 where
   a : json.Members

@@ -24,7 +24,7 @@ use Rattle.city_canonical.specs.Members.{IsBelow, Ascend}
 use Rattle.json.specs.Json as json
 use Rattle.json.specs.Find as look
 
--- ---- ---- the source of an object or an array
+-- ---- the source of an object or an array
 
 pub record IsObject (j : json.Json) (ds : Members) : Type 0 where
   pub ms : json.Members
@@ -46,7 +46,7 @@ array_read j ds is = grind arith
 pub string_is : (d : Data) (s : List ℕ) → as_str d ≡ Some s → d ≡ string s
 string_is d s h = grind arith
 
--- ---- ---- members put in and taken out
+-- ---- members put in and taken out
 
 pub apart_from : (names : List (List ℕ)) (name : List ℕ) → has_id names name ≡ false
     → AllByRecursion (λ n. same_id name n ≡ false) names
@@ -73,7 +73,7 @@ or_none o = grind arith
 
 pub ruleset lookups = (at_put, at_without, at_put_list, or_none)
 
--- ---- ---- values read
+-- ---- values read
 
 -- the value read for a member of the name
 abbrev pub member_read : Bool → List ℕ → json.Json → Option Data
@@ -147,7 +147,7 @@ pub ascend_decoded : (top : Bool) (ms : Members) → AreOrdered ms → Ascend (d
 ascend_decoded top no_members h = tt
 ascend_decoded top (member k d ms) h = (below_decoded top k ms h.0, ascend_decoded top ms h.1)
 
--- ---- ---- values decoded
+-- ---- values decoded
 
 -- the data at the name, decoded
 abbrev pub value_at : Bool → List ℕ → Data → json.Json
@@ -173,7 +173,7 @@ decoded_members_at top name (member l d ds) h =
     (decoded_step (value_at top) name l d (get_member name ds) (slice_cmp nat_cmp name l)
     (λ e. let same = exact_bytes name l e in (same, rw same (not_above l ds h.0))))
 
--- ---- ---- members not taken for a number
+-- ---- members not taken for a number
 
 -- some member has another name than the tag
 pub no_number : (name : List ℕ) → is_tag name ≡ false → (ds : Members) (d : Data) → get_member name ds ≡ Some d
@@ -185,7 +185,7 @@ pub decoded_object : (ms : Members) → number_in (members_outline ms) ≡ None
     → decoded (outline (object ms)) ≡ json.object (decoded_members false (members_outline ms))
 decoded_object ms h = rw h refl
 
--- ---- ---- a kept member
+-- ---- a kept member
 
 no_frame : (a b c : Bool) → (a && b) ≡ false → (a && (b && c)) ≡ false
 no_frame a b c e = grind arith

@@ -43,7 +43,7 @@ use Rattle.json.specs.Json as json
 use Rattle.json.specs.Find as look
 use Rattle.city_model.specs.CityMap as city
 
--- ---- ---- the source of a city
+-- ---- the source of a city
 
 record IsCityOf (ms : Members) (c : CityValue) : Type 0 where
   type : get_member (codes "type") ms ≡ Some (string (codes "CityJSON"))
@@ -119,7 +119,7 @@ bare_read ps id j d o b e is h = grind arith
 only_object : (b : Bool) (r : json.Json) (ms : json.Members) → r ≡ json.object ms → cond b (only r) r ≡ r
 only_object b r ms e = grind arith
 
--- ---- ---- objects showing their shapes
+-- ---- objects showing their shapes
 
 abbrev IsShownAt : json.Items → Option json.Json → Option Object → Type 0
 IsShownAt ws h None = Unit {0}

@@ -31,7 +31,7 @@ use Rattle.city_canonical.specs.Texts.{IsSameText, IsCanonicalFault}
 use Rattle.city_canonical.proofs.Models.{model_same}
 use Rattle.serde_json.specs.Read as serde
 
--- ---- ---- a decoded value has numbers if the value has, and nests no deeper
+-- ---- a decoded value has numbers if the value has, and nests no deeper
 
 abbrev IsTame : Json → Json → Type 0
 IsTame j k = (HasNumbers j → HasNumbers k) × (depth k ≤ depth j)

@@ -18,7 +18,7 @@ use Rattle.city_canonical.proofs.Boundaries.{triple_is, itself}
 use Rattle.json.specs.Json as json
 use Rattle.json.specs.Find as look
 
--- ---- ---- the source of a frame
+-- ---- the source of a frame
 
 pub record IsFrameOf (ms : Members) (f : Frame) : Type 0 where
   pub transform : Data

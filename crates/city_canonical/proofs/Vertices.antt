@@ -23,7 +23,7 @@ use Rattle.city_canonical.proofs.Boundaries.{shown_point, shown, shown_list, sho
 use Rattle.json.specs.Json as json
 use Rattle.json.specs.Find as look
 
--- ---- ---- properties of all points
+-- ---- properties of all points
 
 pub all_at : {A : Type 0} (P : A → Type 0) (xs : List A) (n : ℕ) (x : A) → All P xs → slice_get xs n ≡ Some x → P x
 all_at P xs n x h e = search (arith, get_or_from_slice_get, slice_get_within)
@@ -71,7 +71,7 @@ once_at (q ∷ ps) h zero (suc n) p a b = absurd (first_alone q ps n p h.0 (Some
 once_at (q ∷ ps) h (suc m) zero p a b = absurd (first_alone q ps m p h.0 (Some_inj _ _ b) a)
 once_at (q ∷ ps) h (suc m) (suc n) p a b = ap suc (once_at ps h.1 m n p a b)
 
--- ---- ---- different points are written differently
+-- ---- different points are written differently
 
 in_width : (z : ℤ) → is_i64 z ≡ true → mag z < 2 ^ 63
 in_width z h = grind arith

@@ -17,7 +17,7 @@ IsSameAt j k name = get name k ≡ option_map arranged (get name j)
 abbrev pub IsSameBeside : List (List ℕ) → Json → Json → Type 0
 IsSameBeside names j k = (name : List ℕ) → has_id names name ≡ false → IsSameAt j k name
 
--- ---- ---- lists left out if empty
+-- ---- lists left out if empty
 
 abbrev pub is_empty_list : Json → Bool
 is_empty_list null = false

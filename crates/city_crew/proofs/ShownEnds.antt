@@ -73,7 +73,7 @@ shown_first scripts start ends taken shown k begins =
           ∙ k.shows first.0,
     )
 
--- ---- ---- an example: of three scripts the second one aborts, so one change stands for one end or for two
+-- ---- an example: of three scripts the second one aborts, so one change stands for one end or for two
 
 abbrev ended : ℕ → Outcome → End
 ended script outcome = record { script = script; name = []; since = 0; replies = []; outcome = outcome }

@@ -23,7 +23,7 @@ pub record IsLineOfMembers (members : Members) (line : List ℕ) : Type 0 where
 abbrev pub IsLineOf : (Data → Type 0) → List ℕ → Type 0
 IsLineOf P line = (ms : Members) × P (object ms) × IsLineOfMembers ms line
 
--- ---- ---- the content of a line
+-- ---- the content of a line
 
 -- the member of this name is this text
 abbrev pub HasText : List ℕ → List ℕ → Data → Type 0

@@ -170,7 +170,7 @@ module _ {S : Type 0} (list : S → List Change) {d : DeskState} {shelf : S} {se
         (committed_from (held d.core stamp) (unmarked (committed d.core)) (snapshot d.core stamp) attempt.script.1
         (replies_of d n) attempt.stands attempt.unrefused (next ∙ ap Some by.1)))
 
-  -- ---- ---- as the code reads the script and its progress, and writes its end
+  -- ---- as the code reads the script and its progress, and writes its end
 
   pub place_for_end : length d.ends < capacity
   place_for_end = omega (arith, script_turns.place_left s r there unended, r.places)

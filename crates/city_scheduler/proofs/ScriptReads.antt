@@ -22,7 +22,7 @@ pub has_commands : (cs : List Command) → ends_once cs ≡ true → 0 < length 
 has_commands [] e = absurd (false≢true e)
 has_commands (c ∷ cs) e = omega arith
 
--- ---- ---- one by one
+-- ---- one by one
 
 pub one_more_scripted : (scripts : List Scripted) (n : ℕ) (x : Scripted) → n < length scripts
     → x ≡ slice_index_or scripts n x → ends_once x.1 ≡ true

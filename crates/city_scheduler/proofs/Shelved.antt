@@ -57,7 +57,7 @@ module _ (scripts : List Scripted) (start : CityMap) (es : List End) (cs : List 
             ∙ shown);
       }
 
--- ---- ---- the map after an end
+-- ---- the map after an end
 
 pub left_same : (m : CityMap) (cs : List Command) (o : Outcome) → is_commit o ≡ false → map_left m cs o ≡ m
 left_same m cs o h = grind arith
