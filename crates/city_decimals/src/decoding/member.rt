@@ -1,4 +1,4 @@
-//! The value of a member that may have a form.
+//! The value of a member with a possible form.
 ghost use Rattle.std.specs.Prelude.{◌≡◌, OnOk, Some, None, Err};
 ghost use Rattle.json.specs.Json.{value};
 ghost use Rattle.json.specs.Tree.{json_tokens};
@@ -12,7 +12,8 @@ use crate::fault::DecimalsFault;
 use json::{Reader, Value, Writer};
 use std::alloc::Global;
 
-/// Writes the next value, that of a member of this name, decoded and out of its form; a tree is made of it.
+/// Makes a tree of the next value, of a member of this name, and writes it decoded and out of its
+/// form.
 #[inline(never)]
 pub(crate) fn decode_member_tree(
     alloc: Global,
