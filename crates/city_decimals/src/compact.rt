@@ -163,7 +163,7 @@ fn copy_members(copier: &mut Copier<'_>, depth: usize, top: bool, way: Direction
 }
 
 /// Copies a member, changed, after a comma if `later`. Members under the tag aren't known here, nor
-/// `attributes` in need of a look for shields.
+/// `attributes` with a possible shield.
 #[cycle(copy)]
 #[inline(always)]
 fn copy_member(

@@ -1,4 +1,4 @@
-//! Tells whole numbers.
+//! Recognizes whole numbers.
 ghost use Rattle.std.specs.Prelude.{◌≡◌, ◌==◌, ◌<◌, ◌≤◌, true, false, IsTrue, length, take, slice_index, decimal};
 ghost use Rattle.std.specs.Bool.{OnTrue};
 ghost use Rattle.std.specs.Fmt.{signed_decimal};
@@ -10,7 +10,7 @@ ghost use Rattle.city_decimals.specs.internal.PlainNumbers.{IsPlain};
 
 use fast_float::Numeral;
 
-/// Whether a number's text is an `i64` as usually written: without point or exponent, and not `-0`.
+/// Whether a number's text is exactly how an `i64` is written: no point, no exponent, no `-0`.
 #[inline(always)]
 pub(crate) fn is_whole(text: &str) -> bool
     ensures { result ≡ is_whole text.now }
@@ -26,7 +26,7 @@ pub(crate) fn is_whole(text: &str) -> bool
     }
 }
 
-/// Whether these are 1 to 18 digits without a leading zero: an `i64` as usually written.
+/// Whether these are 1 to 18 digits without a leading zero: exactly how an `i64` is written.
 #[inline(always)]
 pub(crate) fn is_plain(bytes: &[u8]) -> bool
     ensures { OnTrue result (IsPlain bytes.now) }

@@ -10,7 +10,7 @@ ghost use Rattle.city_decimals.specs.internal.Forms.{can_have_form};
 use crate::numbers::is_whole;
 use json::Value;
 
-/// The name above a number's text.
+/// The name of the member with a number's text.
 pub(crate) const TAG: &str = "#";
 
 /// The form of a member.
