@@ -38,6 +38,6 @@ admits x each h = grind (arith, at_snoc)
 pub tells : (seat : ℕ) (k : Known) → Forks MeetsRule seat k k k
 tells seat k x each h at = grind (arith, at_snoc, at_set)
 
--- another replaces its knowledge by the news
+-- another takes over what it is told
 pub believes : (seat : ℕ) (k : Known) (other : ℕ) (w : Known) → Merges MeetsRule seat k other w w newcomer
 believes seat k other w x each h at apart there = grind (arith, at_set)

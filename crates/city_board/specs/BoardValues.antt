@@ -26,6 +26,6 @@ pub record ViewerValue : Type 0 where
 abbrev pub new_poster : Book → CityValue → PosterValue
 new_poster name city = record { name = name; opening = city; published = []; taken = [] }
 
--- a viewer of these changes
+-- a viewer who has seen these changes
 abbrev pub viewer_of : HistoryValue → CityValue → ViewerValue
 viewer_of seen opening = record { name = seen.name; opening = opening; seen = seen.changes }

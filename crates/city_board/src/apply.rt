@@ -28,7 +28,7 @@ pub fn apply(alloc: Global, city: &mut City, change: Change) -> Result<(), Chang
     Ok(())
 }
 
-/// Writes the change into the city, if each of its ids has a place there. Doesn't allocate.
+/// Writes the change into the city; each of its ids must have a place there. Doesn't allocate.
 fn write_all(city: &mut City, mut change: Change)
     requires { (q : List ℕ) → has_id (keys_of change) q ≡ true → is_some (object_at city.old.1 q) ≡ true }
     ensures frame { city.new.0 ≡ city.old.0 }

@@ -27,7 +27,7 @@ pub fn make_places(alloc: Global, city: &mut City, change: &Change) -> Result<()
     Ok(())
 }
 
-/// The ids of the change without an object in the city.
+/// The ids of the change that have no object in the city.
 fn missing(alloc: Global, city: &City, change: &Change) -> Result<Vec<Id>, OutOfMemory>
     ensures { IfOk result (λ ids. (q : List ℕ) → has_id ids.items q ≡ (has_id (keys_of change.now) q && not (is_some (object_at city.now.1 q)))) }
 {

@@ -83,7 +83,7 @@ impl<R: Wait + Drop> Poster<R> {
         }
     }
 
-    /// Takes a change, now pending. If memory runs out, nothing changes.
+    /// Takes a change as pending. If memory runs out, nothing changes.
     ///
     /// In every poster, the published changes are a prefix of those taken.
     pub fn append(&mut self, change: Change) -> Result<(), OutOfMemory>

@@ -42,7 +42,7 @@ impl Split<Known> for TellsAll {
     ghost right = { λ known. known };
 }
 
-/// Takes the news in place of the old knowledge.
+/// Replaces one's knowledge by what one is told.
 pub struct BelievesAll;
 
 impl Join<Known> for BelievesAll {

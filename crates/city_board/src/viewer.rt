@@ -46,7 +46,7 @@ impl Viewer {
     ghost use Rattle.left_right.specs.Sides.{view as view_of};
     ghost use Rattle.city_board.specs.BoardValues.{viewer_of};
 
-    /// A viewer of these changes. Doesn't allocate.
+    /// A viewer who has seen these changes. Doesn't allocate.
     pub(crate) fn new(reader: BoardReader, seen: History) -> Viewer
         requires { ((view_of reader.place).met ≡ true) × ((view_of reader.place).history.name ≡ seen.name) }
         ensures { result ≡ viewer_of seen (view_of reader.place).opening }

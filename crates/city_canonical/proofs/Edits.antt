@@ -1,4 +1,4 @@
--- Set, unset and expect do the same to members read encoded as to the members as given.
+-- Set, unset and expect have the same effect on members read encoded as on the members as given.
 use Rattle.city_canonical.proofs.Prelude.{arith, ◌≡◌, ℕ, List, [], ◌∷◌, true, false, Option, Some, None, refl, sym, ap}
 use Rattle.city_canonical.proofs.Prelude.{subst, ◌∙◌, option_map, option_and_then, HasNumbers, MembersHaveNumbers}
 use Rattle.city_canonical.proofs.Prelude.{Some_inj, Data, array, object, Items, item, no_items, Members, no_members}

@@ -163,7 +163,7 @@ decoded_step : (f : List ℕ → Data → json.Json) (name l : List ℕ) (d : Da
     ≡ option_map (f name) (match_ordering o r (Some d) r)
 decoded_step f name l d r o same = grind arith
 
--- if the names ascend, the value found is the decoded one
+-- if the names ascend, a member found in the decoding is the decoding of the member found
 pub decoded_members_at : (top : Bool) (name : List ℕ) (ds : Members) → AreOrdered ds
     → look.get_member name (decoded_members top (members_outline ds)) ≡ option_map (value_at top name)
     (get_member name ds)

@@ -1,4 +1,4 @@
--- A command on attributes does the same to an object's kept members, read encoded, as to the members as given.
+-- A command on attributes has the same effect on an object's kept members, read encoded, as on the members as given.
 use Rattle.std.specs.Prelude.{◌≡◌, ◌↔◌, ℕ, List, Option, Some, None, true}
 use Rattle.json.specs.Tree.{MembersHaveNumbers}
 use Rattle.serde_json.specs.Data.{object, Members}

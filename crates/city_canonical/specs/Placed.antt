@@ -1,4 +1,4 @@
--- Boundaries with the vertices themselves, for any indices (CityJSON 2.0, sections 2 and 3).
+-- Boundaries with the vertices themselves in place of their indices (CityJSON 2.0, sections 2 and 3).
 use Rattle.std.specs.Prelude.{ℕ, List, Option, Some, None, option_and_then}
 use Rattle.json.specs.Json.{Json, null, boolean, number, string, array, object, Items, no_items, item}
 use Rattle.json.specs.Find.{get, get_item, as_array}

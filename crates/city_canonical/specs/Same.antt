@@ -1,6 +1,6 @@
--- Models are the same up to the changes of the canonical form: the names of each object are in order, the last value
--- of a repeated name stays, empty lists are left out, vertices have other indices, each vertex is there once, and
--- vertices in no geometry are dropped (CityJSON 2.0, sections 2 and 3).
+-- Models that differ only by the canonical form: the names of each object are in order, the last value of a repeated
+-- name stays, empty lists are left out, vertices have other indices, each vertex is there once, and vertices in no
+-- geometry are dropped (CityJSON 2.0, sections 2 and 3).
 use Rattle.std.specs.Prelude.{◌≡◌, ◌⊎◌, ℕ, List, [], ◌∷◌, Option, Some, None, option_map, option_and_then, codes}
 use Rattle.json.specs.Json.{Json, null, boolean, number, string, array, object, Items, no_items, item}
 use Rattle.json.specs.Find.{get, get_item}

@@ -13,6 +13,6 @@ pub record AreSeen (viewers commits : ℕ) (seen : List (Vec ℕ)) : Type 0 wher
   pub rising : All (λ s. Rises s.items) seen
   pub at_last : All (λ s. last_of s.items ≡ commits) seen
 
--- this is the number of commits in some prefix of the ends
+-- the number of changes is the number of commits in some prefix of the ends
 abbrev pub OfFirstEnds : List End → ℕ → Type 0
 OfFirstEnds ends changes = (n : ℕ) × (n ≤ length ends) × (commits_in (take n ends) ≡ changes)

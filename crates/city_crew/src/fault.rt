@@ -12,7 +12,7 @@ pub enum CrewFault {
     NoPlace,
     /// A script had not ended when the workers had.
     Unfinished,
-    /// The gathered results aren't all of this run.
+    /// The gathered results aren't of this run.
     Mixed,
 }
 

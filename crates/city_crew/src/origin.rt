@@ -1,4 +1,4 @@
-//! A run's opening city and scripts as a type: so the state under its lock can name its run.
+//! A run's opening city and scripts as a type. So the state under the lock can name its run.
 use std::marker::Brand;
 
 /// The opening city and scripts of a run. Each run picks them; they exist for the proofs only.

@@ -2,7 +2,7 @@
 use city_model::OutOfMemory;
 use std::alloc::Global;
 
-/// The script of each worker asleep.
+/// The script of each sleeping worker.
 #[derive(Drop)]
 pub struct Sleepers {
     scripts: Vec<Option<usize>>,
@@ -18,7 +18,7 @@ impl Sleepers {
         Ok(Sleepers { scripts })
     }
 
-    /// The script of a worker asleep.
+    /// The script of a sleeping worker.
     pub fn script(&self, worker: usize) -> Option<usize> {
         match self.scripts.get(worker) {
             Some(script) => *script,
@@ -33,7 +33,7 @@ impl Sleepers {
         }
     }
 
-    /// The worker asleep with the script.
+    /// The worker sleeping with the script.
     pub fn worker(&self, script: usize) -> Option<usize> {
         self.scripts.iter().position(|other| *other == Some(script))
     }

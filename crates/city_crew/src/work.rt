@@ -34,7 +34,7 @@ pub trait Turns: Drop {
     /// Notes the worker as awake; returns the script it slept with last.
     fn rise(&mut self, worker: usize) -> Option<usize>;
 
-    /// The worker asleep with the oldest script.
+    /// The worker sleeping with the oldest script.
     fn to_be_woken(&self) -> Option<usize>;
 
     /// Puts a script to bed in place of the oldest and returns the oldest, if a worker sleeps with
@@ -162,8 +162,8 @@ fn make_one<R: Wait, T: Turns>(rt: &R, turns: &mut T, task: Task) -> (Option<Tas
 }
 
 /// Makes many turns of a script, and of its successors if it ends soon. A long successor is
-/// exchanged for the oldest script, asleep with another worker: its data is at hand here, and not
-/// where its worker sleeps.
+/// exchanged for the oldest script, if a worker sleeps with that: the oldest's data is at hand
+/// here, and not where its worker sleeps.
 fn make_many<R: Wait, T: Turns>(rt: &R, turns: &mut T, task: Task) -> (Option<Task>, Rest) {
     let mut task = task;
     let mut made = 0usize;
@@ -204,9 +204,8 @@ fn end<R: Wait, T: Turns>(rt: &R, turns: &mut T) -> Option<Task> {
     take(turns)
 }
 
-/// Makes turns of a script up to one that ends it, kills it or waits, or begins it if it has to
-/// sleep until it is the oldest, but no more than `TURNS_AT_ONCE`. Returns the last turn and their
-/// number.
+/// Makes turns of a script until one ends it, kills it or waits, or begins it if it is to sleep
+/// until it is the oldest; at most `TURNS_AT_ONCE`. Returns the last turn and the number of turns.
 fn go_on<T: Turns>(turns: &mut T, task: &mut Task) -> (Turn, usize) {
     for made in 1..TURNS_AT_ONCE {
         let turn = turn_once(turns, task);

@@ -1,4 +1,4 @@
--- Values neither shielded nor shields, and how a text shows it.
+-- Values that are neither shielded nor a shield, and how a text shows it.
 use Rattle.city_decimals.proofs.Prelude.{arith, ◌≡◌, ℕ, List, [], ◌∷◌, ◌++◌, Bool, true, false, get_or, refl, subst}
 use Rattle.city_decimals.proofs.Prelude.{append_assoc, ◌∙◌, ◌&&◌, Json, null, boolean, number, string, array, object}
 use Rattle.city_decimals.proofs.Prelude.{no_items, item, IsNumber, HasNumbers, is_tag, is_attributes, is_text_or_array}

@@ -1,4 +1,4 @@
--- The copies of encoded numbers and of transforms in frames.
+-- Copies of encoded numbers and of transforms in frames.
 use Rattle.city_decimals.proofs.Prelude.{◌≡◌, ℕ, ◌-◌, ◌≤◌, List, [], ◌∷◌, ◌++◌, Bool, true, false, cond, None, refl}
 use Rattle.city_decimals.proofs.Prelude.{sym, ap, ◌∙◌, arith, append_assoc, append-nil, codes, Json, number, object}
 use Rattle.city_decimals.proofs.Prelude.{Members, no_members, member, escape, IsNumber, framed, only, fronted, encoded}

@@ -1,4 +1,4 @@
--- A compact text is the print of its value, and its copy that of the changed value.
+-- A compact text is the print of its value; its copy is the print of the changed value.
 use Rattle.city_decimals.proofs.Prelude.{◌≤◌, Some, ◌≡◌, ℕ, [], ◌∷◌, ◌++◌, false, refl, sym, ap, ◌∙◌, arith}
 use Rattle.city_decimals.proofs.Prelude.{append_assoc, append-nil, IsUtf8, null, boolean, number, string, array, object}
 use Rattle.city_decimals.proofs.Prelude.{Items, no_items, item, Members, no_members, member, value, if_last}

@@ -1,4 +1,4 @@
--- Setting, taking out and expecting members, as read, does the same to the members themselves.
+-- Setting, taking out and expecting members has the same effect on members as read as on the members themselves.
 use Rattle.city_decimals.proofs.Prelude.{arith, ◌≡◌, ℕ, List, [], ◌∷◌, Bool, true, false, cond, Option, Some, None}
 use Rattle.city_decimals.proofs.Prelude.{Ordering, refl, sym, ap, ◌∙◌, subst, option_map, option_and_then}
 use Rattle.city_decimals.proofs.Prelude.{match_ordering, bytes_eq, bytes_eq-Decides, MembersHaveNumbers}
@@ -165,7 +165,7 @@ some_read (json.member k j ms) found ds read some none =
     let b = bound (λ d. more ms (put k d found)) (member_read k j) ds read in
     some_read ms (put k b.0 found) ds b.2 (put_some k b.0 found) none
 
--- only no members are read as none
+-- the members read are none exactly if the members are
 pub none_read : (ms : json.Members) (ds : Members) → AreRead ms ds
     → (ds ≡ no_members) ↔ (ms ≡ json.no_members)
 none_read json.no_members ds read = ((λ e. refl), (λ e. sym (Some_inj _ _ read)))

@@ -46,7 +46,7 @@ ordered_put k d (member l e ms) h =
 
 -- ---- two members put in
 
--- if it isn't below a, it is below b
+-- a name not above a is below b
 later : (a b l : List ℕ) → cmp a b ≡ Less → (cmp a l ≡ Less → ⊥) → cmp b l ≡ Greater
 later a b l less at = grind (arith, exact_bytes, turned, turned_back, nat_list_cmp_total.trans)
 
@@ -100,7 +100,7 @@ into_step Equal k l x y es ds at h rest =
     ∙ ap (λ n. put n x (put_each es (put l y ds))) (sym same)
 into_step Greater k l x y es ds at h rest = rest
 
--- a member put in among the members to put in
+-- a member put among those to put in goes in last
 pub put_into : (k : List ℕ) (x : Data) (es ds : Members) → AreOrdered es
     → put_each (put k x es) ds ≡ put k x (put_each es ds)
 put_into k x no_members ds h = refl
@@ -129,7 +129,7 @@ same_step Less k l x y ms at itself rest = rw itself refl
 same_step Equal k l x y ms at itself rest = grind (arith, exact_bytes k l at)
 same_step Greater k l x y ms at itself rest = rw rest refl
 
--- a member put in is out
+-- a member put in under a name is taken out with it
 pub without_same : (k : List ℕ) (x : Data) (ms : Members) → without k (put k x ms) ≡ without k ms
 without_same k x no_members = rw ((bytes_eq-Decides k k).1 refl) refl
 without_same k x (member l y ms) =

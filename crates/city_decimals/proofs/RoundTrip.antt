@@ -67,7 +67,7 @@ frame_encoded j h = frame_encoded_with scale_is_other translate_is_other j h
 
 -- ---- a member
 
--- a value without a shield isn't taken for a filled one
+-- a value that isn't shielded stays as it is when shields are opened
 pub only_other : (k : List ℕ) (j : Json) → is_shielded k j ≡ false → cond (has_shield k j) (only j) j ≡ j
 only_other k j h = other (is_tag k) (is_attributes k) j h
   where
@@ -75,7 +75,7 @@ only_other k j h = other (is_tag k) (is_attributes k) j h
         → cond (t || (a && is_single j)) (only j) j ≡ j
     other t a j h = grind arith
 
--- a shield, and nothing else, is opened
+-- the array around a shielded value is recognized as a shield
 pub shield_is : (k : List ℕ) (j : Json) → is_shielded k j ≡ true → has_shield k (array (item j no_items)) ≡ true
 shield_is k j h = is (is_tag k) (is_attributes k) j h
   where

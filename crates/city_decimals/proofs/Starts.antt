@@ -23,7 +23,7 @@ pub first_token : (d : ℕ) (t : Token) (ts : List Token) (j : Json) (r : List T
     → value d (t ∷ ts) ≡ Some (j, r) → t ≡ first j
 first_token d t ts j r e = begins _ _ t ts j r (sym (value_is d (t ∷ ts)) ∙ e)
 
--- ---- so a value other than an object is known
+-- ---- values other than objects
 
 top_other : (t : Token) (j : Json) → (t ≡ Token.begin_object → ⊥) → t ≡ first j → encoded_top j ≡ encoded j
 top_other t j other e = grind arith

@@ -19,7 +19,7 @@ module _ {A : Type 0} (f : A → List Token) where
       → written f out o ≡ written f now s → s ≡ None → o ≡ None
   none_written out now o s e h = grind arith
 
-  -- another form of the output for the same value
+  -- another function with the same output for the value read
   pub written_as : (g : A → List Token) (out now : List Token) (o : Option (A × List Token)) (r : List Token)
       → written f out o ≡ Some (now, r)
       → ((a : A) → o ≡ Some (a, r) → g a ≡ f a) → written g out o ≡ Some (now, r)
@@ -32,7 +32,7 @@ module _ {A : Type 0} (f : A → List Token) where
   token_first h g t is out None = refl
   token_first h g t is out (Some p) = search (arith, append_assoc)
 
--- a value's output is that of its source
+-- the output for a value made by h is the output for its source
 pub written_with : {A B : Type 0} (h : A → B) (g : B → List Token) (f : A → List Token)
     → ((a : A) → g (h a) ≡ f a) → (out : List Token) (o : Option (A × List Token))
     → written g out (parse_map h o) ≡ written f out o

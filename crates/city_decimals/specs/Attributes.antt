@@ -1,4 +1,4 @@
--- The editor does the same to the attributes of an object, read encoded, as to the attributes themselves.
+-- Editing the encoded attributes of an object has the same effect as editing the attributes themselves.
 use Rattle.std.specs.Prelude.{◌≡◌, ◌↔◌, ℕ, List, [], ◌∷◌, false, cond, Option, Some, is_some, codes}
 use Rattle.std.specs.Prelude.{option_and_then}
 use Rattle.std.specs.Str.{bytes_eq}
@@ -69,14 +69,13 @@ member_read k j = of_json (in_form (form_of false k j) (encoded j))
 abbrev pub AreRead : json.Members → Members → Type 0
 AreRead ms ds = of_members (encoded_members false ms) no_members ≡ Some ds
 
--- they are read as ds, and the decoding of ds, as written, is the members, arranged
+-- the members are read as ds, and ds, written and decoded, is the members, arranged
 abbrev pub AreKeptAs : json.Members → Members → Type 0
 AreKeptAs ms ds = AreRead ms ds × (decoded (outline (object ds)) ≡ arranged (json.object ms))
 
 -- ---- the laws
 
--- Under `attributes` the editor finds the last member of the name, as read; it is read as an object exactly if it is
--- one.
+-- Under `attributes` the editor finds the last member of the name, as read, and reads an object exactly if it is one.
 abbrev pub FindsAttributes : Type 0
 FindsAttributes =
     (ms : json.Members) (ds : Members) → MembersHaveNumbers ms → AreRead ms ds
@@ -84,20 +83,21 @@ FindsAttributes =
     × ((j : json.Json) (d : Data) → member_read attributes j ≡ Some d
     → is_some (as_object d) ≡ is_some (find.as_object j))
 
--- setting members among others, both read encoded, gives the encoding of the others, then those members
+-- setting e among d keeps it as a followed by s
 abbrev pub KeepsSets : Type 0
 KeepsSets =
     (a s : json.Members) (d e : Members) → MembersHaveNumbers a → MembersHaveNumbers s → AreRead a d → AreRead s e
     → AreKeptAs (append a s) (put_each e d)
 
--- leaving out members, read encoded, gives the encoding of the remaining ones; and nothing remains exactly if none do
+-- leaving names out of d keeps it as a without these names; nothing is left of one exactly if nothing is left of the
+-- other
 abbrev pub KeepsUnsets : Type 0
 KeepsUnsets =
     (a : json.Members) (d : Members) (names : List (List ℕ)) → MembersHaveNumbers a → AreRead a d
     → AreKeptAs (leave_out_each names a) (without_each names d)
     × ((without_each names d ≡ no_members) ↔ (leave_out_each names a ≡ json.no_members))
 
--- members are found among others, both read encoded, exactly if they are among them
+-- e is among d exactly if s is within a, both arranged
 abbrev pub KeepsExpects : Type 0
 KeepsExpects =
     (a s : json.Members) (d e : Members) → MembersHaveNumbers a → MembersHaveNumbers s → AreRead a d → AreRead s e

@@ -23,7 +23,7 @@ abbrev pub number_or : Option (List ℕ) → Members → Json
 number_or None ms = object ms
 number_or (Some s) ms = number s
 
--- the value for a member j with decoded parts r
+-- the value of a member j without its form; r is j with its parts decoded
 abbrev pub out_of_form : Bool → List ℕ → Json → Json → Json
 out_of_form top k j r = cond (top && is_transform k j) (fronted r) (cond (has_shield k r) (only r) r)
 

@@ -1,4 +1,4 @@
--- The values of an encoded text that the editor keeps.
+-- The part of an encoded value that the editor keeps.
 use Rattle.std.specs.Prelude.{◌≡◌, Some, true, codes}
 use Rattle.json.specs.Json.{Json}
 use Rattle.json.specs.Tree.{HasNumbers}

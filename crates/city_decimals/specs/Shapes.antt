@@ -54,7 +54,7 @@ is_text (string s) = true
 is_text (array js) = false
 is_text (object ms) = false
 
--- an array of one item, not a text
+-- an array of one item other than a text
 abbrev pub is_single : Json → Bool
 is_single null = false
 is_single (boolean b) = false
@@ -86,7 +86,7 @@ form_of top k j = cond (top && is_transform k j) Framed (cond (is_shielded k j) 
 abbrev pub three : List ℕ → Json
 three s = array (item (number s) (item (number s) (item (number s) no_items)))
 
--- the identity, beside the transform in its place
+-- the identity, with the transform under the tag
 abbrev pub framed : Json → Json
 framed j = object (member tag j (member (codes "scale") (three (codes "1")) (member (codes "translate") (three
     (codes "0")) no_members)))

@@ -162,8 +162,8 @@ fn copy_members(copier: &mut Copier<'_>, depth: usize, top: bool, way: Direction
     Some(())
 }
 
-/// Copies a member, changed, after a comma if `later`. Members under the tag aren't known here, nor
-/// `attributes` with a possible shield.
+/// Copies a member, changed, after a comma if `later`. Returns `None` for a member under the tag,
+/// and for `attributes` that may be shielded or a shield.
 #[cycle(copy)]
 #[inline(always)]
 fn copy_member(

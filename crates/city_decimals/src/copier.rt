@@ -230,7 +230,7 @@ impl<'a> Copier<'a> {
         Some(())
     }
 
-    /// The bytes up to the first impossible in a number.
+    /// The bytes before the first that can't be in a number.
     pub(crate) fn next_number(&self) -> &'a [u8]
         ensures within { length result.now ≤ length self.now.2 }
         ensures front { take (length result.now) self.now.2 ≡ result.now }
@@ -326,7 +326,7 @@ fn comma_len(later: bool) -> usize
     if later { 1 } else { 0 }
 }
 
-/// The end of the bytes possible in a number.
+/// The end of the bytes that may be in a number.
 fn number_end(text: &[u8]) -> usize
     ensures within { result ≤ length text.now }
     ensures plain { (i : ℕ) → i < result → IsPlainByte (get_or text.now i 0) }
@@ -353,8 +353,8 @@ fn is_mark(byte: u8) -> bool
 }
 
 /// The index of the closing quote of a string; the text begins with the inside. `None` if the
-/// inside isn't escaped as by a writer, or has another escape than of a quote, a backslash or a
-/// newline.
+/// inside isn't escaped as a writer does it, or has escapes other than of a quote, a backslash and
+/// a newline.
 #[inline(always)]
 fn string_end(text: &[u8]) -> Option<usize>
     ensures within { IfSome result (λ end. end + 1 ≤ length text.now) }

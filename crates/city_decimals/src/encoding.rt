@@ -23,8 +23,8 @@ use std::alloc::Global;
 pub(crate) use tree::encode_tree;
 
 /// Returns the text in one line, each number other than an `i64` as a text under `#`. A text or an
-/// array under `#` is shielded; under `attributes`, such a number or an array like its shield. A
-/// `transform` at the top is framed.
+/// array under `#` is shielded; under `attributes`, so are such a number and an array like its
+/// shield. A `transform` at the top is framed.
 pub fn encode(alloc: Global, bytes: &[u8]) -> Result<Vec<u8>, DecimalsFault>
     ensures encoded { IfOk result (λ out. IsEncoded bytes.now out.items) }
 

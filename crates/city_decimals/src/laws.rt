@@ -9,9 +9,8 @@ pub fn what_is_kept()
     ensures transforms { KeepsTransforms }
 {}
 
-/// The editor does the same to the attributes of an object, read encoded, as to the attributes
-/// themselves: it finds them, sets them, takes them out, compares them, and writes them in their
-/// place.
+/// Editing an object's encoded attributes has the same effect as editing the attributes themselves:
+/// the editor finds them, sets them, takes them out, compares them, and writes them in their place.
 pub fn what_is_edited()
     ensures finds { FindsAttributes }
     ensures sets { KeepsSets }

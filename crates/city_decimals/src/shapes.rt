@@ -74,7 +74,7 @@ pub(crate) fn has_shield(key: &str, value: &Value<'_>) -> bool
     is_tag(key) || (is_attributes(key) && is_single(value))
 }
 
-/// Whether this is an array of one item, not a text.
+/// Whether this is an array of one item other than a text.
 fn is_single(value: &Value<'_>) -> bool
     ensures { result ≡ is_single (value_view value.now) }
 {
@@ -90,7 +90,7 @@ pub(crate) fn is_text(value: &Value<'_>) -> bool
     matches!(value, Value::String(_))
 }
 
-/// Whether this is a number, not a whole one.
+/// Whether this is a number that isn't whole.
 fn is_fraction(value: &Value<'_>) -> bool
     ensures { result ≡ is_fraction (value_view value.now) }
 {
@@ -106,7 +106,7 @@ fn is_text_or_array(value: &Value<'_>) -> bool
     matches!(value, Value::String(_) | Value::Array(_))
 }
 
-/// Whether this is a transform to frame.
+/// Whether this is a `transform` with a scale and a translation.
 pub(crate) fn is_transform(key: &str, value: &Value<'_>) -> bool
     ensures { result ≡ is_transform key.now (value_view value.now) }
 {

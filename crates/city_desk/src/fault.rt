@@ -17,7 +17,7 @@ pub enum RunFault {
     NoPlace,
     /// A script had not ended when the workers had.
     Unfinished,
-    /// The gathered results aren't all of this run.
+    /// The gathered results aren't of this run.
     Mixed,
 }
 

@@ -33,7 +33,7 @@ is_script = record { no_text = refl; no_number = refl; no_fault = refl; no_messa
 is_command : IsOther (codes "command")
 is_command = record { no_text = refl; no_number = refl; no_fault = refl; no_message = refl; no_cure = refl }
 
--- a member of another name leaves the fault told
+-- putting in a member of another name keeps the fault told
 still_told : (kind name : List ℕ) (n : ℕ) (k : List ℕ) (d : Data) (ms : Members) → IsOther k
     → TellsFault kind n name (object ms) → TellsFault kind n name (object (put k d ms))
 still_told kind name n k d ms other told = record {

@@ -19,7 +19,7 @@ pub record IsLineOfMembers (members : Members) (line : List ℕ) : Type 0 where
   pub has_no_newline : is_one_line (compact_text (object members)) ≡ true
   pub has_its_text : line ≡ compact_text (object members) ++ 10 ∷ []
 
--- the line of an object with the property
+-- the line of some object with property P
 abbrev pub IsLineOf : (Data → Type 0) → List ℕ → Type 0
 IsLineOf P line = (ms : Members) × P (object ms) × IsLineOfMembers ms line
 
@@ -53,6 +53,6 @@ AreLinesOf tells [] lines = lines ≡ []
 AreLinesOf tells (f ∷ fs) lines =
     (line : List ℕ) × (rest : List ℕ) × IsLineOf (tells f) line × AreLinesOf tells fs rest × (lines ≡ line ++ rest)
 
--- the first line is of an object with the property
+-- the first line is of some object with property P
 abbrev pub FirstLineIs : (Data → Type 0) → List ℕ → Type 0
 FirstLineIs P lines = (line : List ℕ) × (rest : List ℕ) × IsLineOf P line × (lines ≡ line ++ rest)

@@ -27,7 +27,8 @@ pub fn check_document(alloc: Global, text: &[u8], is_given: bool) -> Result<Vec<
     ensures accepted { IfOk result (λ lines. lines.items ≡ [] → IsAccepted text.now) }
     ensures none { IsAccepted text.now → IfOk result (λ lines. lines.items ≡ []) }
 
-    // The first line tells a fault of `read_city`, and any of its faults but out of memory.
+    // The first line tells a fault that `read_city` answers, and any one it answers but out of
+    // memory.
     ensures first { IfOk result (λ lines. (lines.items ≡ [])
         ⊎ ((f : fault.ReadFault) × DocumentFault text.now f × FirstLineIs (Tells f) lines.items)) }
     ensures answered { IfOk result (λ lines. (f : fault.ReadFault) → DocumentFault text.now f
@@ -90,7 +91,7 @@ pub fn tree_for(
     }
 }
 
-/// A document's fault as the fault of a text, if any text may have it.
+/// A document's fault as a `TextFault`, if it is one.
 pub fn text_fault_of(fault: &ReadFault) -> Option<TextFault> {
     match fault {
         ReadFault::TooLong => Some(TextFault::TooLong),
@@ -100,7 +101,7 @@ pub fn text_fault_of(fault: &ReadFault) -> Option<TextFault> {
     }
 }
 
-/// A fault of scripts as the fault of a text, if any text may have it.
+/// A fault of scripts as a `TextFault`, if it is one.
 pub fn script_text_fault_of(fault: &ScriptFault) -> Option<TextFault> {
     match fault {
         ScriptFault::TooLong => Some(TextFault::TooLong),

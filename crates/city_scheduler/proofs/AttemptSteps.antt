@@ -38,7 +38,7 @@ by_wait a reply e = grind arith
 by_die : (a : Answer) (reply : Reply) → step_of a reply ≡ steps.Die → a ≡ Die
 by_die a reply e = grind arith
 
--- ---- a transaction over without a commit
+-- ---- a transaction that ended without a commit
 
 pub gave_up : {stamp number : ℕ} {command : Command} {v w : CoreState} {changes : List Change} (outcome : Outcome)
     → is_commit outcome ≡ false → EndsIn v stamp command number outcome

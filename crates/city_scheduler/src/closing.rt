@@ -11,7 +11,7 @@ fn roll_back_if_open(core: &mut Core, stamp: u64)
     ensures keeps { KeepsCity core.old core.new }
     ensures opened { (t : ℕ) → is_open core.new t ≡ (if stamp == t then false else is_open core.old t) }
 {
-    // An error means: it wasn't open.
+    // An error means that it wasn't open.
     let _ = core.abort(stamp);
 }
 

@@ -28,7 +28,7 @@ use std::alloc::Global;
 use std::marker::Model;
 use std::sync::Wait;
 
-/// Takes turns of scripts on one core, and keeps their ends.
+/// Runs scripts in turns on one core, and keeps their ends.
 ///
 /// Contracts see the opening city, the scripts, the ends, the progress of each script, the core,
 /// and the shelf.
@@ -254,8 +254,8 @@ impl<S: Shelf> Desk<S> {
         }
     }
 
-    /// The final city, the ends and the shelf, or the unchanged desk if a script hasn't ended.
-    /// Doesn't allocate.
+    /// Returns the final city, the ends and the shelf, or the unchanged desk if a script hasn't
+    /// ended. Doesn't allocate.
     pub fn finish(self) -> Result<Finished<S>, Desk<S>>
         ensures ended { IsOk result ↔ ((n : ℕ) → n < length self.0.scripts → has_end n self.0.ends ≡ true) }
         ensures each_once { IfOk result (λ f. length f.ends ≡ length self.0.scripts) }
@@ -273,8 +273,8 @@ impl<S: Shelf> Desk<S> {
         Ok(Finished { city, ends, shelf })
     }
 
-    /// Rolls back every open transaction and gives the city after the ends so far, the ends and the
-    /// shelf. Doesn't allocate.
+    /// Rolls back every open transaction and returns the city after the ends so far, the ends and
+    /// the shelf. Doesn't allocate.
     pub fn close(self) -> (City, Sequence<End>, S)
         ensures frame { result.0.0 ≡ self.0.start.0 }
         ensures city { object_at result.0.1 ≡ model_after self.0.scripts (object_at self.0.start.1) self.0.ends }

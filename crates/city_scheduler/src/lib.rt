@@ -1,4 +1,4 @@
-//! The scheduler: takes turns of scripts on one transaction core, and keeps their ends.
+//! The scheduler: runs scripts in turns on one transaction core, and keeps their ends.
 //!
 //! - `desk`, `turn`: the desk, and its answer to a turn
 //! - `opening`, `attempt`, `ready`, `closing`: room made at its opening, the next command of a script, the choice of

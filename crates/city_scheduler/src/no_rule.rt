@@ -1,7 +1,7 @@
-//! The rule of a record without additions, for the proofs only.
+//! The rule of a record that never grows, for the proofs only.
 use logbook::Rule;
 
-/// The rule of a record without additions.
+/// The rule of a record that never grows.
 pub struct NoRule;
 
 impl<E> Rule<E, u64> for NoRule {

@@ -13,7 +13,7 @@ abbrev pub top_changed : Direction → Json → Json
 top_changed Encode j = encoded_top j
 top_changed Decode j = decoded_top j
 
--- out is the compact text of the changed value of the text, nested no deeper than the limit
+-- the text nests no deeper than the limit, and out is the compact text of its changed value
 pub record IsChanged (limit : ℕ) (way : Direction) (text out : List ℕ) : Type 0 where
   pub j : Json
   pub value : IsValueTo limit j text

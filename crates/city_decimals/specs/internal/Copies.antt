@@ -16,7 +16,7 @@ pub record IsCopier (c : Inside) : Type 0 where
   pub within : c.at ≤ length c.text.now
   pub behind : c.base ≤ length c.out.items
 
--- xs is read of the text left, and ys is the output for it
+-- xs is read from the text left, and ys is its output
 abbrev pub Moves : List ℕ × List ℕ × List ℕ → List ℕ × List ℕ × List ℕ → List ℕ → List ℕ → Type 0
 Moves old new xs ys = (old.2 ≡ xs ++ new.2) × (new.1 ≡ old.1 ++ ys)
 

@@ -12,7 +12,7 @@ use Rattle.city_decimals.specs.declared.shapes.Form.TheVariants.{Plain, Shielded
 abbrev pub can_have_form : Bool → List ℕ → Bool
 can_have_form top k = (top && bytes_eq k (codes "transform")) || is_tag k
 
--- an object, or an array with a text first: under `attributes` it is neither shielded nor a shield
+-- an object, or an array that begins with a text: under `attributes` it is neither shielded nor a shield
 abbrev pub is_bare : Json → Bool
 is_bare null = false
 is_bare (boolean b) = false

@@ -50,8 +50,8 @@ pub(super) fn is_framed(top: bool, key: &[u8]) -> bool
     top && key == b"transform".as_slice()
 }
 
-/// Whether the next value under this name may be shielded or a shield, judged by the text. Under
-/// `attributes`, only an object, or an array with a text first, can't be.
+/// Whether the next value under this name may be shielded or a shield, judged by the text. Every
+/// value of `attributes` may be, except an object or an array that begins with a text.
 #[inline(always)]
 pub(super) fn may_be_shielded(key: &[u8], rest: &[u8]) -> bool
     ensures { result ≡ false → bytes_eq key.now (codes "attributes") ≡ true → BeginsBare rest.now }
@@ -59,7 +59,7 @@ pub(super) fn may_be_shielded(key: &[u8], rest: &[u8]) -> bool
     key == b"attributes".as_slice() && !begins_bare(rest)
 }
 
-/// Whether an object is next, or an array with a text first.
+/// Whether an object is next, or an array that begins with a text.
 fn begins_bare(rest: &[u8]) -> bool
     ensures { OnTrue result (BeginsBare rest.now) }
 {

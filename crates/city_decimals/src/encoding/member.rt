@@ -1,4 +1,4 @@
-//! The value of a member with a possible form.
+//! The value of a member that may get a form.
 ghost use Rattle.std.specs.Prelude.{◌≡◌, OnOk, Some, None, Err};
 ghost use Rattle.json.specs.Json.{value};
 ghost use Rattle.json.specs.Tree.{json_tokens};
@@ -14,7 +14,7 @@ use crate::shapes::form_of;
 use json::{Reader, Value, Writer};
 use std::alloc::Global;
 
-/// Makes a tree of the next value, of a member of this name, and writes it encoded and in its form.
+/// Reads the value of a member of this name as a tree, and writes it encoded and in its form.
 #[inline(never)]
 pub(crate) fn encode_member_tree(
     alloc: Global,

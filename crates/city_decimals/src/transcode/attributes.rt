@@ -1,4 +1,4 @@
-//! Values under `attributes`, possibly shielded or a shield.
+//! Values under `attributes`: they may be shielded or a shield.
 ghost use Rattle.std.specs.Prelude.{◌≡◌, ◌++◌, OnOk};
 ghost use Rattle.json.specs.Json.{number, array, item, no_items};
 ghost use Rattle.json.specs.Print.{IsNumber};
@@ -68,7 +68,7 @@ pub(super) fn write_single(way: Direction, only: &Value<'_>, out: &mut Writer) -
     }
 }
 
-/// Writes an array of this item alone, changed as outside of a member.
+/// Writes an array of this item alone, changed, but without a form.
 fn write_array(way: Direction, only: &Value<'_>, out: &mut Writer) -> Result<(), OutOfMemory>
     requires numbers { HasNumbers (value_view only.now) }
     ensures before { OnOk result (out.new.before ≡ out.old.before) }

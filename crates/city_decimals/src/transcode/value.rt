@@ -165,7 +165,7 @@ fn transcode_object(
     }
 }
 
-/// Writes the decoding of the members, the first of them of this name. Makes a tree of its value.
+/// Writes the decoding of the members; the first has this name. Makes a tree of its value.
 #[cycle(change)]
 #[inline(always)]
 fn decode_tagged(
@@ -190,7 +190,7 @@ fn decode_tagged(
     }
 }
 
-/// Writes the members, changed, the first of them of this name, and the closing brace.
+/// Writes the members, changed, and the closing brace; the first has this name.
 #[cycle(change)]
 #[inline(always)]
 fn transcode_members(
@@ -240,7 +240,7 @@ fn transcode_more(
     Ok(())
 }
 
-/// Writes the next value, of a member of this name, changed and into or out of its form.
+/// Writes the value of a member of this name, changed and into or out of its form.
 #[cycle(change)]
 #[inline(always)]
 fn transcode_member(
@@ -266,7 +266,7 @@ fn transcode_member(
     }
 }
 
-/// Writes the next value, of a member `attributes`, changed and into or out of its shield.
+/// Writes the value of a member `attributes`, changed and into or out of its shield.
 #[cycle(change)]
 #[inline(never)]
 fn transcode_attributes(
@@ -326,7 +326,8 @@ fn transcode_attributes_items(
     transcode_items(alloc, way, reader, depth, out)
 }
 
-/// Writes the next value, of a member of this name, changed and into or out of its form.
+/// Writes the value of a member of this name, changed and into or out of its form. Makes a tree of
+/// it.
 #[inline(always)]
 fn transcode_member_tree(
     alloc: Global,

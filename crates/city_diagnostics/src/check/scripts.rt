@@ -23,7 +23,8 @@ pub fn check_scripts(alloc: Global, text: &[u8], is_given: bool) -> Result<Vec<u
     ensures accepted { IfOk result (λ lines. lines.items ≡ [] → IsAccepted text.now) }
     ensures none { IsAccepted text.now → IfOk result (λ lines. lines.items ≡ []) }
 
-    // The first line tells a fault of `read_scripts`, and any of its faults but out of memory.
+    // The first line tells a fault that `read_scripts` answers, and any one it answers but out of
+    // memory.
     ensures first { IfOk result (λ lines. (lines.items ≡ [])
         ⊎ ((f : fault.ScriptFault) × ScriptTextFault text.now f × FirstLineIs (TellsScript f) lines.items)) }
     ensures answered { IfOk result (λ lines. (f : fault.ScriptFault) → ScriptTextFault text.now f

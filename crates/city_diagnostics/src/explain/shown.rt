@@ -2,7 +2,7 @@
 use city_model::OutOfMemory;
 use std::fmt::Write;
 
-/// Adds words. Characters able to steer a terminal are added by number, as in a JSON text.
+/// Adds words. A character that could steer a terminal is added by its number, as in a JSON text.
 pub fn add_shown(lines: &mut String, words: &str) -> Result<(), OutOfMemory> {
     for c in words.chars() {
         if steers(c) {

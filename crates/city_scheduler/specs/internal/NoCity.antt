@@ -1,4 +1,4 @@
--- An arbitrary city.
+-- A placeholder city.
 use Rattle.std.specs.Prelude.{[]}
 use Rattle.std.specs.FinMap.{empty}
 use Rattle.serde_json.specs.Data.{no_members}
