@@ -1,4 +1,4 @@
--- The exchange that adds a change keeps the rule.
+-- Adding a change keeps the rule.
 use Rattle.city_board.proofs.Prelude.{◌≡◌, ℕ, Bool, true, false, List, [], ◌∷◌, ◌++◌, length, refl, arith}
 use Rattle.city_board.proofs.Prelude.{length-append, None, append-nil, IsPrefix, Change}
 use Rattle.std.proofs.Common.{◌+◌, ◌==◌}
@@ -25,7 +25,7 @@ adds_goes log v e old len pre true is =
     rw is (omega (arith, length-append log (e ∷ []))) in grind arith
 adds_goes log v e old len pre false is = grind (arith, append-nil log)
 
--- whatever the history is, the exchange adds the change to all that was seen, or finds that the history is longer
+-- for any history, the exchange adds the change to all changes seen, or finds the history longer
 pub adds_moves : (v : List Change) (e : Change) (old : ℕ) → length v ≡ old
     → Moves HasLength hidden moved 0 (v, (no_nib, None)) (λ n. either (n == old) (old + 1) n)
     (Adds (step 0 old (old + 1) e) (v, (no_nib, None)))

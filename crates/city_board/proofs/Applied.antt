@@ -5,7 +5,7 @@ use Rattle.city_board.proofs.Prelude.{same_id_back, same_map, at_after}
 use Rattle.city_model.proofs.Objects.{same_objects}
 use Rattle.city_board.specs.internal.Versions.{city_with}
 
--- writes give the same where maps differ at written ids alone
+-- writes give the same if maps differ at written ids alone
 same_after : (c : Change) (m n : CityMap) (q : List ℕ) → (has_id (keys_of c) q ≡ false → m q ≡ n q)
     → after_change m c q ≡ after_change n c q
 same_after [] m n q h = h refl
@@ -19,11 +19,11 @@ same_after (w ∷ ws) m n q h = same_after ws (changed m w.0 w.1) (changed n w.0
       same_id_back q w.0,
     ))
 
--- cities of one frame whose maps are the same
+-- cities of one frame and one map are the same
 pub same_city : (c d : CityValue) → d.0 ≡ c.0 → object_at d.1 ≡ object_at c.1 → d ≡ c
 same_city c d frame same = let objects : d.1 ≡ c.1 = same_objects d.1 c.1 same in λ i. (frame i, objects i)
 
--- the writes were made in a map that differs at written ids alone
+-- writes give the same city from a map different at written ids alone
 pub is_after : (c d : CityValue) (writes : Change) (placed : CityMap) → d.0 ≡ c.0
     → ((q : List ℕ) → has_id (keys_of writes) q ≡ false → placed q ≡ object_at c.1 q)
     → object_at d.1 ≡ after_change placed writes

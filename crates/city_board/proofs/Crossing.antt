@@ -1,4 +1,4 @@
--- Posters and viewers may go to other threads.
+-- Posters and viewers may cross threads.
 use denote.Param.Send.{IsSend, IsSync, sendable, struct_send, view_send}
 use denote.RattleType.{RattleType}
 use denote.Struct.Declared.{shape}

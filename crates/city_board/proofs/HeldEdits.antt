@@ -1,4 +1,4 @@
--- What a board's writer holds, as changes are taken and published.
+-- The edits held by a board's writer, as changes are taken and published.
 use Rattle.city_board.proofs.Prelude.{◌≡◌, List, [], ◌∷◌, ◌++◌, fold, ◌∙◌, append_assoc, arith, CityValue, object_at}
 use Rattle.city_board.proofs.Prelude.{IsLawful, after_changes, shown_more, HoldsEdits, known_from, HistoryValue}
 use Rattle.city_board.proofs.Prelude.{history_of, edited, IsFaithful, IsNextEdit, Known, Edit, Version}
@@ -26,7 +26,7 @@ holds_more x known es opening published taken e history lawful held =
     } in
     grind (arith, lead_more x es taken e held.lead next)
 
--- one edit more waits behind those that the writer has
+-- one edit more waits behind the writer's
 pub holds_waiting : (x : Version) (known : Known) (ds ws : List Edit) (opening : CityValue)
     (published taken : HistoryValue) (e : Edit)
     → e.history ≡ history_of taken.name (taken.changes ++ e.change ∷ [])

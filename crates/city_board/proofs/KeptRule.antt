@@ -14,7 +14,7 @@ newcomer_alone seat k at met = grind arith
 pub first_meets : (x : Version) → IsFaithful x → MeetsRule x (newcomer ∷ [])
 first_meets x faithful = grind (arith, newcomer_alone)
 
--- a later version is published, which this one has seen then
+-- a later version is published and so seen
 pub publishes : (seat : ℕ) (k : Known) (x y : Version) → IsLater x y → TurnsAt MeetsRule seat k x y Sees
 publishes seat k x y later each h at = (
   known_from y,
@@ -34,10 +34,10 @@ looks seat k x each h at = publishes seat k x x (h.0, no_older_itself x) each h 
 pub admits : Admits MeetsRule newcomer
 admits x each h = grind (arith, at_snoc)
 
--- one tells all that it knows
+-- one tells everything one knows
 pub tells : (seat : ℕ) (k : Known) → Forks MeetsRule seat k k k
 tells seat k x each h at = grind (arith, at_snoc, at_set)
 
--- another one takes what it is told
+-- another takes over what it is told
 pub believes : (seat : ℕ) (k : Known) (other : ℕ) (w : Known) → Merges MeetsRule seat k other w w newcomer
 believes seat k other w x each h at apart there = grind (arith, at_set)

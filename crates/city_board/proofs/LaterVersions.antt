@@ -1,4 +1,4 @@
--- Edits lead from a faithful version to a later one that is faithful too.
+-- Edits lead from a faithful version to a later one, faithful too.
 use Rattle.city_board.proofs.Prelude.{◌≡◌, List, [], ◌∷◌, ◌++◌, fold, refl, arith, CityValue, object_at, IsLawful}
 use Rattle.city_board.proofs.Prelude.{at_after, shown_more, IsLater, known_from, HistoryValue, edited, IsFaithful}
 use Rattle.city_board.proofs.Prelude.{IsNextEdit, Known, Edit, Version}

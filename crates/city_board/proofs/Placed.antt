@@ -1,4 +1,4 @@
--- Places in a city for ids that are to be written.
+-- Places in a city for ids about to be written.
 use Rattle.city_board.proofs.Prelude.{◌≡◌, ℕ, ◌<◌, List, [], ◌∷◌, ◌++◌, length, Bool, true, false, ◌&&◌, ◌||◌, not}
 use Rattle.city_board.proofs.Prelude.{Option, None, Some, is_some, arith, if◌then◌else◌, CityMap, same_id, has_id}
 use Rattle.city_board.proofs.Prelude.{changed, changed_apart, changed_there, same_id_back}
@@ -7,12 +7,12 @@ use Rattle.std.proofs.lemmas.List.Folds.{list_any-append, list_any_at}
 use Rattle.city_model.specs.declared.object.Object.{Object}
 use Rattle.city_model.proofs.Ids.{same_id_true}
 
--- an id that isn't in a list is none of its ids
+-- an id outside a list is none of its ids
 pub apart_from : (ids : List (List ℕ)) (n : ℕ) (id q : List ℕ) → n < length ids → id ≡ get_or ids n id
     → has_id ids q ≡ false → same_id id q ≡ false
 apart_from ids n id q lt is h = grind (arith, list_any_at (same_id q) ids n id lt, same_id_back id q)
 
--- ---- ids that have no place
+-- ---- ids without a place
 
 -- an id without a place was listed
 pub missing_more : (m : CityMap) (all : Bool) (ids rest : List (List ℕ)) (id q : List ℕ) → is_some (m id) ≡ false
@@ -38,12 +38,12 @@ pub cleared_more : (x y : Option Object) (z : Option Object) (a b : Bool) → y 
     → z ≡ (if b then None else y) → z ≡ (if a || b then None else x)
 cleared_more x y z a b p q = grind arith
 
--- places that were made in part are taken out again
+-- places made in part are taken out again
 pub put_back : (x y z : Option Object) (ids keys : Bool) → ids ≡ (keys && not (is_some x)) → (ids ≡ false → y ≡ x)
     → z ≡ (if ids then None else y) → z ≡ x
 put_back x y z ids keys is f h = grind arith
 
--- each id that is to be written has a place
+-- each id to write has a place
 pub placed : (x y : Option Object) (ids keys : Bool) → ids ≡ (keys && not (is_some x)) → (ids ≡ false → y ≡ x)
     → (ids ≡ true → is_some y ≡ true) → keys ≡ true → is_some y ≡ true
 placed x y ids keys is f g h = grind arith

@@ -1,4 +1,4 @@
--- The words that proofs of this crate share, from std, from the libraries and from its own definitions.
+-- The shared names of this crate's proofs, from std, the libraries and its own definitions.
 pub use Rattle.std.proofs.Common.{All, Bool, List, None, Option, Some, [], ap, append_assoc, arith, drop, false, fold}
 pub use Rattle.std.proofs.Common.{is_some, length, length-append, not, refl, rules, subst, sym, take, true, ℕ, ◌&&◌}
 pub use Rattle.std.proofs.Common.{◌++◌, ◌<◌, ◌||◌, ◌∙◌, ◌∷◌, ◌≡◌, ◌≤◌}

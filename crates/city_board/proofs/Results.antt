@@ -1,4 +1,4 @@
--- What is true of a value that a result or an option holds.
+-- The value in a result or an option.
 use Rattle.city_board.proofs.Prelude.{◌≡◌, Option, Some, subst}
 use Rattle.std.proofs.Common.{IfSome, Result, Ok, MatchResult}
 

@@ -1,4 +1,4 @@
--- What contracts see of a board's poster, and of a viewer and its looks.
+-- A board's poster, a viewer and its looks, as contracts see them.
 use Rattle.std.specs.Prelude.{List, []}
 use Rattle.logbook.specs.Pages.{Book}
 use Rattle.city_model.specs.CityMap.{CityValue}
@@ -9,17 +9,17 @@ use Rattle.city_board.specs.HistoryValue.{HistoryValue}
 pub record PosterValue : Type 0 where
   -- the board's name
   pub name : Book
-  -- the city that the board was made over
+  -- the board's opening city
   pub opening : CityValue
   pub published : List Change
-  -- the published changes, and after them those that are still to be published
+  -- the published changes, then the pending ones
   pub taken : List Change
 
 -- a viewer, or its look
 pub record ViewerValue : Type 0 where
   pub name : Book
   pub opening : CityValue
-  -- the changes that it saw, or was told of
+  -- the changes seen or told of
   pub seen : List Change
 
 -- the poster of a new board

@@ -1,4 +1,4 @@
--- What contracts see of a board's history, up to some change.
+-- A board's history up to some change, as contracts see it.
 use Rattle.std.specs.Prelude.{List}
 use Rattle.logbook.specs.Pages.{Book}
 use Rattle.city_model.specs.Runs.{Change}

@@ -1,4 +1,4 @@
--- How many viewers a board may have.
+-- The most viewers of a board.
 use Rattle.std.specs.Prelude.{ℕ}
 
 abbrev pub max_viewers : ℕ

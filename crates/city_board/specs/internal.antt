@@ -1,4 +1,4 @@
--- Definitions that only private clauses and proofs use.
+-- Definitions for private clauses and proofs only.
 pub mod BoardRule
 pub mod HistoryRule
 pub mod Versions

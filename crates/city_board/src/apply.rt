@@ -1,4 +1,4 @@
-//! Writing a change into a city: all of it or nothing.
+//! Writes a change into a city: all of it or nothing.
 ghost use Rattle.std.specs.Prelude.{◌≡◌, ℕ, List, true, is_some, MatchResult};
 ghost use Rattle.std.specs.Map.{keys_of};
 ghost use Rattle.city_model.specs.CityMap.{object_at, changed, has_id};
@@ -12,10 +12,10 @@ use city_model::object::Object;
 use city_model::text::Id;
 use std::alloc::Global;
 
-/// Writes the change into the city. If memory runs out, the city is unchanged, and
-/// the change comes back.
+/// Writes the change into the city. If memory runs out, the city is unchanged, and the change comes
+/// back.
 ///
-/// The city isn't copied; it allocates only for the places of new ids.
+/// Doesn't copy the city; allocates only for the places of new ids.
 pub fn apply(alloc: Global, city: &mut City, change: Change) -> Result<(), Change>
     ensures { MatchResult result
         (λ _. city.new ≡ city_with city.old change)
@@ -28,7 +28,7 @@ pub fn apply(alloc: Global, city: &mut City, change: Change) -> Result<(), Chang
     Ok(())
 }
 
-/// Writes the change into the city, in which each of its ids has a place. Doesn't allocate.
+/// Writes the change into the city; each of its ids must have a place there. Doesn't allocate.
 fn write_all(city: &mut City, mut change: Change)
     requires { (q : List ℕ) → has_id (keys_of change) q ≡ true → is_some (object_at city.old.1 q) ≡ true }
     ensures frame { city.new.0 ≡ city.old.0 }
@@ -39,7 +39,7 @@ fn write_all(city: &mut City, mut change: Change)
     }
 }
 
-/// Sets the object of an id that has a place, or removes it. Doesn't allocate.
+/// Sets or removes the object at an id with a place. Doesn't allocate.
 fn write(city: &mut City, id: Id, object: Option<Object>)
     requires { is_some (object_at city.old.1 id) ≡ true }
     ensures frame { city.new.0 ≡ city.old.0 }

@@ -20,8 +20,8 @@ use city_scheduler::OpeningCity;
 use std::alloc::Global;
 use std::sync::Wait;
 
-/// The most viewers of a board. A commit is published once no viewer looks at the version before, so each
-/// viewer more may hold it up.
+/// The most viewers of a board. A commit is published once no viewer looks at the version before,
+/// so each further viewer may hold it up.
 pub const MAX_VIEWERS: usize = 4;
 
 /// Why there is no board.
@@ -33,8 +33,7 @@ pub enum BoardFault {
     NoPlace,
 }
 
-/// A board over a lawful city, with its poster and a viewer for each of the seats, of which there are
-/// up to `MAX_VIEWERS`.
+/// Makes a board over a lawful city: its poster, and `seats` viewers, at most `MAX_VIEWERS`.
 ///
 /// It keeps the city and one copy of it. The runtime is kept for `publish` and the poster's drop.
 pub fn board<R: Wait + Drop>(
@@ -54,7 +53,7 @@ pub fn board<R: Wait + Drop>(
     let Ok((first, second)) = versions(alloc, city, &history) else {
         return Err(BoardFault::OutOfMemory);
     };
-    // (the writer asks for one reader at least)
+    // (the writer needs at least one reader)
     let readers = if seats == 0 { 1 } else { seats };
     let Ok(writer) = BoardWriter::new(alloc, first, second, readers) else {
         return Err(BoardFault::OutOfMemory);
@@ -95,7 +94,7 @@ fn versions(alloc: Global, city: City, history: &History) -> Result<(Version, Ve
     ))
 }
 
-/// As many viewers, each of whom knows what the writer knows.
+/// Makes `seats` viewers with the writer's knowledge.
 fn new_viewers(
     alloc: Global,
     writer: &mut BoardWriter,
@@ -123,7 +122,7 @@ fn new_viewers(
     Ok(viewers)
 }
 
-/// A viewer who knows what the writer knows; none where there is no seat.
+/// A viewer with the writer's knowledge; `None` if there is no seat.
 fn new_viewer(writer: &mut BoardWriter, history: &History) -> Option<Viewer>
     requires met { view writer.old.desk.place ≡ known_from writer.old.desk.shown.value }
     requires history { history.now ≡ writer.old.desk.shown.value.history }

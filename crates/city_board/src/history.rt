@@ -28,7 +28,7 @@ impl Rule<Change, u64> for HistoryRule {
     ghost moves = { λ ask before after answer. Unit {0} };
 }
 
-/// What adding a change yields besides the change: nothing.
+/// The gain of adding a change, besides the change: nothing.
 pub struct NoGain;
 
 impl Gain<Change, u64> for NoGain {
@@ -37,7 +37,7 @@ impl Gain<Change, u64> for NoGain {
     ghost after = { λ names about answer. ftrue };
 }
 
-/// The step that adds a change.
+/// Adds a change.
 pub struct AddsChange;
 
 impl Play<Change, u64> for AddsChange {
@@ -105,14 +105,14 @@ impl History {
         (History { len: 0, seen }, Head { word })
     }
 
-    /// How many changes it has.
+    /// The number of changes.
     pub fn len(&self) -> u64
         ensures { result ≡ length self.now.changes }
     {
         self.len
     }
 
-    /// The same once more. Doesn't allocate.
+    /// A copy. Doesn't allocate.
     pub fn again(&self) -> History
         ensures { result ≡ self.now }
     {
@@ -122,7 +122,7 @@ impl History {
         }
     }
 
-    /// The longer of two, which begins with the other.
+    /// The longer of two histories, one of them a prefix of the other.
     pub fn longer(&self, other: &History) -> History
         requires { other.now.name ≡ self.now.name }
         ensures one { (result ≡ self.now) ⊎ (result ≡ other.now) }
@@ -138,7 +138,7 @@ impl History {
         }
     }
 
-    /// This with one change more, which is still to be added.
+    /// This history and one change more, still to be added.
     pub fn with(&self, change: &Change) -> Addition
         ensures { result ≡ history_of self.now.name (self.now.changes ++ change.now ∷ []) }
     {
@@ -150,7 +150,7 @@ impl History {
     }
 }
 
-/// A history up to some change, and one more that is to follow it. Contracts see both as one.
+/// A history up to some change, and its next change, still to be added. Contracts see both as one.
 #[derive(Drop)]
 pub struct Addition {
     len: u64,
@@ -174,7 +174,7 @@ impl Model for Addition {
 }
 
 impl Addition {
-    /// Adds the change to the history; none where another one follows already.
+    /// Adds the change to the history; `None` if another one follows already.
     pub fn add(self, head: &Head) -> Option<History>
         requires name { head.now ≡ self.name }
         requires room { length self.changes < 2 ^ 64 }

@@ -1,8 +1,8 @@
 //! The board: whole versions of a city, for viewers on other threads.
 //!
-//! - `board`, `rule`, `history`: a new board, and what holds of every board
-//! - `poster`, `writer`, `note`: what writes versions and tells of them
-//! - `viewer`, `look`, `version`: what looks at them
+//! - `board`, `rule`, `history`: a new board, and the invariant of every board
+//! - `poster`, `writer`, `note`: writing versions and telling of them
+//! - `viewer`, `look`, `version`: looking at versions
 //! - `places`, `apply`: a change written into a version
 //! - `shelf`: the poster as the shelf of a desk
 #![tactic(auto)]

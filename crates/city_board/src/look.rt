@@ -1,4 +1,4 @@
-//! A look at a version that was published.
+//! A look at a published version.
 ghost use Rattle.std.specs.Prelude.{◌≡◌, length};
 ghost use Rattle.city_model.specs.CityMap.{object_at};
 ghost use Rattle.city_model.specs.Relations.{IsLawful};
@@ -9,10 +9,10 @@ use crate::viewer::{BoardReading, Viewer};
 use city_model::city::City;
 use std::marker::Model;
 
-/// A look at a version, which stays as it is until the look is left.
+/// A look at a version. The version stays as it is until the look is left.
 ///
-/// Contracts see what they see of a viewer; the changes are those of the version. The poster waits
-/// for looks that aren't left, so a look can't just be dropped: end it by `leave`.
+/// Contracts see the same as of a viewer, with the version's changes. The poster waits for looks
+/// not yet left, so a look can't just be dropped: end it by `leave`.
 pub struct Look {
     reading: BoardReading,
     seen: History,
@@ -43,7 +43,7 @@ impl Look {
     ghost use Rattle.city_board.specs.BoardValues.{viewer_of};
     ghost use Rattle.city_board.specs.internal.Versions.{IsFaithful};
 
-    /// A look at the version that is read, whose changes these are. Doesn't allocate.
+    /// A look at the version being read, with these changes. Doesn't allocate.
     pub(crate) fn new(reading: BoardReading, seen: History) -> Look
         requires met { view_of reading.place ≡ known_from reading.part.value }
         requires faithful { IsFaithful reading.part.value }
@@ -53,8 +53,7 @@ impl Look {
         Look { reading, seen }
     }
 
-    /// The city: the one that the board was made over, after the changes of
-    /// this look. Doesn't allocate.
+    /// The city: the board's opening city after the changes of this look. Doesn't allocate.
     pub fn city(&self) -> &City
         ensures frame { result.now.0 ≡ self.now.opening.0 }
         ensures objects { object_at result.now.1 ≡ after_changes (object_at self.now.opening.1) self.now.seen }
@@ -64,14 +63,14 @@ impl Look {
         &self.reading.get().city
     }
 
-    /// How many changes it has. Doesn't allocate.
+    /// The number of changes. Doesn't allocate.
     pub fn edits(&self) -> u64
         ensures { result ≡ length self.now.seen }
     {
         self.seen.len()
     }
 
-    /// Ends the look, and gives the viewer back, who has seen its changes. Doesn't allocate.
+    /// Ends the look and gives the viewer back, now with its changes seen. Doesn't allocate.
     pub fn leave(self) -> Viewer
         ensures { result ≡ self }
     {

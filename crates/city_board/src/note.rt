@@ -1,10 +1,10 @@
-//! What a poster tells its viewers.
+//! A poster's note to its viewers.
 ghost use Rattle.std.specs.Prelude.{◌≡◌};
 
 use crate::history::History;
 use std::marker::Model;
 
-/// What was published when the note was made. Contracts see the board's name and the changes.
+/// The changes published by the time of the note. Contracts see the board's name and the changes.
 #[derive(Drop)]
 pub struct Note {
     history: History,

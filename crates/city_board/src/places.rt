@@ -1,4 +1,4 @@
-//! Places in a city for the ids that are to be written.
+//! Places in a city for ids about to be written.
 ghost use Rattle.std.specs.Prelude.{◌≡◌, ◌&&◌, ℕ, List, None, true, false, not, is_some, IfOk, OnOk, OnErr, if◌then◌else◌};
 ghost use Rattle.std.specs.Map.{keys_of};
 ghost use Rattle.city_model.specs.CityMap.{object_at, has_id};
@@ -27,7 +27,7 @@ pub fn make_places(alloc: Global, city: &mut City, change: &Change) -> Result<()
     Ok(())
 }
 
-/// The ids of the change for which no object is there.
+/// The ids of the change that have no object in the city.
 fn missing(alloc: Global, city: &City, change: &Change) -> Result<Vec<Id>, OutOfMemory>
     ensures { IfOk result (λ ids. (q : List ℕ) → has_id ids.items q ≡ (has_id (keys_of change.now) q && not (is_some (object_at city.now.1 q)))) }
 {

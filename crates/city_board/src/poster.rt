@@ -23,18 +23,17 @@ use std::sync::Wait;
 
 /// Takes changes of a city, and publishes them to the viewers of its board.
 ///
-/// Contracts see the board's name, the city that it was made over, the changes that are published,
-/// and all that were taken: the published ones, and after them the pending ones. Its drop waits
-/// until each look has been left.
+/// Contracts see the board's name, its opening city, the published changes, and all changes taken:
+/// the published ones, then the pending ones. Its drop waits until each look has been left.
 #[derive(Drop)]
 pub struct Poster<R: Wait + Drop> {
-    /// None only while `publish` runs.
+    /// `None` only while `publish` runs.
     writer: Option<OwnWriter<R>>,
     head: Head,
     opening: OpeningCity,
     published: History,
     taken: History,
-    /// The edits that the writer hasn't got yet.
+    /// The edits still to be handed to the writer.
     waiting: VecDeque<Edit>,
 }
 
@@ -59,7 +58,7 @@ impl<R: Wait + Drop> Model for Poster<R> {
 }
 
 impl<R: Wait + Drop> Poster<R> {
-    /// A poster that has taken nothing yet. Doesn't allocate.
+    /// A poster without pending changes. Doesn't allocate.
     pub(crate) fn new(
         alloc: Global,
         writer: OwnWriter<R>,
@@ -84,9 +83,9 @@ impl<R: Wait + Drop> Poster<R> {
         }
     }
 
-    /// Takes a change, which is then pending. If memory runs out, nothing changes.
+    /// Takes a change as pending. If memory runs out, nothing changes.
     ///
-    /// Of every poster, what is published begins what was taken.
+    /// In every poster, the published changes are a prefix of those taken.
     pub fn append(&mut self, change: Change) -> Result<(), OutOfMemory>
         requires room { length self.old.taken + 1 < 2 ^ 64 }
         requires lawful { IsLawful (after_changes (object_at self.old.opening.1) (self.old.taken ++ change ∷ [])) }
@@ -106,10 +105,10 @@ impl<R: Wait + Drop> Poster<R> {
         Ok(())
     }
 
-    /// Publishes all pending changes at once, and returns a note of all that is published by then.
+    /// Publishes all pending changes at once, and returns a note of all changes published by then.
     /// If memory runs out, nothing changes, and they are still pending.
     ///
-    /// It waits for looks at the version before the published one.
+    /// Waits for looks at the version before the published one.
     pub fn publish(&mut self) -> Result<Note, OutOfMemory>
         ensures ok { OnOk result (self.new ≡ record self.old { published = self.old.taken }) }
         ensures note { IfOk result (λ note. note ≡ history_of self.old.name self.old.taken) }

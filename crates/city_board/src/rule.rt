@@ -1,11 +1,11 @@
-//! The rule of a board, over what its poster and viewers know.
+//! The rule of a board, over the knowledge of its poster and viewers.
 use crate::history::History;
 use crate::version::Version;
 use atomic_table::{Join, Split};
 use city_scheduler::OpeningCity;
 use crossbeam_utils::rule::{Outcome, Protocol};
 
-/// What a viewer or the poster knows of its board. It exists for the proofs only.
+/// The knowledge of a viewer or the poster about its board. It exists for the proofs only.
 pub struct Known {
     /// Whether a version was seen yet.
     pub met: bool,
@@ -13,7 +13,7 @@ pub struct Known {
     pub history: History,
 }
 
-/// No version is older than what anybody knows.
+/// No version is older than anybody's knowledge.
 pub struct BoardRule;
 
 impl Protocol<Version, Known> for BoardRule {
@@ -33,7 +33,7 @@ impl Outcome<Version, Known> for SeesVersion {
     ghost then = { Sees };
 }
 
-/// Tells all that one knows.
+/// Tells everything one knows.
 pub struct TellsAll;
 
 impl Split<Known> for TellsAll {
@@ -42,7 +42,7 @@ impl Split<Known> for TellsAll {
     ghost right = { λ known. known };
 }
 
-/// Takes what one is told in place of what one knew.
+/// Replaces one's knowledge by what one is told.
 pub struct BelievesAll;
 
 impl Join<Known> for BelievesAll {

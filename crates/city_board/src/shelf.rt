@@ -6,8 +6,8 @@ use city_model::change::Change;
 use city_scheduler::Shelf;
 use std::sync::Wait;
 
-/// The list is that of all changes that were taken, and viewers see the published ones; the base is
-/// the city that the board was made over.
+/// Lists all changes taken, and shows viewers the published ones; the base is the board's opening
+/// city.
 impl<R: Wait + Drop> Shelf for Poster<R> {
     type Note = Note;
 

@@ -1,4 +1,4 @@
-//! A version of the city, as viewers look at it, and what the poster does to it.
+//! A version of the city, for viewers to look at and the poster to write.
 use crate::apply::apply;
 use crate::history::History;
 use city_model::OutOfMemory;

@@ -10,16 +10,15 @@ use crate::version::Version;
 use left_right::reader::{Reader, Reading};
 use std::marker::Model;
 
-/// What a viewer reads versions by.
+/// A viewer's reader of versions.
 pub type BoardReader = Reader<Version, Known, BoardRule>;
 
-/// A version that a viewer is reading.
+/// A version being read by a viewer.
 pub type BoardReading = Reading<Version, Known, BoardRule>;
 
 /// A reader of a board's versions, from any thread and without waiting.
 ///
-/// Contracts see the board's name, the city that it was made over, and the changes that the viewer
-/// saw or was told of.
+/// Contracts see the board's name, its opening city, and the changes seen or told of.
 #[derive(Drop)]
 pub struct Viewer {
     reader: BoardReader,
@@ -47,7 +46,7 @@ impl Viewer {
     ghost use Rattle.left_right.specs.Sides.{view as view_of};
     ghost use Rattle.city_board.specs.BoardValues.{viewer_of};
 
-    /// A viewer that has seen these changes. Doesn't allocate.
+    /// A viewer who has seen these changes. Doesn't allocate.
     pub(crate) fn new(reader: BoardReader, seen: History) -> Viewer
         requires { ((view_of reader.place).met ≡ true) × ((view_of reader.place).history.name ≡ seen.name) }
         ensures { result ≡ viewer_of seen (view_of reader.place).opening }
@@ -55,10 +54,10 @@ impl Viewer {
         Viewer { reader, seen }
     }
 
-    /// A look at the version that is published now. Doesn't allocate, and waits for nobody.
+    /// Looks at the version published now. Doesn't allocate, and waits for nobody.
     ///
-    /// It has all changes that this viewer saw or was told of. Where the poster is gone the viewer
-    /// comes back as it was.
+    /// The version has all changes this viewer saw or was told of. If the poster is gone, the
+    /// viewer comes back unchanged.
     pub fn look(self) -> Result<Look, Viewer>
         ensures name { IfOk result (λ look. look.name ≡ self.name) }
         ensures opening { IfOk result (λ look. look.opening ≡ self.opening) }
@@ -70,7 +69,7 @@ impl Viewer {
             Err(reader) => Err(Viewer { reader, seen }),
             Ok(reading) => {
                 let now = &reading.get().history;
-                // (what the viewer was told of had been published, so this version has it)
+                // (the viewer was told of published changes only, so this version has them)
                 if now.len() < seen.len() {
                     return Err(Viewer {
                         reader: reading.leave(),
@@ -83,10 +82,10 @@ impl Viewer {
         }
     }
 
-    /// From now on each look has the note's changes. Doesn't allocate.
+    /// Learns of the note's changes: from now on each look has them. Doesn't allocate.
     ///
-    /// Of the viewer's changes and the note's, one list begins with the other; from then on the
-    /// viewer has the longer one.
+    /// Of the viewer's changes and the note's, one list is a prefix of the other. The viewer keeps
+    /// the longer one.
     pub fn learn(self, note: &Note) -> Viewer
         requires { note.now.name ≡ self.name }
         ensures name { result.name ≡ self.name }

@@ -7,17 +7,17 @@ use left_right::writer::Writer;
 use std::collections::VecDeque;
 use std::sync::Wait;
 
-/// What writes both versions of a board.
+/// Writes both versions of a board.
 pub type BoardWriter = Writer<Version, Edit, Known, BoardRule>;
 
-/// A writer, and the runtime that ends it: its drop waits until each look has been left.
+/// A writer, and the runtime to end it: its drop waits until each look has been left.
 pub struct OwnWriter<R: Wait + Drop> {
     pub writer: BoardWriter,
     pub rt: R,
 }
 
 impl<R: Wait + Drop> OwnWriter<R> {
-    /// Its parts, of which the caller has to end the writer.
+    /// Its parts. The caller must end the writer.
     pub fn into_parts(self) -> (BoardWriter, R)
         ensures writer { result.0 ≡ self.writer }
         ensures rt { result.1 ≡ self.rt }
@@ -34,7 +34,7 @@ impl<R: Wait + Drop> Drop for OwnWriter<R> {
     }
 }
 
-/// Hands the edits to the writer. If memory runs out, it answers false, and the rest of them stay.
+/// Hands the edits to the writer. Returns false if memory runs out; the remaining edits stay.
 pub fn append_all(writer: &mut BoardWriter, waiting: &mut VecDeque<Edit>) -> bool
     ensures desk { writer.new.desk ≡ writer.old.desk }
     ensures edits { drop writer.new.behind writer.new.log.items ++ waiting.new.items ≡ drop writer.old.behind writer.old.log.items ++ waiting.old.items }

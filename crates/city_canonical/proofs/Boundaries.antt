@@ -1,4 +1,5 @@
--- Data without objects was read of what is written for it, and boundaries are placed however points are numbered.
+-- Data without objects was read from the very value written for it; boundaries are placed under any numbering of
+-- points.
 use Rattle.city_canonical.proofs.Prelude.{arith, ◌≡◌, ℕ, zero, suc, ℤ, List, [], ◌∷◌, Bool, cond, Option, Some, refl}
 use Rattle.city_canonical.proofs.Prelude.{sym, ap, subst, ◌∙◌, ◌<◌, length, true, option_and_then, ◌^◌, map, slice_get}
 use Rattle.city_canonical.proofs.Prelude.{option_map, and_parts, bytes_eq-Decides, Some_inj, not_found, Data, array}
@@ -31,7 +32,7 @@ abbrev mutual
   ArePlain no_items = Unit {0}
   ArePlain (item d ds) = IsPlain d × ArePlain ds
 
--- ---- the value that it was read of
+-- ---- the value it was read from
 
 -- it was encoded as itself, and is written as itself
 mutual
@@ -67,7 +68,7 @@ mutual
   plain_items no_items h = refl
   plain_items (item d ds) h = ap₂ json.item (plain_decoded d h.0) (plain_items ds h.1)
 
--- ---- what is read of plain data alone
+-- ---- readers of plain data only
 
 abbrev pub ReadsPlain : {A : Type 0} → (Data → Option A) → Type 0
 ReadsPlain {A} read = (d : Data) (x : A) → read d ≡ Some x → IsPlain d
@@ -110,7 +111,7 @@ three_is make (array (item a (item b (item c no_items)))) r h =
     (p, z.2, (first.0, (second.0, (third.0, tt))), rw (first.1, second.1, third.1) refl)
 three_is make d r h = grind arith
 
--- data that three whole numbers are read of is written as a vertex is
+-- data read as three whole numbers is written like a vertex
 pub triple_is : (d : Data) (zs : List ℤ) → triple_of d ≡ Some zs
     → (p : Point) × IsPlain d × (outline d ≡ outline (vertex_data p))
 triple_is d zs h = let t = three_is (λ x y z. x ∷ y ∷ z ∷ []) d zs h in (t.0, t.2, t.3)
@@ -124,13 +125,13 @@ vertices_plain = list_plain point_of (λ d p h. (vertex_is d p h).0)
 pub vertex_itself : (d : Data) (p : Point) → point_of d ≡ Some p → outline d ≡ outline (vertex_data p)
 vertex_itself d p h = (vertex_is d p h).1
 
--- ---- vertices that show points
+-- ---- vertices showing points
 
--- what is written for a point
+-- the value written for a point
 abbrev pub shown_point : Point → json.Json
 shown_point p = outline (vertex_data p)
 
--- at the position of each point stands what is written for it
+-- at the index of each point is the value written for it
 abbrev pub Show : json.Items → List Point → Type 0
 Show vs ps = (m : ℕ) (p : Point) → slice_get ps m ≡ Some p → look.get_item m vs ≡ Some (shown_point p)
 
@@ -147,7 +148,7 @@ shows_written [] m p e = not_found p e
 shows_written (q ∷ ps) zero p e = ap (option_map shown_point) e
 shows_written (q ∷ ps) (suc m) p e = shows_written ps m p e
 
--- ---- what is read of boundaries, with the vertices themselves
+-- ---- boundaries as read, with the vertices themselves
 
 abbrev pub shown_list : {A : Type 0} → (A → json.Json) → List A → json.Items
 shown_list f [] = json.no_items
@@ -161,7 +162,7 @@ abbrev pub shown_shape : Shape → json.Json
 shown_shape s = let b = nested s in shown b.0 b.1
 
 module _ (vs : json.Items) where
-  -- what is read as x is placed as what is shown for x
+  -- a value read as x is placed as the value shown for x
   abbrev Places : {A : Type 0} → (Data → Option A) → (A → json.Json) → Type 0
   Places {A} reads shows = (j : json.Json) (d : Data) (x : A) → of_json j ≡ Some d → reads d ≡ Some x
       → placed vs j ≡ shows x
@@ -190,7 +191,7 @@ module _ (vs : json.Items) where
     nested_placed zero = point_placed
     nested_placed (suc n) = list_placed (nested_of ps n) (shown n) (nested_placed n)
 
--- ---- the first that passes a test
+-- ---- the first to pass a test
 
 pub pick : {A : Type 0} (P : A → Type 0) (b : Bool) (x y : A) (rest : Option A) → (b ≡ true → P x)
     → (rest ≡ Some y → P y) → cond b (Some x) rest ≡ Some y → P y
@@ -212,7 +213,7 @@ pub type_is : (kind : List ℕ) (t : GeometryType) → geometry_type kind ≡ So
     → (bytes_eq kind t.name ≡ true) × IsOfShape t
 type_is kind = type_found kind geometry_types ((λ x. (refl, refl)), grind arith)
 
--- ---- boundaries that were written
+-- ---- written boundaries
 
 module _ (pool : List Point) (small : length pool < 2 ^ 63) where
   point_back : (p : Point) → of_json (outline (point_data pool p)) ≡ Some (point_data pool p)

@@ -1,4 +1,4 @@
--- Geometries and city objects that were read of encoded ones, and are written, are the same.
+-- Geometries and city objects read from encoded ones are written the same.
 use Rattle.city_canonical.proofs.Prelude.{arith, ◌≡◌, ℕ, ◌<◌, List, [], ◌∷◌, length, true, false, Option, Some, None}
 use Rattle.city_canonical.proofs.Prelude.{codes, refl, sym, ap, subst, ◌∙◌, ◌^◌, map, flat_map, option_map}
 use Rattle.city_canonical.proofs.Prelude.{option_and_then, and_parts, list_all-append, bytes_eq-Decides, bytes_eq}
@@ -30,7 +30,7 @@ use Rattle.city_canonical.proofs.Boundaries.{plain_decoded}
 use Rattle.json.specs.Json as json
 use Rattle.json.specs.Find as look
 
--- ---- what a geometry was read of
+-- ---- the source of a geometry
 
 record IsGeometryOf (ps : List Point) (d : Data) (g : Geometry) : Type 0 where
   ms : Members
@@ -52,7 +52,7 @@ geometry_read ps d g h =
     let same_name : shape_name g.shape ≡ p.kind = search (arith, bytes_eq-Decides) in
     search (arith, and_then_some, object_is, if_some, codes, string_is, nested_plain, nested_placed, shown_shape)
 
--- ---- what an object was read of
+-- ---- the source of an object
 
 record IsObjectOf (ps : List Point) (d : Data) (o : Object) : Type 0 where
   ms : Members
@@ -89,7 +89,7 @@ ids_data (item d ds) ids h =
 ids_list : (d : Data) (ids : List (List ℕ)) → list_of as_str d ≡ Some ids → d ≡ list_data string ids
 ids_list d ids h = let ds = and_then_some (read_items as_str) (as_array d) ids h in search (arith, array_is, ids_data)
 
--- what is written for a list of texts is the list, unless it is empty
+-- a list of texts is written as the list, unless it is empty
 texts_written : (name : List ℕ) (xs : List (List ℕ)) → ((j : json.Json) → has_shield name j ≡ false)
     → IsPlain (list_data string xs)
     → option_map (value_at false name) (listed string xs) ≡ unless_empty (Some (outline (list_data string xs)))
@@ -97,7 +97,7 @@ texts_written name [] e plain = refl
 texts_written name (x ∷ xs) e plain =
     rw (e (decoded (outline (list_data string (x ∷ xs)))), plain_decoded (list_data string (x ∷ xs)) plain) refl
 
--- the ids that were read are written
+-- the ids read are written
 ids_same : (name : List ℕ) (js : json.Members) (ms : Members) (ids : List (List ℕ)) (r : Option Data)
     → ((j : json.Json) → is_shielded name j ≡ false) → ((j : json.Json) → has_shield name j ≡ false)
     → of_members (encoded_members false js) no_members ≡ Some ms → get_member name ms ≡ r
@@ -119,7 +119,7 @@ listed_both : {A : Type 0} (f : A → Data) (xs : List A)
     × (unless_empty o ≡ o)
 listed_both f xs = grind arith
 
--- ---- what is written
+-- ---- written values
 
 -- the boundaries of the geometry h show the shape
 abbrev pub IsShown : json.Items → json.Json → Geometry → Type 0
@@ -146,7 +146,7 @@ object_decoded pool o =
     decoded_object (object_all pool o) (no_number (codes "type") refl (object_all pool o) _ type)
 
 module _ (vs ws : json.Items) (pool : List Point) where
-  -- what is written for the geometry is the same, and shows its shape
+  -- the geometry is written the same, and shows its shape
   abbrev IsWritten : json.Json → Geometry → Type 0
   IsWritten j g = let h = decoded (outline (geometry_data pool g)) in IsSameGeometry vs ws j h × IsShown ws h g
 
@@ -155,7 +155,7 @@ module _ (vs ws : json.Items) (pool : List Point) where
       let hs = decoded_items (items_outline (items_of (map (geometry_data pool) gs))) in
       AreSameGeometries vs ws js hs × AreShown ws hs gs
 
-  -- what is written for the object is the same, and shows its shapes
+  -- the object is written the same, and shows its shapes
   abbrev pub IsWrittenObject : json.Json → Object → Type 0
   IsWrittenObject j o =
       let p = decoded (outline (object_data pool o)) in
@@ -235,7 +235,7 @@ module _ (vs ws : json.Items) (ps pool : List Point) (small : length pool < 2 ^ 
   module _ (js : json.Members) (d : Data) (o : Object) (p : IsObjectOf ps d o)
       (read : of_members (encoded_members false js) no_members ≡ Some p.ms) (numbers : MembersHaveNumbers js)
       (within : are_in pool (object_points o) ≡ true) where
-    -- the geometries that were read are written
+    -- the geometries read are written
     geometries_written : (r : Option Data) → get_member (codes "geometry") p.ms ≡ r
         → list_or_absent (geometry_of ps) r ≡ Some o.body.geometry
         → AreWritten vs ws pool (list_at (codes "geometry") (json.object js)) o.body.geometry

@@ -1,4 +1,4 @@
--- Set, unset and expect do the same to members that were read encoded and to the members as they are given.
+-- Set, unset and expect have the same effect on members read encoded as on the members as given.
 use Rattle.city_canonical.proofs.Prelude.{arith, ◌≡◌, ℕ, List, [], ◌∷◌, true, false, Option, Some, None, refl, sym, ap}
 use Rattle.city_canonical.proofs.Prelude.{subst, ◌∙◌, option_map, option_and_then, HasNumbers, MembersHaveNumbers}
 use Rattle.city_canonical.proofs.Prelude.{Some_inj, Data, array, object, Items, item, no_items, Members, no_members}
@@ -84,7 +84,7 @@ whole_read ms ds read =
     sym (members_whole ds) ∙ integral (encoded (json.object ms)) (object ds) (whole (json.object ms))
     (ap (option_map object) read)
 
--- ---- the attributes, as they are given and as they were read
+-- ---- the attributes, as given and as read
 
 record Both (i : Option Members) (g : Option json.Members) : Type 0 where
   a : json.Members

@@ -1,4 +1,4 @@
--- Members that were read of encoded ones, and members that are decoded of written ones.
+-- Members read from encoded ones, and members decoded from written ones.
 use Rattle.city_canonical.proofs.Prelude.{arith, ◌≡◌, ℕ, List, [], ◌∷◌, Bool, false, cond, Option, Some, None, nat_cmp}
 use Rattle.city_canonical.proofs.Prelude.{codes, refl, sym, ap, subst, ◌∙◌, ◌&&◌, option_map, bytes_eq, slice_cmp}
 use Rattle.city_canonical.proofs.Prelude.{AllByRecursion, is_eq-slice_cmp, bytes_eq-Decides, HasNumbers}
@@ -24,14 +24,14 @@ use Rattle.city_canonical.specs.Members.{IsBelow, Ascend}
 use Rattle.json.specs.Json as json
 use Rattle.json.specs.Find as look
 
--- ---- what a value was that an object or an array was read of
+-- ---- the source of an object or an array
 
 pub record IsObject (j : json.Json) (ds : Members) : Type 0 where
   pub ms : json.Members
   pub is : j ≡ json.object ms
   pub read : of_members (encoded_members false ms) no_members ≡ Some ds
 
--- members that f finds something in were read of an object, if f finds nothing in an encoded number
+-- if f finds something in the members and nothing in an encoded number, they were read from an object
 pub object_read : {X : Type 0} (f : Members → Option X) (x : X) (j : json.Json) (ms : Members)
     → ((s : List ℕ) → f (member (codes "#") (string s) no_members) ≡ None) → f ms ≡ Some x
     → of_json (encoded j) ≡ Some (object ms) → IsObject j ms
@@ -46,7 +46,7 @@ array_read j ds is = grind arith
 pub string_is : (d : Data) (s : List ℕ) → as_str d ≡ Some s → d ≡ string s
 string_is d s h = grind arith
 
--- ---- members that are put and taken out
+-- ---- members put in and taken out
 
 pub apart_from : (names : List (List ℕ)) (name : List ℕ) → has_id names name ≡ false
     → AllByRecursion (λ n. same_id name n ≡ false) names
@@ -73,13 +73,13 @@ or_none o = grind arith
 
 pub ruleset lookups = (at_put, at_without, at_put_list, or_none)
 
--- ---- what is read
+-- ---- values read
 
--- what is read for a member of the name
+-- the value read for a member of the name
 abbrev pub member_read : Bool → List ℕ → json.Json → Option Data
 member_read top name j = of_json (in_form (form_of top name j) (encoded j))
 
--- o was read for the member, or is what was there before where there is no member
+-- o was read for the member; without a member, o is the earlier value
 abbrev pub IsRead : Bool → List ℕ → Option Data → Option json.Json → Option Data → Type 0
 IsRead top name before None o = o ≡ before
 IsRead top name before (Some j) o = (d : Data) × (member_read top name j ≡ Some d) × (o ≡ Some d)
@@ -142,14 +142,14 @@ below_decoded : (top : Bool) (k : List ℕ) (ms : Members) → AllAbove k ms
 below_decoded top k no_members h = tt
 below_decoded top k (member l d ms) h = (h.0, below_decoded top k ms h.1)
 
--- so do those that are decoded
+-- so do the decoded ones
 pub ascend_decoded : (top : Bool) (ms : Members) → AreOrdered ms → Ascend (decoded_members top (members_outline ms))
 ascend_decoded top no_members h = tt
 ascend_decoded top (member k d ms) h = (below_decoded top k ms h.0, ascend_decoded top ms h.1)
 
--- ---- what is decoded
+-- ---- values decoded
 
--- what stands at the name for the data, once decoded
+-- the data at the name, decoded
 abbrev pub value_at : Bool → List ℕ → Data → json.Json
 value_at top name d = out_of_form top name (outline d) (decoded (outline d))
 
@@ -163,7 +163,7 @@ decoded_step : (f : List ℕ → Data → json.Json) (name l : List ℕ) (d : Da
     ≡ option_map (f name) (match_ordering o r (Some d) r)
 decoded_step f name l d r o same = grind arith
 
--- where the names ascend, what is found is decoded of what was found
+-- if the names ascend, a member found in the decoding is the decoding of the member found
 pub decoded_members_at : (top : Bool) (name : List ℕ) (ds : Members) → AreOrdered ds
     → look.get_member name (decoded_members top (members_outline ds)) ≡ option_map (value_at top name)
     (get_member name ds)
@@ -173,9 +173,9 @@ decoded_members_at top name (member l d ds) h =
     (decoded_step (value_at top) name l d (get_member name ds) (slice_cmp nat_cmp name l)
     (λ e. let same = exact_bytes name l e in (same, rw same (not_above l ds h.0))))
 
--- ---- members that aren't taken for a number
+-- ---- members not taken for a number
 
--- there is a member of another name than the tag
+-- some member has another name than the tag
 pub no_number : (name : List ℕ) → is_tag name ≡ false → (ds : Members) (d : Data) → get_member name ds ≡ Some d
     → number_in (members_outline ds) ≡ None
 no_number name e (member k c no_members) d h = grind (arith, exact_bytes name k)
@@ -185,7 +185,7 @@ pub decoded_object : (ms : Members) → number_in (members_outline ms) ≡ None
     → decoded (outline (object ms)) ≡ json.object (decoded_members false (members_outline ms))
 decoded_object ms h = rw h refl
 
--- ---- a member that is kept
+-- ---- a kept member
 
 no_frame : (a b c : Bool) → (a && b) ≡ false → (a && (b && c)) ≡ false
 no_frame a b c e = grind arith
@@ -211,7 +211,7 @@ pub numbers_at : (name : List ℕ) (ms : json.Members) → MembersHaveNumbers ms
 numbers_at name json.no_members h = tt
 numbers_at name (json.member k j ms) h = grind (arith, numbers_at name ms h.1, h.0)
 
--- where what is written at the name is what was read there, it is the same
+-- if the value written at the name is the value read there, it comes back the same
 pub member_same : (top : Bool) (name : List ℕ) (ms : json.Members) (ds written : Members)
     → (top && bytes_eq name (codes "transform")) ≡ false → MembersHaveNumbers ms
     → of_members (encoded_members top ms) no_members ≡ Some ds

@@ -1,4 +1,4 @@
--- A model that was read of an encoded one, is written and decoded, is the same model.
+-- A model read from an encoded one, then written and decoded, is the same model.
 use Rattle.city_canonical.proofs.Prelude.{arith, ◌≡◌, ℕ, zero, suc, List, [], ◌∷◌, Bool, true, false, cond, Option}
 use Rattle.city_canonical.proofs.Prelude.{Some, None, nat_cmp, codes, refl, sym, ap, subst, ◌∙◌, map, flat_map}
 use Rattle.city_canonical.proofs.Prelude.{option_map, option_and_then, slice_cmp, All, and_parts, All-nil, All-cons}
@@ -43,7 +43,7 @@ use Rattle.json.specs.Json as json
 use Rattle.json.specs.Find as look
 use Rattle.city_model.specs.CityMap as city
 
--- ---- what a city was read of
+-- ---- the source of a city
 
 record IsCityOf (ms : Members) (c : CityValue) : Type 0 where
   type : get_member (codes "type") ms ≡ Some (string (codes "CityJSON"))
@@ -74,7 +74,7 @@ city_parts d c h =
     let items = and_then_some (read_items point_of) (as_array vertices.0) _ vertices.2 in
     (frame.top, is, search (arith, codes, text_is, frame_read, object_is, array_is))
 
--- the top was read of an object
+-- the top was read from an object
 top_read : (j : json.Json) (ms : Members) (d : Data) → of_json (encoded_top j) ≡ Some (object ms)
     → get_member (codes "type") ms ≡ Some d
     → (js : json.Members) × (j ≡ json.object js) × (of_members (encoded_members true js) no_members ≡ Some ms)
@@ -99,7 +99,7 @@ found_none ps (member k x ms) es id read h =
     let r = map_some _ (entries_of ps ms) es o.2 in
     grind (arith, found_none ps ms r.0 id r.1)
 
--- the points of an object are among those of the city
+-- the points of an object are among the city's
 points_within : (pool : List Point) (es : Entries) (id : List ℕ) (o : Object)
     → are_in pool (flat_map (λ e. object_points e.1) es) ≡ true → found_in es id ≡ Some o
     → are_in pool (object_points o) ≡ true
@@ -110,7 +110,7 @@ points_within pool (e ∷ es) id o all h =
     (sym (list_all-append (is_in pool) (object_points e.1) rest) ∙ all) in
     grind (arith, points_within pool es id o both.1)
 
--- an id is no name that is shielded
+-- an id is no shielded name
 bare_read : (ps : List Point) (id : List ℕ) (j : json.Json) (d : Data) (o : Object) (b : Bool)
     → is_shielded id j ≡ b → member_read false id j ≡ Some d → object_of ps d ≡ Some o
     → of_json (encoded j) ≡ Some d
@@ -119,14 +119,14 @@ bare_read ps id j d o b e is h = grind arith
 only_object : (b : Bool) (r : json.Json) (ms : json.Members) → r ≡ json.object ms → cond b (only r) r ≡ r
 only_object b r ms e = grind arith
 
--- ---- objects that show their shapes
+-- ---- objects showing their shapes
 
 abbrev IsShownAt : json.Items → Option json.Json → Option Object → Type 0
 IsShownAt ws h None = Unit {0}
 IsShownAt ws h (Some o) =
     (j : json.Json) × (h ≡ Some j) × AreShown ws (list_at (codes "geometry") j) o.body.geometry
 
--- what holds of a geometry wherever it is shown
+-- a property of each shown geometry holds of all
 all_shown : (ws hs : json.Items) (gs : List Geometry) (P : Geometry → Type 0) → AreShown ws hs gs
     → ((n : ℕ) (h : json.Json) (g : Geometry) → look.get_item n hs ≡ Some h → IsShown ws h g → P g) → All P gs
 all_shown ws json.no_items [] P s each = All-nil P
@@ -161,7 +161,7 @@ module _ (js : json.Members) (ms : Members) (c : CityValue) (numbers : MembersHa
       → look.get name back ≡ Some (value_at true name d)
   found_at name d is = rw (decoded_members_at true name all all_ordered, is) refl
 
-  -- members that are kept
+  -- kept members
 
   transform_is : IsSameAt (json.object js) back (codes "transform")
   transform_is =
@@ -314,7 +314,7 @@ module _ (js : json.Members) (ms : Members) (c : CityValue) (numbers : MembersHa
         used = vertex_used;
       })
 
--- a model that is read and written is the same
+-- a model read and written is the same
 pub model_same : (j : json.Json) (d : Data) (c : CityValue) → HasNumbers j → of_json (encoded_top j) ≡ Some d
     → city_of d ≡ Some c → IsInRange (pool_of c) c.0 → IsSameModel j (decoded_top (outline (tree_of c)))
 model_same j d c numbers is stands range =

@@ -1,4 +1,4 @@
--- The words that proofs of this crate share, from std, from the libraries and from its own definitions.
+-- The shared names of this crate's proofs, from std, the libraries and its own definitions.
 pub use Rattle.std.proofs.Common.{Bool, List, None, Option, Some, [], ap, arith, codes, cond, false, length, nat_cmp}
 pub use Rattle.std.proofs.Common.{refl, subst, suc, sym, true, zero, ℕ, ℤ, ◌<◌, ◌∙◌, ◌∷◌, ◌≡◌}
 pub use Rattle.std.proofs.lemmas.Bool.{and_parts}

@@ -1,4 +1,4 @@
--- The text that is decoded is that of the same model.
+-- The decoded text is a text of the same model.
 use Rattle.city_canonical.proofs.Prelude.{◌≡◌, ℕ, List, [], Bool, true, false, cond, Option, Some, sym, ap, subst, ◌∙◌}
 use Rattle.city_canonical.proofs.Prelude.{arith, option_and_then, HasNumbers, ItemsHaveNumbers, MembersHaveNumbers}
 use Rattle.city_canonical.proofs.Prelude.{not_found, Data, of_json, outline, CityValue, only, encoded_top, number_in}
@@ -31,7 +31,7 @@ use Rattle.city_canonical.specs.Texts.{IsSameText, IsCanonicalFault}
 use Rattle.city_canonical.proofs.Models.{model_same}
 use Rattle.serde_json.specs.Read as serde
 
--- ---- a decoded value has numbers where the value has, and nests no deeper
+-- ---- a decoded value has numbers if the value has, and nests no deeper
 
 abbrev IsTame : Json → Json → Type 0
 IsTame j k = (HasNumbers j → HasNumbers k) × (depth k ≤ depth j)
@@ -78,7 +78,7 @@ top_tame j = tame j
 
 -- ---- texts
 
--- what is read of an encoded text was read of the encoded value
+-- data read from an encoded text was read from the encoded value
 encoded_read : (j : Json) → HasNumbers j → (text : List ℕ) (d : Data) → text ≡ print (json_tokens (encoded_top j))
     → read text ≡ Some d → of_json (encoded_top j) ≡ Some d
 encoded_read j h text d is e = search (arith, and_then_some, one_value, top_numbers)
@@ -86,7 +86,7 @@ encoded_read j h text d is e = search (arith, and_then_some, one_value, top_numb
 last_is : (i : Json) (ts : List Token) (j : Json) → if_last i ts ≡ Some j → i ≡ j
 last_is i ts j e = grind arith
 
--- what the tokens of a value are read as at a depth
+-- reading a value's tokens at a depth gives the value
 tokens_read : (n : ℕ) (i j : Json) (ts : List Token) → ts ≡ json_tokens i
     → option_and_then (λ p. if_last p.0 p.1) (value n ts) ≡ Some j → (j ≡ i) × (depth i ≤ n)
 tokens_read n i j ts same e =
@@ -116,7 +116,7 @@ pub read_fault : (text encoded : List ℕ) (f : ReadFault) → IsEncoded text en
     → IsCanonicalFault text (read_fault_of f)
 read_fault text encoded f e h = grind arith
 
--- what was written is JSON
+-- the written text is JSON
 written_read : (written : List ℕ) (c : CityValue) → IsTextOfCity written c → tokens written ≡ tokens_of (tree_of c)
     → document written ≡ Some (outline (tree_of c))
 written_read written c stands same =

@@ -1,4 +1,4 @@
--- A transform that was framed is written in its frame, and decoded as it was.
+-- A framed transform is written in its frame, and decoded as before.
 use Rattle.city_canonical.proofs.Prelude.{◌≡◌, ℕ, ℤ, List, [], ◌∷◌, Bool, true, false, Some, None, codes, refl, sym, ap}
 use Rattle.city_canonical.proofs.Prelude.{◌∙◌, arith, HasNumbers, Some_inj, Data, string, object, Members, no_members}
 use Rattle.city_canonical.proofs.Prelude.{member, get_member, of_json, outline, number_of-decimal, encoded}
@@ -18,7 +18,7 @@ use Rattle.city_canonical.proofs.Boundaries.{triple_is, itself}
 use Rattle.json.specs.Json as json
 use Rattle.json.specs.Find as look
 
--- ---- what a frame was read of
+-- ---- the source of a frame
 
 pub record IsFrameOf (ms : Members) (f : Frame) : Type 0 where
   pub transform : Data

@@ -1,4 +1,4 @@
--- The vertices that are written: none stands at two positions, and each is in the boundaries of some geometry.
+-- Written vertices: none is at two indices, and each is in the boundaries of some geometry.
 use Rattle.city_canonical.proofs.Prelude.{arith, ◌≡◌, ℕ, zero, suc, ◌<◌, ℤ, Bool, true, false, List, [], ◌∷◌, Option}
 use Rattle.city_canonical.proofs.Prelude.{Some, refl, sym, ap, ◌∙◌, ◌^◌, flat_map, map, slice_get, option_and_then, All}
 use Rattle.city_canonical.proofs.Prelude.{All-nil, All-cons, All-weaker, Some_inj, not_found, items_of, items_outline}
@@ -23,7 +23,7 @@ use Rattle.city_canonical.proofs.Boundaries.{shown_point, shown, shown_list, sho
 use Rattle.json.specs.Json as json
 use Rattle.json.specs.Find as look
 
--- ---- what holds of all points
+-- ---- properties of all points
 
 pub all_at : {A : Type 0} (P : A → Type 0) (xs : List A) (n : ℕ) (x : A) → All P xs → slice_get xs n ≡ Some x → P x
 all_at P xs n x h e = search (arith, get_or_from_slice_get, slice_get_within)
@@ -57,7 +57,7 @@ each_once (p ∷ ps) =
     let apart : (q : Point) → not (same_point p q) ≡ true → same_point p q ≡ false = λ q e. grind arith in
     (All-weaker _ _ apart _ (filter_passes (λ q. not (same_point p q)) rest), once_left _ rest (each_once ps))
 
--- a point that goes first isn't there again
+-- the first point isn't there again
 first_alone : (q : Point) (ps : List Point) (n : ℕ) (p : Point) → All (λ r. same_point q r ≡ false) ps → q ≡ p
     → slice_get ps n ≡ Some p → ⊥
 first_alone q ps n p alone same h =
@@ -71,7 +71,7 @@ once_at (q ∷ ps) h zero (suc n) p a b = absurd (first_alone q ps n p h.0 (Some
 once_at (q ∷ ps) h (suc m) zero p a b = absurd (first_alone q ps m p h.0 (Some_inj _ _ b) a)
 once_at (q ∷ ps) h (suc m) (suc n) p a b = ap suc (once_at ps h.1 m n p a b)
 
--- ---- what is written for a point is written for no other
+-- ---- different points are written differently
 
 in_width : (z : ℤ) → is_i64 z ≡ true → mag z < 2 ^ 63
 in_width z h = grind arith
@@ -114,7 +114,7 @@ vertices_once ps h m n v a b =
 
 -- ---- points in boundaries
 
--- each item is a part of what is shown for the list
+-- each item is a part of the value shown for the list
 part_list : {A : Type 0} (f : A → json.Json) (xs : List A) (Q : A → Type 0)
     → ((x : A) → ((v : json.Json) → IsPart v (f x) → IsPartOfOne v (shown_list f xs)) → Q x) → All Q xs
 part_list f [] Q each = All-nil Q

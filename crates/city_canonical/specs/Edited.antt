@@ -1,5 +1,4 @@
--- What a command of attributes does to the kept members of an object that was read encoded is what the same does to
--- the members as they are given.
+-- A command on attributes has the same effect on an object's kept members, read encoded, as on the members as given.
 use Rattle.std.specs.Prelude.{◌≡◌, ◌↔◌, ℕ, List, Option, Some, None, true}
 use Rattle.json.specs.Tree.{MembersHaveNumbers}
 use Rattle.serde_json.specs.Data.{object, Members}
@@ -12,8 +11,7 @@ use Rattle.city_decimals.specs.Attributes.{append, leave_out, leave_out_each, Ar
 use Rattle.json.specs.Json as json
 use Rattle.json.specs.Find as find
 
--- the attributes among the members of an object: none where there are no such, and None where what stands there is no
--- object
+-- the attributes among the members of an object: empty if there are none, and None if `attributes` is no object
 abbrev pub members_or_none : Option json.Json → Option json.Members
 members_or_none None = Some json.no_members
 members_or_none (Some j) = find.as_object j
@@ -25,7 +23,7 @@ attributes_given ms = members_or_none (find.get_member attributes ms)
 abbrev pub with_given : json.Members → json.Members → json.Json
 with_given ms a = json.object (spec.put attributes (arranged (json.object a)) (arranged_members ms json.no_members))
 
--- the same, without `attributes` where none are left
+-- the same, without `attributes` if none are left
 abbrev pub unless_none : json.Members → json.Members → json.Json
 unless_none ms json.no_members = arranged (json.object (leave_out attributes ms))
 unless_none ms (json.member k j a) = with_given ms (json.member k j a)
@@ -34,9 +32,9 @@ abbrev pub or_none : Option json.Members → json.Members
 or_none None = json.no_members
 or_none (Some a) = a
 
--- the kept members of an object, as they are given and as they were read
+-- the kept members of an object, as given and as read
 pub record IsEditedAs (ms : json.Members) (extra : Members) : Type 0 where
-  -- what stands under `attributes` is no object in either form
+  -- `attributes` is no object in both forms or in neither
   pub bad : (attributes_in extra ≡ None) ↔ (attributes_given ms ≡ None)
   pub sets : (s : json.Members) (e : Members) → MembersHaveNumbers s → AreRead s e → (a : json.Members) (d : Members)
       → attributes_given ms ≡ Some a → attributes_in extra ≡ Some d

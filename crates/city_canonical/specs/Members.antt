@@ -1,4 +1,4 @@
--- Members that stay the same, their names in order.
+-- Unchanged members, their names in order.
 use Rattle.std.specs.Prelude.{◌≡◌, ℕ, List, Bool, true, false, Option, Some, None, option_map, if◌then◌else◌}
 use Rattle.std.specs.declared.cmp.Ordering.TheVariants.{Less}
 use Rattle.std.specs.Ordering.{nat_cmp}
@@ -9,7 +9,7 @@ use Rattle.json.specs.Find.{get}
 use Rattle.city_model.specs.CityMap.{has_id}
 use Rattle.city_decimals.specs.Arranged.{arranged}
 
--- the same value stands under the name, its own names in order, or there is none in either
+-- the same value under the name, its own names in order, or none in either
 abbrev pub IsSameAt : Json → Json → List ℕ → Type 0
 IsSameAt j k name = get name k ≡ option_map arranged (get name j)
 
@@ -17,7 +17,7 @@ IsSameAt j k name = get name k ≡ option_map arranged (get name j)
 abbrev pub IsSameBeside : List (List ℕ) → Json → Json → Type 0
 IsSameBeside names j k = (name : List ℕ) → has_id names name ≡ false → IsSameAt j k name
 
--- ---- lists that are left out where they are empty
+-- ---- lists left out if empty
 
 abbrev pub is_empty_list : Json → Bool
 is_empty_list null = false
@@ -32,7 +32,7 @@ abbrev pub unless_empty : Option Json → Option Json
 unless_empty None = None
 unless_empty (Some j) = if is_empty_list j then None else Some j
 
--- the same list stands under the name, and none where it is empty
+-- the same list under the name, or none if it is empty
 abbrev pub IsSameList : Json → Json → List ℕ → Type 0
 IsSameList j k name = get name k ≡ unless_empty (get name j)
 
@@ -46,7 +46,7 @@ abbrev pub Ascend : Members → Type 0
 Ascend no_members = Unit {0}
 Ascend (member k j ms) = IsBelow k ms × Ascend ms
 
--- an object whose names ascend, so that none is there twice
+-- an object with ascending names, so without repeats
 abbrev pub IsInOrder : Json → Type 0
 IsInOrder null = ⊥
 IsInOrder (boolean b) = ⊥

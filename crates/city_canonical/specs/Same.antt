@@ -1,6 +1,6 @@
--- Models that are the same but for what the canonical form changes: the names of each object are in order, of a
--- repeated one the last value stays, empty lists are left out, vertices have other positions, each vertex is there
--- once, and those that no geometry has are dropped (CityJSON 2.0, sections 2 and 3).
+-- Models that differ only by the canonical form: the names of each object are in order, the last value of a repeated
+-- name stays, empty lists are left out, vertices have other indices, each vertex is there once, and vertices in no
+-- geometry are dropped (CityJSON 2.0, sections 2 and 3).
 use Rattle.std.specs.Prelude.{◌≡◌, ◌⊎◌, ℕ, List, [], ◌∷◌, Option, Some, None, option_map, option_and_then, codes}
 use Rattle.json.specs.Json.{Json, null, boolean, number, string, array, object, Items, no_items, item}
 use Rattle.json.specs.Find.{get, get_item}
@@ -45,7 +45,7 @@ object_at id j = option_and_then (get id) (get (codes "CityObjects") j)
 abbrev pub vertices_of : Json → Items
 vertices_of j = list_at (codes "vertices") j
 
--- none stands at two positions
+-- none is at two indices
 abbrev pub IsEachOnce : Items → Type 0
 IsEachOnce vertices =
     (m n : ℕ) (v : Json) → get_item m vertices ≡ Some v → get_item n vertices ≡ Some v → m ≡ n

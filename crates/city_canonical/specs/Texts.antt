@@ -1,4 +1,4 @@
--- Texts in canonical form, and texts that have none.
+-- Texts in canonical form, and texts without one.
 use Rattle.std.specs.Prelude.{◌≡◌, ℕ, List, None}
 use Rattle.std.specs.Str.{IsUtf8}
 use Rattle.json.specs.Json.{Json, document}
@@ -13,12 +13,12 @@ use Rattle.city_canonical.specs.Same.{IsSameModel}
 use Rattle.city_canonical.specs.declared.fault.CanonicalFault.{CanonicalFault}
 use Rattle.city_canonical.specs.declared.fault.CanonicalFault.TheVariants.{OutOfMemory, NotJson, NotModel}
 
--- out is the compact text of the same model as that of the text
+-- out is the compact text of the same model as the text's
 abbrev pub IsSameText : List ℕ → List ℕ → Type 0
 IsSameText text out =
     (j : Json) × (k : Json) × IsValueOf j text × IsValueOf k out × (out ≡ print (json_tokens k)) × IsSameModel j k
 
--- out is decoded from the canonical text of the city that the encoded text stands for
+-- out is decoded from the canonical text of the encoded text's city
 abbrev pub IsCanonicalOf : List ℕ → List ℕ → Type 0
 IsCanonicalOf text out =
     (encoded : List ℕ) × (c : CityValue) × IsEncoded text encoded × IsTextOfCity encoded c

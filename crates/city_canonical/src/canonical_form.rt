@@ -7,9 +7,10 @@ use city_decimals::{decode, encode};
 use city_doc::{read_city, write_city};
 use std::alloc::Global;
 
-/// The canonical form of a model, in one line: the same model, its names in order, and each number as it was written.
+/// Writes the canonical form of a model, in one line: the same model, its names in order, each
+/// number exactly as written.
 pub fn canonical(alloc: Global, bytes: &[u8]) -> Result<Vec<u8>, CanonicalFault>
-    // Its value is that of the text, but for what the canonical form changes.
+    // The value is the text's, up to the changes of the canonical form.
     ensures same { IfOk result (λ out. IsSameText bytes.now out.items) }
     ensures canonical { IfOk result (λ out. IsCanonicalOf bytes.now out.items) }
     ensures fault { IfErr result (λ f. IsCanonicalFault bytes.now f) }

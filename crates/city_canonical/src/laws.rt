@@ -1,8 +1,8 @@
-//! Laws of what commands do to attributes whose numbers have any form.
+//! Laws of commands on attributes with numbers of any form.
 ghost use Rattle.city_canonical.specs.Edited.{EditsAlike};
 
-/// What set, unset and expect do to the kept members of an object that was read encoded is what they do to the members
-/// as they are given; and they find no attributes in one exactly where there are none in the other.
+/// Set, unset and expect have the same effect on an object's kept members, read encoded, as on the
+/// members as given. `attributes` is no object in the former exactly if it is none in the latter.
 pub fn edits_alike()
     ensures { EditsAlike }
 {}

@@ -1,10 +1,10 @@
-//! The canonical form of a city model whose numbers have any form.
+//! The canonical form of a city model with numbers of any form.
 //!
-//! `canonical` writes a model as the editor writes it, and keeps each number as it was written.
+//! `canonical` writes a model as the editor does, and keeps each number exactly as written.
 //!
 //! - `canonical_form`: the canonical form
 //! - `fault`: why a text has none
-//! - `laws`: what commands do to attributes
+//! - `laws`: the effect of commands on attributes
 #![tactic(auto)]
 
 mod canonical_form;

@@ -1,4 +1,4 @@
--- What a finished desk says of what it was opened over, and what is written of it.
+-- The result of a finished desk, and its output as a run.
 use Rattle.city_crew.proofs.Prelude.{arith, ◌≡◌, ℕ, List, [], ◌∷◌, ◌++◌, length, Option, End, CityValue, object_at}
 use Rattle.city_crew.proofs.Prelude.{Change, city_text, report_text, IsReadFrom}
 use Rattle.city_model.specs.Runs.{Scripted, model_after}

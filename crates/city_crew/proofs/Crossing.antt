@@ -1,4 +1,4 @@
--- A run's watchers, and what lies under its lock, may go to other threads.
+-- A run's watchers, and the state under its lock, may cross threads.
 use Rattle.city_crew.proofs.Prelude.{IsSend, sendable}
 use denote.Param.Send.{enum_send, recorded_send, struct_send, view_send}
 use denote.RattleType.{RattleType}

@@ -1,4 +1,4 @@
--- The words that proofs of this crate share, from std, from the libraries and from its own definitions.
+-- The shared names of this crate's proofs, from std, the libraries and its own definitions.
 pub use Rattle.std.proofs.Common.{All, Bool, List, Option, [], ap, arith, false, length, length-append, refl, rules}
 pub use Rattle.std.proofs.Common.{subst, sym, take, true, ℕ, ◌++◌, ◌<◌, ◌∙◌, ◌∷◌, ◌≡◌, ◌≤◌}
 pub use mathlib.Core.List.{IsPrefix}

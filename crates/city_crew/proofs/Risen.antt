@@ -1,4 +1,4 @@
--- A list that rises, with one larger number more.
+-- A rising list with one larger number more.
 use Rattle.city_crew.proofs.Prelude.{◌≡◌, ℕ, ◌<◌, List, [], ◌∷◌, ◌++◌, length, arith, refl, Rises, last_of}
 use Rattle.city_crew.specs.Rising.{RisesOver, last_over}
 

@@ -1,4 +1,4 @@
--- What viewers see of a run is what the first so many of its ends left.
+-- Viewers of a run see the city after some prefix of its ends.
 use Rattle.city_crew.proofs.Prelude.{◌≡◌, ◌≤◌, ◌∙◌, ℕ, List, [], ◌∷◌, Bool, true, false, All, length, take, refl, ap}
 use Rattle.city_crew.proofs.Prelude.{sym, subst, arith, length-append, End, CityMap, Change, after_changes, IsPrefix}
 use Rattle.city_crew.proofs.Prelude.{Rises, last_of}
@@ -49,7 +49,7 @@ of_first_ends ends zero le = (0, omega arith, refl)
 of_first_ends [] (suc k) le = absurd (omega (arith, le))
 of_first_ends (e ∷ es) (suc k) le = one_end_more e es k (is_commit e.outcome) refl le (of_first_ends es)
 
--- each number that a viewer of a run saw
+-- each number seen by a viewer of a run
 pub seen_first : (viewers : ℕ) (ends : List End) (seen : List (Vec ℕ)) → AreSeen viewers (commits_in ends) seen
     → All (λ s. All (OfFirstEnds ends) s.items) seen
 seen_first viewers ends seen k = λ i d within.
@@ -58,7 +58,7 @@ seen_first viewers ends seen k = λ i d within.
     (λ n le. of_first_ends ends n (subst (λ m. n ≤ m) (k.at_last i d within) le)) s.items
     (no_more_than_last s.items (k.rising i d within))
 
--- the city of changes that begin those that a desk's shelf took
+-- the city after a prefix of the changes taken by a desk's shelf
 pub shown_first : (scripts : List Scripted) (start : CityMap) (ends : List End) (taken shown : List Change)
     → AreChangesOf scripts start ends taken → IsPrefix shown taken
     → (n : ℕ) × (n ≤ length ends) × (after_changes start shown ≡ model_after scripts start (take n ends))
@@ -73,7 +73,7 @@ shown_first scripts start ends taken shown k begins =
           ∙ k.shows first.0,
     )
 
--- ---- an example: of three scripts the second one aborts, so one change is what the first end left, or the first two
+-- ---- an example: of three scripts the second one aborts, so one change stands for one end or for two
 
 abbrev ended : ℕ → Outcome → End
 ended script outcome = record { script = script; name = []; since = 0; replies = []; outcome = outcome }

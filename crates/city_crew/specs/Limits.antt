@@ -1,4 +1,4 @@
--- How many workers and viewers a run may have.
+-- The most workers and viewers of a run.
 use Rattle.std.specs.Prelude.{ℕ}
 pub use Rattle.city_board.specs.Limits.{max_viewers}
 

@@ -1,4 +1,4 @@
--- Lists of numbers that rise strictly.
+-- Strictly rising lists of numbers.
 use Rattle.std.specs.Prelude.{ℕ, ◌<◌, List, [], ◌∷◌}
 
 abbrev pub RisesOver : ℕ → List ℕ → Type 0

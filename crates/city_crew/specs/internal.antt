@@ -1,4 +1,4 @@
--- Definitions that only private clauses and proofs use.
+-- Definitions for private clauses and proofs only.
 pub mod CrewFaults
 pub mod CrewRuns
 pub mod CrewShelves

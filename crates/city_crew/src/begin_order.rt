@@ -1,8 +1,8 @@
-//! The ages of the scripts that are under way.
+//! The ages of the scripts under way.
 use city_model::OutOfMemory;
 use std::alloc::Global;
 
-/// The scripts that have begun and not ended, the one that began first in front.
+/// The scripts begun and not ended, the first to begin in front.
 ///
 /// A script that died and begins again keeps its place, as it keeps its stamp.
 #[derive(Drop)]
@@ -11,13 +11,13 @@ pub struct BeginOrder {
 }
 
 impl BeginOrder {
-    /// No script is under way. There is room for so many.
+    /// An empty order, with room for so many scripts.
     pub fn new(alloc: Global, room: usize) -> Result<BeginOrder, OutOfMemory> {
         let scripts = Vec::with_capacity(alloc, room)?;
         Ok(BeginOrder { scripts })
     }
 
-    /// A script has begun, or begun again.
+    /// Notes a script as begun, or begun again.
     pub fn begin(&mut self, script: usize) {
         if !self.scripts.as_slice().contains(&script) {
             // Without room it has no place, and is the oldest when no other is under way.
@@ -25,17 +25,17 @@ impl BeginOrder {
         }
     }
 
-    /// A script has ended.
+    /// Notes a script as ended.
     pub fn end(&mut self, script: usize) {
         self.scripts.retain(|other| *other != script);
     }
 
-    /// The script under way that began first.
+    /// The first to begin of the scripts under way.
     pub fn oldest(&self) -> Option<usize> {
         self.scripts.first().copied()
     }
 
-    /// Whether no other script that is under way began before this one.
+    /// Whether no other script under way began before this one.
     pub fn is_oldest(&self, script: usize) -> bool {
         match self.scripts.first() {
             Some(first) => *first == script,

@@ -6,8 +6,7 @@ use city_scheduler::{NullShelf, Shelf};
 use city_txn::Core;
 use std::sync::Wait;
 
-/// Where the desk of a run puts the changes of its commits: on a board if there are
-/// viewers, and nowhere otherwise.
+/// Takes the changes of a run's commits: onto a board if there are viewers, and nowhere otherwise.
 #[derive(Drop)]
 pub enum CrewShelf<R: Wait + Drop> {
     Unseen(NullShelf),

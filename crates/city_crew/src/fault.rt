@@ -3,7 +3,7 @@ use city_board::board::BoardFault;
 use city_desk::RunFault;
 use city_model::OutOfMemory;
 
-/// Why a run over texts that were read has no output.
+/// Why a run has no output though its texts were read.
 #[derive(Clone, Copy, Drop)]
 pub enum CrewFault {
     /// Memory ran out, or a thread couldn't be made.
@@ -12,7 +12,7 @@ pub enum CrewFault {
     NoPlace,
     /// A script had not ended when the workers had.
     Unfinished,
-    /// What was gathered isn't of this run.
+    /// The gathered results aren't of this run.
     Mixed,
 }
 

@@ -1,21 +1,21 @@
-//! Where the caller of a run may hold a worker or a viewer.
+//! Lets the caller of a run hold a worker or a viewer.
 
-/// What the threads of a run call between their steps, holding no lock and no look.
+/// Called by the threads of a run between their steps, with no lock and no look held.
 pub trait Gate {
-    /// A worker is about to turn a script, which has so many replies in this attempt.
+    /// A worker is about to turn a script with so many replies in this attempt.
     fn pass(&self, script: usize, replies: usize);
 
     /// A viewer has looked at a version of so many changes.
     fn saw(&self, viewer: usize, edits: u64);
 
-    /// Whether its calls return at once, whatever they are given, so that a worker may leave
-    /// `pass` out between two turns.
+    /// Whether its calls return at once for any arguments. A worker may then leave out `pass`
+    /// between two turns.
     fn is_open(&self) -> bool {
         false
     }
 }
 
-/// A gate that holds nobody.
+/// An open gate: it holds nobody.
 pub struct OpenGate;
 
 impl Gate for OpenGate {

@@ -1,4 +1,4 @@
-//! What the viewers of a run saw.
+//! The last looks of a run's viewers.
 ghost use Rattle.std.specs.Prelude.{◌≡◌, ◌≤◌, All, IfOk};
 ghost use Rattle.city_model.specs.SerialEnds.{commits_in};
 ghost use Rattle.city_crew.specs.Seen.{AreSeen};
@@ -8,9 +8,10 @@ use crate::viewer_thread::ViewerThread;
 use city_model::end::{End, Outcome};
 use std::alloc::Global;
 
-/// Has each watcher look once more, after these ends, and returns what each of so many saw.
+/// Has each watcher look once more, after these ends, and returns the numbers seen by each.
 ///
-/// It answers `Mixed` if a watcher is missing, or if one saw fewer changes at last than there were commits, or more.
+/// Returns `Mixed` if there aren't `count` watchers, or if one saw fewer or more changes at last
+/// than there were commits.
 pub fn last_looks(
     alloc: Global,
     watchers: Vec<ViewerThread>,
@@ -45,7 +46,7 @@ pub fn last_looks(
     Ok(seen)
 }
 
-/// How many of the ends are commits.
+/// The number of commits among the ends.
 fn count_commits(ends: &[End]) -> u64
     ensures { result ≡ commits_in ends.now }
 {

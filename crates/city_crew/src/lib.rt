@@ -1,13 +1,13 @@
 //! Workers and viewers: scripts of one city run side by side, while viewers look at whole versions.
 //!
-//! - `run`: the run; `fault`: why it may have no output; `gate`: where a caller may hold its workers and viewers
-//! - `state`, `origin`: what lies under the lock, and the type that says what its run began with
-//! - `shared`, `work`, `begin_order`, `sleepers`, `threads`: what the workers share, what a worker does, whose script is
-//!   oldest, who sleeps, the threads
-//! - `viewer_thread`, `last_looks`: viewers in a run, and what they saw
+//! - `run`: the run; `fault`: why it may have no output; `gate`: holds workers and viewers for a caller
+//! - `state`, `origin`: the state under the lock, and a type for the run's opening city and scripts
+//! - `shared`, `work`, `begin_order`, `sleepers`, `threads`: state shared by the workers, the work of one, the ages of
+//!   the scripts, the workers asleep, the threads
+//! - `viewer_thread`, `last_looks`: viewers in a run, and their last looks
 //! - `crew_shelf`: the shelf of a run
 //!
-//! The board that viewers look at is that of city_board.
+//! The board for the viewers belongs to city_board.
 #![tactic(auto)]
 
 mod begin_order;

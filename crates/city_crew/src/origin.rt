@@ -1,7 +1,7 @@
-//! What a run began with, as a type: what lies under its lock can say of which run it is.
+//! A run's opening city and scripts as a type. So the state under the lock can name its run.
 use std::marker::Brand;
 
-/// The city and the scripts that a run began with. Each run picks them; they exist for the proofs only.
+/// The opening city and scripts of a run. Each run picks them; they exist for the proofs only.
 pub trait Origin {
     ghost use Rattle.std.specs.Prelude.{List};
     ghost use Rattle.city_model.specs.CityMap.{CityValue};

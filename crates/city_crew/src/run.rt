@@ -39,23 +39,24 @@ use std::marker::Brand;
 use std::sync::Wait;
 use std::thread::Threads;
 
-/// The most workers of a run. All turns are taken under one lock, so however many there are, one of them
-/// runs a command at a time.
+/// The most workers of a run. All turns are taken under one lock, so one worker at a time runs a
+/// command, however many there are.
 pub const MAX_WORKERS: usize = 16;
 
 /// Runs the scripts on the document's city with so many workers, while so many viewers look.
 ///
-/// Workers are 1 to `MAX_WORKERS`, viewers 0 to `MAX_VIEWERS`. The document is judged before the scripts. However
-/// the workers' turns interleave, the ends and the bytes are those of the scripts run one at a time, each once, in
-/// the order of the ends. A script that runs out of memory ends as `NoMemory` and changes nothing.
+/// Workers are 1 to `MAX_WORKERS`, viewers 0 to `MAX_VIEWERS`. The document is judged before the
+/// scripts. However the workers' turns interleave, the ends and the bytes are those of the scripts
+/// run one at a time, each once, in the order of the ends. If a script runs out of memory, it ends
+/// as `NoMemory` and changes nothing.
 ///
-/// For each viewer `seen` has the number of changes at its first look, and then each larger number
-/// that it saw; the last look comes after all workers have ended, and has all. So each number is that
-/// of the commits among the first so many ends.
+/// For each viewer, `seen` has the number of changes at its first look, then each larger number
+/// seen. The last look comes after all workers have ended, and has all changes. So each number
+/// counts the commits in some prefix of the ends.
 ///
-/// It answers `OutOfMemory` also if a thread couldn't be made, `NoPlace` if a viewer's seat or
-/// look was refused, `Unfinished` if a script hadn't ended when the workers had, and `Mixed` if
-/// a viewer is missing then or didn't see just all commits at last.
+/// Returns `OutOfMemory` also if a thread couldn't be made, `NoPlace` if a viewer's seat or look
+/// was refused, `Unfinished` if a script hadn't ended when the workers had, and `Mixed` if a viewer
+/// is missing then or didn't see exactly all commits at last.
 pub fn run_crew<R: Threads + Wait + Sync, G: Gate + Sync>(
     rt: &R,
     alloc: Global,
@@ -78,7 +79,7 @@ pub fn run_crew<R: Threads + Wait + Sync, G: Gate + Sync>(
     )
 }
 
-/// As `run_crew`, with the points of what is written hashed by the seed.
+/// Like `run_crew`, with the points of the output hashed by the seed.
 pub fn run_seeded<R: Threads + Wait + Sync, G: Gate + Sync>(
     rt: &R,
     alloc: Global,
@@ -104,10 +105,10 @@ pub fn run_seeded<R: Threads + Wait + Sync, G: Gate + Sync>(
     Ok(output)
 }
 
-/// Runs scripts that were read on a city that was read, as `run_seeded` does, and gives the city that they leave
-/// beside the output. The texts may be let go before.
+/// Runs scripts already read on a city already read, like `run_seeded`, and gives the final city
+/// beside the output. The texts may be freed before.
 ///
-/// `room` is how many bytes the model's text may well take. Points are hashed by the seed.
+/// `room` is the likely length of the model's text in bytes. Points are hashed by the seed.
 pub fn run_crew_read<R: Threads + Wait + Sync, G: Gate + Sync>(
     rt: &R,
     alloc: Global,
@@ -134,7 +135,7 @@ pub fn run_crew_read<R: Threads + Wait + Sync, G: Gate + Sync>(
     Ok(ran)
 }
 
-/// The same, where a type says what the run begins with.
+/// The same, with a type for the opening city and scripts.
 fn run<R: Threads + Wait + Sync, G: Gate + Sync, O: Origin + Send>(
     rt: &R,
     alloc: Global,
@@ -189,7 +190,7 @@ fn open<'r, R: Wait, O: Origin>(
     Ok((State::new(desk, ages, sleepers, lengths, viewers), seated))
 }
 
-/// How many commands each script has.
+/// The number of commands of each script.
 fn lengths_of(alloc: Global, scripts: &[Script]) -> Result<Vec<usize>, OutOfMemory> {
     let mut lengths = Vec::with_capacity(alloc, scripts.len())?;
     for script in scripts {
@@ -198,7 +199,8 @@ fn lengths_of(alloc: Global, scripts: &[Script]) -> Result<Vec<usize>, OutOfMemo
     Ok(lengths)
 }
 
-/// A shelf for changes of the city, and the viewers of its board: without viewers it has none.
+/// A shelf for changes of the city, and the viewers of its board. Without viewers there is no
+/// board.
 fn new_shelf<'r, R: Wait>(
     rt: &'r R,
     alloc: Global,
@@ -218,7 +220,8 @@ fn new_shelf<'r, R: Wait>(
     Ok((CrewShelf::Posted(poster), seated))
 }
 
-/// Shows what isn't shown yet, has each viewer look once more, and writes the report and the model.
+/// Shows the changes still unseen, has each viewer look once more, and writes the report and the
+/// model.
 fn gather<S: Shelf, Q: Threads + Wait + Sync>(
     rt: &Q,
     alloc: Global,

@@ -1,21 +1,21 @@
-//! What the workers of a run share.
+//! State shared by the workers of a run.
 use crate::work::Turns;
 use city_model::OutOfMemory;
 use std::alloc::Global;
 use std::sync::{Condvar, Mutex};
 
-/// What the workers share: what lies under the lock, and where they sleep.
+/// State shared by the workers: the turns under the lock, and a bed for each worker.
 #[derive(Drop)]
 pub struct Shared<T: Turns> {
     pub turns: Mutex<T>,
-    /// Notified where turns ended a script or killed it, once for all that were made under one lock.
+    /// Notified after turns ended or killed a script, once for all turns under one lock.
     pub woken: Condvar,
-    /// Where each worker sleeps until its script is the oldest.
+    /// For each worker, the bed to sleep in until its script is the oldest.
     beds: Vec<Condvar>,
 }
 
 impl<T: Turns> Shared<T> {
-    /// What so many workers share.
+    /// The shared state of so many workers.
     pub fn new(alloc: Global, turns: T, workers: usize) -> Result<Shared<T>, OutOfMemory> {
         let mut beds = Vec::with_capacity(alloc, workers)?;
         for _ in 0..workers {
@@ -28,7 +28,7 @@ impl<T: Turns> Shared<T> {
         })
     }
 
-    /// What was shared.
+    /// The turns, out of the lock.
     pub fn into_turns(self) -> T {
         let Shared {
             turns,
@@ -38,12 +38,12 @@ impl<T: Turns> Shared<T> {
         turns.into_inner()
     }
 
-    /// Where a worker sleeps until its script is the oldest.
+    /// The worker's bed, to sleep in until its script is the oldest.
     pub fn bed(&self, worker: usize) -> &Condvar {
         self.beds.get(worker).unwrap_or(&self.woken)
     }
 
-    /// Wakes those that wait for a move, and this worker.
+    /// Wakes the workers waiting for a move, and this worker.
     pub fn wake(&self, worker: Option<usize>) {
         self.woken.notify_all();
         if let Some(worker) = worker {

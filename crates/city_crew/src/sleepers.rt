@@ -1,15 +1,15 @@
-//! The workers that sleep until their scripts are the oldest.
+//! Workers asleep until their scripts are the oldest.
 use city_model::OutOfMemory;
 use std::alloc::Global;
 
-/// The script that each worker sleeps with, if it sleeps.
+/// The script of each sleeping worker.
 #[derive(Drop)]
 pub struct Sleepers {
     scripts: Vec<Option<usize>>,
 }
 
 impl Sleepers {
-    /// None of so many workers sleeps.
+    /// So many workers, all awake.
     pub fn new(alloc: Global, workers: usize) -> Result<Sleepers, OutOfMemory> {
         let mut scripts = Vec::with_capacity(alloc, workers)?;
         for _ in 0..workers {
@@ -18,7 +18,7 @@ impl Sleepers {
         Ok(Sleepers { scripts })
     }
 
-    /// The script that the worker sleeps with.
+    /// The script of a sleeping worker.
     pub fn script(&self, worker: usize) -> Option<usize> {
         match self.scripts.get(worker) {
             Some(script) => *script,
@@ -26,14 +26,14 @@ impl Sleepers {
         }
     }
 
-    /// The worker sleeps with this script, or no longer.
+    /// Notes the worker as asleep with this script, or as awake.
     pub fn set(&mut self, worker: usize, script: Option<usize>) {
         if let Some(place) = self.scripts.get_mut(worker) {
             *place = script;
         }
     }
 
-    /// The worker that sleeps with the script.
+    /// The worker sleeping with the script.
     pub fn worker(&self, script: usize) -> Option<usize> {
         self.scripts.iter().position(|other| *other == Some(script))
     }

@@ -1,4 +1,4 @@
-//! What lies under the lock of a run.
+//! The state under the lock of a run.
 ghost use Rattle.std.specs.Prelude.{◌≡◌, IfOk, IfErr};
 ghost use Rattle.city_crew.specs.internal.CrewFaults.{HaveEnded};
 ghost use Rattle.city_crew.specs.internal.CrewRuns.{IsResult};
@@ -15,21 +15,21 @@ use city_scheduler::{Desk, Finished, Turn};
 use std::marker::{Model, PhantomData};
 use std::sync::Wait;
 
-/// How many commands a script has that is to wait until it is the oldest under way. A shorter one goes by beside
-/// others.
+/// A script with this many commands or more waits until it is the oldest under way. A shorter one
+/// runs beside others.
 const SHORT: usize = 64;
 
-/// A desk over the city and the scripts that its run began with.
+/// A desk over the run's opening city and scripts.
 ///
 /// Contracts see the state of the desk.
 #[derive(Drop)]
 pub struct State<R: Wait + Drop, O: Origin> {
     desk: Desk<CrewShelf<R>>,
-    /// How many turns ended a script or killed it.
+    /// The number of turns that ended or killed a script.
     wakeups: u64,
     ages: BeginOrder,
     sleepers: Sleepers,
-    /// How many commands each script has.
+    /// The number of commands of each script.
     lengths: Vec<usize>,
     viewers: usize,
     origin: PhantomData<O>,
@@ -52,8 +52,8 @@ impl<R: Wait + Drop, O: Origin> Model for State<R, O> {
 }
 
 impl<R: Wait + Drop, O: Origin> State<R, O> {
-    /// A desk that was opened over the city and the scripts, before any of them has begun, and so many viewers of its
-    /// shelf.
+    /// The state at the beginning: a desk over the city and the scripts, none of them begun, and
+    /// the number of its shelf's viewers.
     pub fn new(
         desk: Desk<CrewShelf<R>>,
         ages: BeginOrder,
@@ -94,7 +94,7 @@ impl<R: Wait + Drop, O: Origin> State<R, O> {
     }
 }
 
-/// What a desk leaves when all its scripts have ended.
+/// The result of a desk once all its scripts have ended.
 fn finished<R: Wait + Drop>(desk: Desk<CrewShelf<R>>) -> Result<Finished<CrewShelf<R>>, CrewFault>
     ensures ran { IfOk result (λ f. IsResult desk.0.start desk.0.scripts f.city f.ends) }
     ensures fault { IfErr result (λ f. (f ≡ CrewFault.Unfinished) × ¬ HaveEnded desk.0.scripts desk.0.ends) }

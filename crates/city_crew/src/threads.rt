@@ -12,7 +12,7 @@ use std::thread::{JoinHandle, Scope, Threads};
 
 /// Runs so many workers to their ends, and the watchers beside them; gives the watchers back.
 ///
-/// All threads are joined, also where one couldn't be made.
+/// Joins all threads, even if one couldn't be made.
 pub fn run_threads<R: Threads + Wait + Sync, T: Turns + Send, G: Gate + Sync, W: Watch + Send>(
     rt: &R,
     alloc: Global,
@@ -40,10 +40,11 @@ pub fn run_threads<R: Threads + Wait + Sync, T: Turns + Send, G: Gate + Sync, W:
     })
 }
 
-/// Runs so many workers to their ends, the first of them on this thread. False where a thread of the others couldn't be
-/// made.
+/// Runs so many workers to their ends, the first of them on this thread. Returns false if a thread
+/// for another couldn't be made.
 ///
-/// The first worker begins before the others come: it has read the city, and what it read is at hand here.
+/// The first worker begins before the others come: it has read the city, so the data is at hand
+/// here.
 fn run_workers<R: Threads + Wait + Sync, T: Turns + Send, G: Gate + Sync>(
     rt: &R,
     shared: &Shared<T>,
@@ -61,7 +62,7 @@ fn run_workers<R: Threads + Wait + Sync, T: Turns + Send, G: Gate + Sync>(
     })
 }
 
-/// Starts a thread of the scope for each watcher. False where one couldn't be made.
+/// Starts a thread of the scope for each watcher. Returns false if one couldn't be made.
 fn start_watchers<'s, E, R: Wait + Sync + 's, G: Gate + Sync + 's, W: Watch + Send + 's>(
     scope: &Scope<'s, E>,
     rt: &'s R,

@@ -12,7 +12,7 @@ use std::sync::Wait;
 use std::sync::atomic::{AtomicBool, Ordering};
 use std::thread;
 
-/// The number of changes at a viewer's first look, and then each larger one that it saw.
+/// The number of changes at a viewer's first look, then each larger number seen.
 #[derive(Drop)]
 pub struct Counts {
     counts: Vec<u64>,
@@ -48,7 +48,7 @@ impl Counts {
         self.last
     }
 
-    /// Keeps a number that is the first or larger than the last.
+    /// Keeps the number if it is the first or larger than the last.
     #[tactic(auto, using(crate::proofs::Risen::rises_more, crate::proofs::Risen::last_more))]
     pub fn keep(&mut self, count: u64) -> Result<(), OutOfMemory>
         ensures { OnOk result (0 < length self.new) }
@@ -70,7 +70,7 @@ impl Counts {
     }
 }
 
-/// A viewer, and what it saw.
+/// A viewer, and the numbers of changes seen.
 #[derive(Drop)]
 pub struct ViewerThread {
     pub number: usize,
@@ -80,7 +80,7 @@ pub struct ViewerThread {
 }
 
 impl ViewerThread {
-    /// One look, and how many changes it had; none where it was refused.
+    /// Looks once, and returns the number of changes; `None` if the look was refused.
     pub fn look_once(self) -> (ViewerThread, Option<u64>)
         ensures { IfNone result.0.fault (0 < length result.0.counts) }
     {
@@ -123,7 +123,7 @@ impl ViewerThread {
     }
 }
 
-/// What looks again and again from a thread of its own.
+/// Looks again and again from its own thread.
 pub trait Watch: Drop {
     /// Looks until the workers have ended, or a look is refused.
     fn watch<R: Wait, G: Gate>(self, rt: &R, gate: &G, over: &AtomicBool) -> Self;

@@ -4,57 +4,59 @@ use crate::shared::Shared;
 use city_scheduler::Turn;
 use std::sync::{MutexGuard, Wait};
 
-/// How many turns of a script a worker makes under one lock, where no gate may hold it between them.
+/// The most turns of a script under one lock, if no gate may hold its worker between them.
 const TURNS_AT_ONCE: usize = 256;
 
-/// After how many turns under one lock a worker takes no other script under it, if no script is under way.
+/// The turns under one lock after which its worker takes no other script, if no script is under
+/// way.
 const TURNS_ALONE: usize = 16_384;
 
-/// Scripts that take turns, and of which each free worker takes the next.
+/// Hands scripts to free workers, and takes their turns.
 pub trait Turns: Drop {
-    /// The next script to be worked on.
+    /// The next script to work on.
     fn take(&mut self) -> Option<usize>;
 
-    /// The next turn of a script; it has ended already where there is no such script.
+    /// Takes the next turn of a script; `AlreadyEnded` if there is no such script.
     fn turn(&mut self, script: usize) -> Turn;
 
-    /// How many turns ended a script or killed it.
+    /// The number of turns that ended or killed a script.
     fn wakeups(&self) -> u64;
 
-    /// Whether no other script that has begun and not ended began before this one.
+    /// Whether no other script under way began before this one.
     fn is_oldest(&self, script: usize) -> bool;
 
-    /// The worker goes to sleep with a script, of which there is no reply.
+    /// Lays the worker to sleep with a script without replies.
     fn lie_down(&mut self, worker: usize, script: usize);
 
-    /// Whether the script that the worker sleeps with is the oldest.
+    /// Whether the worker's script is the oldest.
     fn may_rise(&self, worker: usize) -> bool;
 
-    /// The worker sleeps no longer; the script that it has slept with last.
+    /// Notes the worker as awake; returns the script it slept with last.
     fn rise(&mut self, worker: usize) -> Option<usize>;
 
-    /// The worker that sleeps with the oldest script.
+    /// The worker sleeping with the oldest script.
     fn to_be_woken(&self) -> Option<usize>;
 
-    /// Puts a script to bed in place of the oldest, where a worker sleeps with that, and gives the oldest.
+    /// Puts a script to bed in place of the oldest and returns the oldest, if a worker sleeps with
+    /// it.
     fn exchange(&mut self, script: usize) -> Option<usize>;
 
-    /// Whether a script is to go by beside others: it is short.
+    /// Whether a script is short enough to run beside others.
     fn goes_by(&self, script: usize) -> bool;
 
     /// Whether viewers look on.
     fn are_looked_at(&self) -> bool;
 
-    /// Shows the change of the script that ended last, if it was committed. Where that is refused a
+    /// Shows the change of the last script to end, if it was committed. If that is refused, a
     /// later one shows it.
     fn show_commit<R: Wait>(&mut self, rt: &R);
 }
 
-/// A script that a worker has taken.
+/// A script taken by a worker.
 #[derive(Clone, Copy)]
 pub struct Task {
     script: usize,
-    /// How many replies it has in this attempt.
+    /// The number of its replies in this attempt.
     replies: usize,
 }
 
@@ -65,14 +67,14 @@ impl Task {
     }
 }
 
-/// What a worker does before it makes turns again.
+/// The pause of a worker before its next turns.
 #[derive(Clone, Copy)]
 enum Rest {
-    /// It passes the gate alone.
+    /// Passes the gate alone.
     Gate,
-    /// It sleeps until another turn has ended a script or killed it.
+    /// Sleeps until another turn has ended or killed a script.
     UntilMoved,
-    /// It sleeps until its script is the oldest under way. Till then that holds no lock.
+    /// Sleeps until its script is the oldest under way. Till then the script holds no lock.
     UntilOldest,
 }
 
@@ -110,15 +112,16 @@ pub fn take_first<R: Wait, T: Turns>(rt: &R, shared: &Shared<T>, begin: bool) ->
     Some(task)
 }
 
-/// The next script to be worked on.
+/// The next script to work on.
 fn take<T: Turns>(turns: &mut T) -> Option<Task> {
     Some(Task::of(turns.take()?))
 }
 
-/// Makes turns under one lock: one, or many if no gate may hold the worker between them. Returns the script that the
-/// worker goes on with, once it has rested.
+/// Makes turns under one lock: one, or many if no gate may hold the worker between them. After a
+/// rest, returns the worker's next script.
 ///
-/// A script that died goes on when it is the oldest under way, which no turn kills: so a script dies at most once.
+/// A script that died goes on when it is the oldest under way. No turn kills the oldest, so a
+/// script dies at most once.
 fn turns_at_once<R: Wait, T: Turns>(
     rt: &R,
     shared: &Shared<T>,
@@ -158,8 +161,9 @@ fn make_one<R: Wait, T: Turns>(rt: &R, turns: &mut T, task: Task) -> (Option<Tas
     }
 }
 
-/// Makes many turns of a script, and of those that follow it where it ends soon. Where the next is long, it goes on
-/// with the oldest one in its place: what that needs is at hand here, and not where its worker sleeps.
+/// Makes many turns of a script, and of its successors if it ends soon. A long successor is
+/// exchanged for the oldest script, if a worker sleeps with that: the oldest's data is at hand
+/// here, and not where its worker sleeps.
 fn make_many<R: Wait, T: Turns>(rt: &R, turns: &mut T, task: Task) -> (Option<Task>, Rest) {
     let mut task = task;
     let mut made = 0usize;
@@ -184,8 +188,8 @@ fn make_many<R: Wait, T: Turns>(rt: &R, turns: &mut T, task: Task) -> (Option<Ta
     unreachable!()
 }
 
-/// How many turns a worker may have made under one lock where it goes on with another script: none before viewers, so
-/// that they may look between two.
+/// The turns under one lock after which a worker takes no other script: none before viewers, so
+/// they may look between two.
 fn most_before<T: Turns>(turns: &T, another: Task) -> usize {
     match (turns.are_looked_at(), turns.is_oldest(another.script)) {
         (true, _) => 0,
@@ -194,14 +198,14 @@ fn most_before<T: Turns>(turns: &T, another: Task) -> usize {
     }
 }
 
-/// Shows the commit of a script that has ended, and takes the next.
+/// Shows the commit of an ended script, and takes the next script.
 fn end<R: Wait, T: Turns>(rt: &R, turns: &mut T) -> Option<Task> {
     turns.show_commit(rt);
     take(turns)
 }
 
-/// Makes turns of a script up to one that ends it, kills it or waits, or that begins it where it is to sleep until
-/// it is the oldest, but no more than `TURNS_AT_ONCE`. Returns the last one, and how many they were.
+/// Makes turns of a script until one ends it, kills it or waits, or begins it if it is to sleep
+/// until it is the oldest; at most `TURNS_AT_ONCE`. Returns the last turn and the number of turns.
 fn go_on<T: Turns>(turns: &mut T, task: &mut Task) -> (Turn, usize) {
     for made in 1..TURNS_AT_ONCE {
         let turn = turn_once(turns, task);
@@ -228,7 +232,7 @@ fn turn_once<T: Turns>(turns: &mut T, task: &mut Task) -> Turn {
     turn
 }
 
-/// Waits until another turn has ended a script or killed it.
+/// Waits until another turn has ended or killed a script.
 fn wait_for_a_wakeup<R: Wait, T: Turns>(rt: &R, shared: &Shared<T>, turns: MutexGuard<'_, T>) {
     let seen = turns.wakeups();
     let _turns = shared
@@ -236,8 +240,7 @@ fn wait_for_a_wakeup<R: Wait, T: Turns>(rt: &R, shared: &Shared<T>, turns: Mutex
         .wait_while(rt, turns, |now| now.wakeups() == seen);
 }
 
-/// Waits until all scripts that began before this one have ended, or those before one that is exchanged for it. Returns
-/// the script that is the oldest then.
+/// Waits until the script, or one exchanged for it, is the oldest under way. Returns the oldest.
 fn wait_for_the_older<R: Wait, T: Turns>(
     rt: &R,
     shared: &Shared<T>,

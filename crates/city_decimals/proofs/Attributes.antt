@@ -1,4 +1,4 @@
--- What is written for the value of a member `attributes`, whichever way.
+-- The output for the value of a member `attributes`, in either direction.
 use Rattle.city_decimals.proofs.Prelude.{arith, ◌≡◌, ℕ, ◌-◌, ◌<◌, ◌≤◌, List, [], ◌∷◌, ◌++◌, length, Option, Some, None}
 use Rattle.city_decimals.proofs.Prelude.{refl, sym, ap, ◌∙◌, append_assoc, Token, Json, null, boolean, number, string}
 use Rattle.city_decimals.proofs.Prelude.{array, object, Items, no_items, item, Members, Parse, parse_map, value}

@@ -1,4 +1,4 @@
--- What is neither shielded nor a shield, and how that is seen in a text.
+-- Values that are neither shielded nor a shield, and how a text shows it.
 use Rattle.city_decimals.proofs.Prelude.{arith, ◌≡◌, ℕ, List, [], ◌∷◌, ◌++◌, Bool, true, false, get_or, refl, subst}
 use Rattle.city_decimals.proofs.Prelude.{append_assoc, ◌∙◌, ◌&&◌, Json, null, boolean, number, string, array, object}
 use Rattle.city_decimals.proofs.Prelude.{no_items, item, IsNumber, HasNumbers, is_tag, is_attributes, is_text_or_array}
@@ -26,7 +26,7 @@ pub no_shield : (k : List ℕ) (j : Json) → is_tag k ≡ false → (is_attribu
     → has_shield k (decoded j) ≡ false
 no_shield k j no_tag bare = shield_decoded k j ∙ no_shield_at (is_tag k) (is_attributes k) j no_tag bare
 
--- ---- how it begins
+-- ---- its first bytes
 
 -- a number begins with none of these bytes
 number_begins : (s rest : List ℕ) → IsNumber s

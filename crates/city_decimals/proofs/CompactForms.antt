@@ -1,4 +1,4 @@
--- What is copied of numbers that are encoded and of transforms in frames.
+-- Copies of encoded numbers and of transforms in frames.
 use Rattle.city_decimals.proofs.Prelude.{◌≡◌, ℕ, ◌-◌, ◌≤◌, List, [], ◌∷◌, ◌++◌, Bool, true, false, cond, None, refl}
 use Rattle.city_decimals.proofs.Prelude.{sym, ap, ◌∙◌, arith, append_assoc, append-nil, codes, Json, number, object}
 use Rattle.city_decimals.proofs.Prelude.{Members, no_members, member, escape, IsNumber, framed, only, fronted, encoded}
@@ -21,7 +21,7 @@ none_is_number : IsNumber (codes "0")
 unfolding after_number
 none_is_number = refl
 
--- what stands behind the transform in its frame
+-- the bytes after the transform in its frame
 abbrev pub frame_end : List ℕ
 frame_end = codes ",\"scale\":[1,1,1],\"translate\":[0,0,0]}"
 
@@ -56,7 +56,7 @@ frame_copied limit a b d e f deep first brace rest last =
       shallow = omega (arith, deep, rest.shallow);
     }
 
--- ---- what encodes
+-- ---- encoding
 
 pub number_encoded : (limit : ℕ) (a b : State) → IsNumberCopied a b → IsCopied encoded limit a b
 number_encoded limit a b n =
@@ -68,7 +68,7 @@ whole_encoded a b s h whole moves = grind arith
 pub plain_encoded : (s : List ℕ) → IsPlain s → encoded (number s) ≡ number s
 plain_encoded s p = ap (λ t. cond t (number s) (tagged s)) (plain_is_whole s p)
 
--- a plain number that is an item, for which itself is written
+-- a plain number as an item, with itself as the output
 pub plain_copied : (f : Json → Json) → ((s : List ℕ) → IsPlain s → f (number s) ≡ number s) → (later : Bool)
     (limit : ℕ) (a b : State)
     → (s : List ℕ) × IsPlain s × Moves a b (comma_if later ++ s) (comma_if later ++ s) → IsItemCopied f later limit a b
@@ -87,7 +87,7 @@ pub tagged_encoded : (a b d e : State) (s : List ℕ) → IsNumber s → escape 
 unfolding escape_byte
 tagged_encoded a b d e s h same whole first moves last = search (arith, append_assoc)
 
--- ---- a transform that is put into a frame
+-- ---- a transform put into a frame
 
 pub triple_encoded : (a b d e f g h i : State) → Moves a b (91 ∷ []) (91 ∷ []) → IsNumberCopied b d
     → Moves d e (44 ∷ []) (44 ∷ []) → IsNumberCopied e f → Moves f g (44 ∷ []) (44 ∷ []) → IsNumberCopied g h

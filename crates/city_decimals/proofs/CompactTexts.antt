@@ -1,4 +1,4 @@
--- A compact text is the print of its value, and what is copied of it that of the decoded value.
+-- A compact text is the print of its value; its copy is the print of the changed value.
 use Rattle.city_decimals.proofs.Prelude.{◌≤◌, Some, ◌≡◌, ℕ, [], ◌∷◌, ◌++◌, false, refl, sym, ap, ◌∙◌, arith}
 use Rattle.city_decimals.proofs.Prelude.{append_assoc, append-nil, IsUtf8, null, boolean, number, string, array, object}
 use Rattle.city_decimals.proofs.Prelude.{Items, no_items, item, Members, no_members, member, value, if_last}
@@ -68,7 +68,7 @@ text_printed j = ap print (sym (append-nil (json_tokens j))) ∙ print_value fal
 
 -- ---- a whole text
 
--- a value that is printed is read again, where it may nest as deep as it does
+-- a printed value is read again, if it may nest this deep
 pub read_again : (limit : ℕ) (j : Json) → HasNumbers j → depth j ≤ limit
     → document_to limit (print (json_tokens j)) ≡ Some j
 read_again limit j numbers shallow = ap (option_and_then (λ p. if_last p.0 p.1))
@@ -76,7 +76,7 @@ read_again limit j numbers shallow = ap (option_and_then (λ p. if_last p.0 p.1)
     ∙ sym (append-nil (json_tokens j)))
     ∙ value-json_tokens j limit [] shallow)
 
--- the value that a compact text is
+-- the value of a compact text
 top_is : (h : Members → Members) (limit : ℕ) (text out : List ℕ) (t : IsTopCopied h limit text out)
     → document_to limit text ≡ Some (object t.ms)
 top_is h limit text out t =

@@ -1,4 +1,4 @@
--- What is copied of a compact text, from its parts.
+-- The copy of a compact text, from its parts.
 use Rattle.city_decimals.proofs.Prelude.{◌≡◌, ℕ, ◌-◌, ◌<◌, ◌≤◌, List, [], ◌∷◌, ◌++◌, length, Bool, true, false, Some}
 use Rattle.city_decimals.proofs.Prelude.{None, refl, sym, ap, ◌∙◌, arith, append_assoc, append-nil, codes, IfSome}
 use Rattle.city_decimals.proofs.Prelude.{bytes_eq, bytes_eq-Decides, Items, Json, null, boolean, number, string, array}
@@ -162,7 +162,7 @@ members_first m h same later limit a b d first rest =
       shallow = omega (arith, first.shallow, rest.shallow);
     }
 
--- what is written inside quotes tells the name
+-- the inside of quotes tells the name
 escaped_tag : escape tag ≡ 35 ∷ []
 unfolding escape_byte
 escaped_tag = refl
@@ -190,11 +190,11 @@ not_framed : (top : Bool) (k key : List ℕ) (j : Json) → key ≡ escape k
     → (top && bytes_eq key (codes "transform")) ≡ false → (top && is_transform k j) ≡ false
 not_framed top k key j is h = search (arith, false_from, escaped_transform)
 
--- the text of a member, from that of its name and its value
+-- the text of a member, from its name's and its value's
 key_then : (c q v : List ℕ) → (c ++ (q ++ 58 ∷ [])) ++ v ≡ c ++ (q ++ 58 ∷ v)
 key_then c q v = regroup c q [] v
 
--- the value of a member, for which that under f is written
+-- the value of a member, with f of it as the output
 member_of : (f : Json → Json) (m : List ℕ → Json → Json) (later : Bool) (limit : ℕ) (a b d : State) (k : List ℕ) (j
     : Json)
     → Moves a b (comma_if later ++ (quoted k ++ 58 ∷ [])) (comma_if later ++ (quoted k ++ 58 ∷ []))
@@ -247,7 +247,7 @@ pub member_framed : (f : Json → Json) (m : Bool → List ℕ → Json → Json
 member_framed f m form later top limit a b d key passed other framed_here rest =
     search (arith, bytes_eq-Decides, is_transform_name, member_of)
 
--- ---- a value has a byte at least
+-- ---- a value has at least one byte
 
 number_some : (s : List ℕ) → IsNumber s → 0 < length s
 unfolding after_number

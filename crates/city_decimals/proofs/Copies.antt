@@ -12,13 +12,13 @@ pub take_plus : (a n : ℕ) (xs : List ℕ) → take (a + n) xs ≡ take a xs ++
 take_plus a n xs =
     grind (arith, take-append-drop a (take (a + n) xs), take-take a (a + n) xs (omega arith), drop-take a n xs)
 
--- what is left of a text, once n more bytes are read
+-- the text left to read, after n more bytes
 pub rest_more : (text rest : List ℕ) (at n : ℕ) → drop at text ≡ rest → rest ≡ take n rest ++ drop (at + n) text
 rest_more text rest at n is =
     sym (take-append-drop n rest)
     ∙ ap (λ r. take n rest ++ r) (ap (drop n) (sym is) ∙ drop-drop n at text)
 
--- the piece that isn't written yet, with n more bytes
+-- the piece not yet written, with n more bytes
 pub piece_more : (before text rest now : List ℕ) (start at n : ℕ) → start ≤ at → drop at text ≡ rest
     → before ++ take (at - start) (drop start text) ≡ now
     → before ++ take (at + n - start) (drop start text) ≡ now ++ take n rest
@@ -56,7 +56,7 @@ escape_inside text at b c inside h is backslash then (x, e) =
           ∙ sym (flat_map-append escape_byte inside.0 (x ∷ [])),
     )
 
--- the buffer, once the piece is written
+-- the buffer with the piece written
 pub all_written : (out piece new now : List ℕ) (base a : ℕ) (rest : List ℕ) → a ≡ 0 → base ≤ length out
     → new ≡ out ++ piece → drop base out ++ piece ≡ now → drop base new ++ take a rest ≡ now ++ []
 all_written out piece new now base a rest none h is before = search (arith, drop-append-le)
@@ -73,7 +73,7 @@ plain_text (x ∷ s) h =
     let first = h 0 (omega arith) in
     ap₂ (λ a b. a ++ b) (escape_byte_plain x first.0 first.1 first.2) (plain_text s (λ i l. h (suc i) (omega arith)))
 
--- the buffer, once the piece and more are written
+-- the buffer with the piece and more written
 pub more_written : (out piece more mid new now : List ℕ) (base a : ℕ) (rest : List ℕ) → a ≡ 0 → base ≤ length out
     → mid ≡ out ++ piece → new ≡ mid ++ more → drop base out ++ piece ≡ now → drop base new ++ take a rest ≡ now ++ more
 more_written out piece more mid new now base a rest none h first is before =

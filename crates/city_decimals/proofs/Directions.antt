@@ -1,4 +1,4 @@
--- A value is changed part by part, whichever way.
+-- A value is changed part by part, in either direction.
 use Rattle.city_decimals.proofs.Prelude.{arith, ◌≡◌, ℕ, List, [], ◌∷◌, ◌++◌, Bool, true, false, Some, ap, Json, null}
 use Rattle.city_decimals.proofs.Prelude.{boolean, number, string, array, object, Items, no_items, item, Members}
 use Rattle.city_decimals.proofs.Prelude.{no_members, member, value, Token, json_tokens, items_tokens, members_tokens}
@@ -54,7 +54,7 @@ pub member_tokens : (way : Direction) (top : Bool) (k : List ℕ) (j : Json) (ms
     ≡ Token.key k ∷ (json_tokens (member_changed way top k j) ++ members_tokens (members_changed way top ms))
 member_tokens way top k j ms = ap members_tokens (first_changed way top k j ms)
 
--- a member that is neither under the tag nor in a frame nor of a shield has no form
+-- a member neither under the tag nor in a frame nor of a shield has no form
 pub plain_member : (way : Direction) (top : Bool) (k : List ℕ) (j : Json) → (top && is_transform k j) ≡ false
     → is_tag k ≡ false → (is_attributes k ≡ true → is_bare j ≡ true) → member_changed way top k j ≡ changed way j
 plain_member way top k j no_frame untagged bare =
@@ -77,7 +77,7 @@ no_object way top = grind arith
 pub top_object : (way : Direction) (ms : Members) → top_changed way (object ms) ≡ object_made way true ms
 top_object way ms = grind arith
 
--- a whole text that is no object
+-- a whole text other than an object
 pub changed_other : (way : Direction) (d : ℕ) (t : Token) (ts : List Token) (j : Json) (r : List Token)
     → (t ≡ Token.begin_object → ⊥) → value d (t ∷ ts) ≡ Some (j, r) → top_changed way j ≡ changed way j
 changed_other Encode d t ts j r other is = encoded_other d t ts j r other is

@@ -1,4 +1,4 @@
--- What is set, taken out and expected of members that were read is set, taken out and expected of the members.
+-- Setting, taking out and expecting members has the same effect on members as read as on the members themselves.
 use Rattle.city_decimals.proofs.Prelude.{arith, ◌≡◌, ℕ, List, [], ◌∷◌, Bool, true, false, cond, Option, Some, None}
 use Rattle.city_decimals.proofs.Prelude.{Ordering, refl, sym, ap, ◌∙◌, subst, option_map, option_and_then}
 use Rattle.city_decimals.proofs.Prelude.{match_ordering, bytes_eq, bytes_eq-Decides, MembersHaveNumbers}
@@ -25,7 +25,7 @@ use Rattle.city_decimals.specs.Arranged as spec
 use Rattle.json.specs.Json as json
 use Rattle.json.specs.Find as find
 
--- what is read of the members from here on
+-- the members from here on, as read
 abbrev more : json.Members → Members → Option Members
 more ms found = of_members (encoded_members false ms) found
 
@@ -35,7 +35,7 @@ ordered_read (json.member k j ms) found ds read h =
     let b = bound (λ d. more ms (put k d found)) (member_read k j) ds read in
     ordered_read ms (put k b.0 found) ds b.2 (ordered_put k b.0 found h)
 
--- ---- what is written
+-- ---- written members
 
 members_back : (ms : json.Members) (ds : Members) → MembersHaveNumbers ms → AreRead ms ds
     → decoded_members false (members_outline ds) ≡ arranged_members ms json.no_members
@@ -49,7 +49,7 @@ object_back ms ds h read =
     let k = kept (json.object ms) h in
     ap (λ d. decoded (outline d)) (Some_inj _ _ (sym (ap (option_map object) read) ∙ k.read)) ∙ k.back
 
--- ---- what is found
+-- ---- found members
 
 abbrev found_or : List ℕ → Option json.Json → Option Data → Option Data
 found_or name None before = before
@@ -88,7 +88,7 @@ number_kind : (b : Bool) (s : List ℕ) (d : Data)
     → is_some (as_object d) ≡ false
 number_kind b s d h = grind arith
 
--- an object is read of an object alone
+-- only an object is read as an object
 pub object_alone : (j : json.Json) (d : Data) → member_read attributes j ≡ Some d
     → is_some (as_object d) ≡ is_some (find.as_object j)
 object_alone json.null d h = grind arith
@@ -165,7 +165,7 @@ some_read (json.member k j ms) found ds read some none =
     let b = bound (λ d. more ms (put k d found)) (member_read k j) ds read in
     some_read ms (put k b.0 found) ds b.2 (put_some k b.0 found) none
 
--- nothing is read of nothing alone
+-- the members read are none exactly if the members are
 pub none_read : (ms : json.Members) (ds : Members) → AreRead ms ds
     → (ds ≡ no_members) ↔ (ms ≡ json.no_members)
 none_read json.no_members ds read = ((λ e. refl), (λ e. sym (Some_inj _ _ read)))
@@ -184,7 +184,7 @@ unset_kept a ds (name ∷ names) h read =
 
 -- ---- expected
 
--- each value is read again of what it is decoded as
+-- each value is read back from its decoding
 abbrev AreAgain : Members → Type 0
 AreAgain no_members = Unit {0}
 AreAgain (member k d ms) = (member_read k (value_at k d) ≡ Some d) × AreAgain ms
@@ -241,7 +241,7 @@ apart o name l at other = grind (arith, bytes_eq-Decides l name, tied_same)
 later_none : (o : Option json.Json) → find.later_or o None ≡ o
 later_none o = grind arith
 
--- what is found among decoded members is decoded of what is found
+-- a member found in the decoding is the decoding of the member found
 decoded_at : (name : List ℕ) (ds : Members) → AreOrdered ds
     → find.get_member name (decoded_members false (members_outline ds)) ≡ option_map (value_at name)
     (get_member name ds)
@@ -257,7 +257,7 @@ decoded_at name (member l x ds) h =
     step Equal at = grind (arith, exact_bytes name l at, not_above name ds, bytes_eq-Decides l name, h.0)
     step Greater at = rw (apart Greater name l at (λ never. cc)) (later_none _)
 
--- a value is there exactly where what it is decoded as is there
+-- a value is there exactly if its decoding is there
 same_there : (k : List ℕ) (d : Data) (o : Option Data) → member_read k (value_at k d) ≡ Some d
     → ((e : Data) → o ≡ Some e → member_read k (value_at k e) ≡ Some e)
     → option_map (value_at k) o ≡ Some (value_at k d) → o ≡ Some d

@@ -1,4 +1,4 @@
--- The tokens of a form are those before its value, the value's and those after it.
+-- The tokens of a form are its tokens before the value, the value's, and its tokens after the value.
 use Rattle.city_decimals.proofs.Prelude.{arith, ◌≡◌, ◌++◌, append-nil, Json, json_tokens, in_form, tokens_after, Form}
 use Rattle.city_decimals.specs.internal.Forms.{tokens_before}
 

@@ -1,4 +1,4 @@
--- What stands in a form is decoded first or last alike.
+-- The value in a form is the same whether it is decoded first or last.
 use Rattle.city_decimals.proofs.Prelude.{◌≡◌, ℕ, ◌≤◌, List, Bool, true, false, cond, None, length, refl, arith, ◌&&◌}
 use Rattle.city_decimals.proofs.Prelude.{Json, object, Members, json_tokens, HasNumbers, is_tag, is_frame, is_transform}
 use Rattle.city_decimals.proofs.Prelude.{number, string, array, boolean, null, no_items, item, Option, has_shield}
@@ -21,7 +21,7 @@ only_decoded b j = grind arith
 front_decoded : (j : Json) → is_frame j ≡ true → decoded (front j) ≡ fronted (decoded j)
 front_decoded j h = grind arith
 
--- a number or an object, which no text is and no array
+-- a number or an object is neither a text nor an array of one
 no_text : (o : Option (List ℕ)) (ms : Members) → is_text (number_or o ms) ≡ false
 no_text o ms = grind arith
 
@@ -58,7 +58,7 @@ inner_decoded top k j = at (top && is_transform k j) (has_shield k j) (has_shiel
         ≡ cond b (fronted (decoded j)) (cond t (only (decoded j)) (decoded j))
     at b s t same e = search (arith, front_decoded, and_right, only_decoded)
 
--- ---- it is no larger, and has numbers where the whole has them
+-- ---- it is no larger, and has numbers if the whole has them
 
 only_smaller : (j : Json) → length (json_tokens (only j)) ≤ length (json_tokens j)
 only_smaller j = search (arith, length-append)

@@ -1,4 +1,4 @@
--- A text whose lines are JSON has no line that is none.
+-- A text of JSON lines has no other line.
 use Rattle.city_decimals.proofs.Prelude.{◌≡◌, ℕ, suc, List, [], ◌∷◌, ◌++◌, Some, refl, sym}
 use Rattle.city_decimals.proofs.Prelude.{◌∙◌, arith, subst, IsUtf8, IsLinesFault, IsFaultTo, DecimalsFault, document_to}
 use Rattle.city_decimals.specs.Lines.{HasNoNewline, ArePairs, first_text, AreJson, lines_text, HasJsonLines}

@@ -1,4 +1,4 @@
--- What the editor keeps is decoded to what was there.
+-- A value kept by the editor is decoded to the original.
 use Rattle.city_decimals.proofs.Prelude.{arith, ◌≡◌, ℕ, List, Bool, true, false, cond, Option, Some, None, Ordering}
 use Rattle.city_decimals.proofs.Prelude.{nat_cmp, refl, ap, ap₂, ◌∙◌, subst, codes, option_map, option_and_then}
 use Rattle.city_decimals.proofs.Prelude.{match_ordering, slice_cmp, bytes_eq-Decides, HasNumbers, ItemsHaveNumbers}
@@ -44,7 +44,7 @@ plain_put k d no_members h hs = (h, tt)
 plain_put k d (member l e ms) h hs =
     plain_at (slice_cmp nat_cmp k l) k l d e ms refl h hs (plain_put k d ms h hs.1)
 
--- what stands at the name k, once decoded
+-- the decoded value at the name k
 abbrev pub value_at : List ℕ → Data → json.Json
 value_at k d = out_of_form false k (outline d) (decoded (outline d))
 
@@ -71,7 +71,7 @@ decoded_put k d (member l e ms) = decoded_at (slice_cmp nat_cmp k l) k l d e ms 
 pub same_form : (k : List ℕ) (j : json.Json) → is_shielded k (arranged j) ≡ is_shielded k j
 same_form k j = grind arith
 
--- a value that was read, for a member of the name k
+-- a value as read, for a member of the name k
 pub record IsKeptAt (k : List ℕ) (c j : json.Json) : Type 0 where
   pub d : Data
   pub read : of_json c ≡ Some d

@@ -1,4 +1,4 @@
--- The members of an object, and when they encode no number.
+-- The members of an object, and the cases in which they encode no number.
 use Rattle.city_decimals.proofs.Prelude.{◌≡◌, ℕ, ◌-◌, List, [], ◌∷◌, ◌++◌, Bool, false, Option, Some, None, refl, sym}
 use Rattle.city_decimals.proofs.Prelude.{ap, ◌∙◌, arith, append_assoc, Token, Json, Members, member, Parse, read_key}
 use Rattle.city_decimals.proofs.Prelude.{json_tokens, members_tokens, Some_inj, is_tag, number_under, number_in}
@@ -6,7 +6,7 @@ use Rattle.city_decimals.proofs.Prelude.{number_or, decoded_members, decoded_obj
 use Rattle.city_decimals.proofs.Prelude.{Encode, Decode, written}
 use Rattle.json.specs.Json.{members}
 
--- where the members encode no number, they are written behind a brace
+-- if the members encode no number, they are written behind a brace
 pub object_written : (top : Bool) (out : List Token) (o : Option (Members × List Token))
     → ((ms : Members) (r : List Token) → o ≡ Some (ms, r) → number_in ms ≡ None)
     → written (λ ms. json_tokens (decoded_object top ms)) out o
@@ -16,7 +16,7 @@ object_written top out (Some q) h =
     ap (λ ts. Some (ts, q.1)) (ap (λ n. out ++ json_tokens (number_or n (decoded_members top q.0))) (h q.0 q.1 refl)
     ∙ sym (append_assoc out (Token.begin_object ∷ []) (members_tokens (decoded_members top q.0))))
 
--- the same, whichever way; only decoded members can be a number
+-- the same in either direction; only decoded members can be a number
 pub object_put : (way : Direction) (top : Bool) (out : List Token) (o : Option (Members × List Token))
     → (way ≡ Decode → (ms : Members) (r : List Token) → o ≡ Some (ms, r) → number_in ms ≡ None)
     → written (λ ms. json_tokens (object_made way top ms)) out o
@@ -54,6 +54,6 @@ two_are_no_number p n k l ts s u v i named is second ms r e =
     let same = Some_inj (i, u) (f.j, f.left) (sym is ∙ f.first) in
     let g = split p (n - 1) l f.left v f.more r (sym (ap (λ x. read_key x.1) same) ∙ second) f.rest in grind arith
 
--- a name that isn't the tag has no number
+-- a name other than the tag has no number
 pub other_name : (k : List ℕ) (j : Json) → is_tag k ≡ false → number_under k j ≡ None
 other_name k j h = grind arith

@@ -8,7 +8,7 @@ use Rattle.city_decimals.specs.declared.fault.DecimalsFault.TheVariants.{OutOfMe
 use Rattle.std.proofs.lemmas.List.{get_or-append-add, get_or_at}
 use Rattle.city_decimals.specs.Lines.{ArePairs, HasNoNewline, first_text, second_text}
 
--- what is left of a text after a line
+-- the rest of a text after a line
 pub rest_of : (xs : List ℕ) (n : ℕ) → n < length xs → get_or xs n 0 ≡ 10 → xs ≡ take n xs ++ 10 ∷ drop (n + 1) xs
 rest_of xs n h e = search (arith, split_at)
 
@@ -29,14 +29,14 @@ pub line_fault : (limit : ℕ) (line after : List ℕ) (f : DecimalsFault) → H
 line_fault limit line after OutOfMemory h fault = tt
 line_fault limit line after NotJson h fault = ([], line, after, tt, h, refl, fault)
 
--- a fault of what stands after a line that is decoded
+-- a fault of the rest after a decoded line
 pub later_fault : (limit : ℕ) (line out rest : List ℕ) (f : DecimalsFault) → HasNoNewline line → IsDecodedLine line out
     → IsLinesFault limit rest f → IsLinesFault limit (line ++ 10 ∷ rest) f
 later_fault limit line out rest OutOfMemory h r later = tt
 later_fault limit line out rest NotJson h r (pairs, bad, after, are, none, is, fault) =
     ((line, out) ∷ pairs, bad, after, (h, r, are), none, ap (λ t. line ++ 10 ∷ t) is, fault)
 
--- a line, behind what is written
+-- a line, after the earlier output
 pub done_with : (before line after : List ℕ) → before ++ (line ++ 10 ∷ after) ≡ (before ++ (line ++ 10 ∷ [])) ++ after
 done_with before line after = search (arith, append_assoc)
 
@@ -47,7 +47,7 @@ lines_then [] rest = refl
 lines_then (p ∷ ps) rest =
     ap (λ t. p.0 ++ 10 ∷ t) (lines_then ps rest) ∙ sym (append_assoc p.0 (10 ∷ first_text ps []) rest)
 
--- bytes that end a text, without a newline, are none where it ends with one
+-- bytes at the end of a text, without a newline, are none if it ends with one
 none_end : (prefix rest before : List ℕ) → HasNoNewline rest → prefix ++ rest ≡ before ++ 10 ∷ [] → rest ≡ []
 none_end prefix [] before none is = refl
 none_end prefix (b ∷ bs) before none is =
@@ -80,7 +80,7 @@ second_behind (p ∷ ps) qs rest =
     ap (λ t. p.1 ++ 10 ∷ t) (second_behind ps qs rest)
     ∙ sym (append_assoc p.1 (10 ∷ second_text ps []) (second_text qs rest))
 
--- a text that is empty or ends with a newline, and another one
+-- a text, empty or with a newline at its end, and another one
 module _ (text next out more : List ℕ) (ends : (text ≡ []) ⊎ ((before : List ℕ) × (text ≡ before ++ 10 ∷ [])))
     (first : AreDecodedLines text out) (second : AreDecodedLines next more) where
   no_rest : first.rest ≡ []

@@ -1,4 +1,4 @@
--- Numbers that are told by their digits.
+-- Numbers given by their digits.
 use Rattle.city_decimals.proofs.Prelude.{◌≡◌, ℕ, ◌<◌, List, true, subst, arith, bytes_eq-Decides, IsNumber, escape}
 use Rattle.city_decimals.proofs.Prelude.{number_of-decimal, is_whole, IsPlain}
 use Rattle.std.proofs.Common.{◌^◌}
@@ -9,7 +9,7 @@ use Rattle.std.proofs.lemmas.Str.Parse.{numerals_by_value, tells_by_index, digit
 use Rattle.json.proofs.Printed.Decimals.{IsNumber-decimal}
 use Rattle.city_decimals.proofs.Copies.{plain_text}
 
--- the text is that of a number that is written so
+-- the text is the decimal of some number
 plain_is_decimal : (s : List ℕ) → IsPlain s → (n : ℕ) × (n < 10 ^ 18) × (decimal n ≡ s)
 plain_is_decimal s p =
     let own = numerals_by_value _ tells_by_index in

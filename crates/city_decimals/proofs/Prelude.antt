@@ -1,4 +1,4 @@
--- The words that proofs of this crate share, from std, from the libraries and from its own definitions.
+-- The shared names of this crate's proofs, from std, the libraries and its own definitions.
 pub use Rattle.std.proofs.Common.{Bool, List, None, Option, Ordering, Some, [], ap, append-nil, append_assoc, ap₂}
 pub use Rattle.std.proofs.Common.{arith, cond, drop, false, get_or, length, length-drop, nat_cmp, refl, rules, subst}
 pub use Rattle.std.proofs.Common.{suc, sym, take, take_all, true, true≢false, ℕ, ◌*◌, ◌++◌, ◌+◌, ◌-◌, ◌<◌, ◌∙◌, ◌∷◌}

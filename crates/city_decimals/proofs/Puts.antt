@@ -1,4 +1,4 @@
--- Members that go in at their names, one after another, and members that are taken out.
+-- Members put in at their names, one after another, and members taken out.
 use Rattle.city_decimals.proofs.Prelude.{arith, ◌≡◌, ℕ, List, Bool, true, false, cond, Ordering, refl, sym, ap}
 use Rattle.city_decimals.proofs.Prelude.{◌∙◌, nat_cmp, slice_cmp, match_ordering, bytes_eq, bytes_eq-Decides, Data, put}
 use Rattle.std.proofs.Common.{Less, Equal, Greater}
@@ -44,9 +44,9 @@ ordered_put k d (member l e ms) h =
     let high : cmp k l ≡ Greater → AreAbove l (put k d ms) = λ is. above_put l k d ms (turned_back k l is) h.0 in
     grind arith
 
--- ---- two members that go in
+-- ---- two members put in
 
--- what isn't below a is below b
+-- a name not above a is below b
 later : (a b l : List ℕ) → cmp a b ≡ Less → (cmp a l ≡ Less → ⊥) → cmp b l ≡ Greater
 later a b l less at = grind (arith, exact_bytes, turned, turned_back, nat_list_cmp_total.trans)
 
@@ -81,7 +81,7 @@ pub put_twice : (k : List ℕ) (x y : Data) (ms : Members) → put k x (put k y 
 put_twice k x y no_members = rw (tied k) refl
 put_twice k x y (member l e ms) = twice_step (cmp k l) k l x y e ms refl (put_twice k x y ms)
 
--- ---- members that go in, one after another
+-- ---- members put in, one after another
 
 after_each : (k : List ℕ) (x : Data) (es ds : Members) → AreAbove k es
     → put_each es (put k x ds) ≡ put k x (put_each es ds)
@@ -100,14 +100,14 @@ into_step Equal k l x y es ds at h rest =
     ∙ ap (λ n. put n x (put_each es (put l y ds))) (sym same)
 into_step Greater k l x y es ds at h rest = rest
 
--- a member goes in among those that go in
+-- a member put among those to put in goes in last
 pub put_into : (k : List ℕ) (x : Data) (es ds : Members) → AreOrdered es
     → put_each (put k x es) ds ≡ put k x (put_each es ds)
 put_into k x no_members ds h = refl
 put_into k x (member l y es) ds h =
     into_step (cmp k l) k l x y es ds refl h.0 (put_into k x es (put l y ds) h.1)
 
--- ---- members that are taken out
+-- ---- members taken out
 
 above_without : (k name : List ℕ) (ms : Members) → AreAbove k ms → AreAbove k (without name ms)
 above_without k name no_members h = tt
@@ -129,7 +129,7 @@ same_step Less k l x y ms at itself rest = rw itself refl
 same_step Equal k l x y ms at itself rest = grind (arith, exact_bytes k l at)
 same_step Greater k l x y ms at itself rest = rw rest refl
 
--- a member that went in is out
+-- a member put in under a name is taken out with it
 pub without_same : (k : List ℕ) (x : Data) (ms : Members) → without k (put k x ms) ≡ without k ms
 without_same k x no_members = rw ((bytes_eq-Decides k k).1 refl) refl
 without_same k x (member l y ms) =
@@ -148,7 +148,7 @@ other_step Equal false name k l x y ms at apart is h rest = rw (is, at) refl
 other_step Greater true name k l x y ms at apart is h rest = rw is rest
 other_step Greater false name k l x y ms at apart is h rest = rw (is, at) (ap (member l y) rest)
 
--- what goes in under another name goes in after
+-- a member of another name can be put in afterwards
 pub without_other : (name k : List ℕ) (x : Data) (ms : Members) → bytes_eq name k ≡ false → AreOrdered ms
     → without name (put k x ms) ≡ put k x (without name ms)
 without_other name k x no_members apart h = rw apart refl

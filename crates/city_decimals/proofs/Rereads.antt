@@ -1,4 +1,4 @@
--- What is read of an encoded value is read of the arranged value too.
+-- An encoded value and the arranged value are read the same.
 use Rattle.city_decimals.proofs.Prelude.{arith, ◌≡◌, ℕ, List, Bool, true, false, cond, Option, Some, Ordering}
 use Rattle.city_decimals.proofs.Prelude.{refl, sym, ap, ap₂, ◌∙◌, option_map, option_and_then, match_ordering}
 use Rattle.city_decimals.proofs.Prelude.{Data, put, of_json, of_items, of_members, is_shielded, form_of, in_form}
@@ -41,7 +41,7 @@ abbrev pub IsBelow : List ℕ → json.Members → Type 0
 IsBelow k json.no_members = Unit {0}
 IsBelow k (json.member l j ms) = (cmp k l ≡ Less) × IsBelow k ms
 
--- a member that goes in before those that follow it is read before them or behind
+-- a member put in before its successors may be read before or after them
 read_after : (k : List ℕ) (x : Data) (ms : json.Members) (found ds : Members) → IsBelow k ms
     → of_members (encoded_members false ms) found ≡ Some ds
     → of_members (encoded_members false ms) (put k x found) ≡ Some (put k x ds)
@@ -52,7 +52,7 @@ read_after k x (json.member l j ms) found ds h read =
     ∙ ap (of_members (encoded_members false ms)) (sym (put_swap k l x b.0 found h.0))
     ∙ read_after k x ms (put l b.0 found) ds h.1 b.2
 
--- ---- members that go in at their names
+-- ---- members put in at their names
 
 below_lower : (a b : List ℕ) (ms : json.Members) → cmp a b ≡ Less → IsBelow b ms → IsBelow a ms
 below_lower a b json.no_members less h = tt
@@ -75,7 +75,7 @@ ascend_put k j (json.member l i ms) h =
     let high : cmp k l ≡ Greater → IsBelow l (spec.put k j ms) = λ is. below_put l k j ms (turned_back k l is) h.0 in
     grind arith
 
--- what is read of the members from here on
+-- the members from here on, as read
 abbrev more : json.Members → Members → Option Members
 more ms found = of_members (encoded_members false ms) found
 

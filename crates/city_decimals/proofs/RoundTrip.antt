@@ -1,4 +1,4 @@
--- What is encoded is decoded.
+-- An encoded value is decoded to itself.
 use Rattle.city_decimals.proofs.Prelude.{arith, ◌≡◌, ℕ, suc, List, Bool, true, false, cond, Option, Some, None, refl}
 use Rattle.city_decimals.proofs.Prelude.{ap, ap₂, ◌∙◌, ◌&&◌, codes, option_map, bytes_eq, bytes_eq-Decides, Json, null}
 use Rattle.city_decimals.proofs.Prelude.{boolean, number, string, array, object, Items, no_items, item, Members}
@@ -14,7 +14,7 @@ use Rattle.city_decimals.specs.Shapes.{is_triple}
 use Rattle.city_decimals.specs.declared.shapes.Form.TheVariants.{Framed}
 use Rattle.city_decimals.proofs.Bools.{and_map, and_less}
 
--- ---- an encoded value is a transform only where the value is one
+-- ---- an encoded value is a transform only if the value is one
 
 item_encoded : (i : ℕ) (js : Items) → get_item i (encoded_items js) ≡ option_map encoded (get_item i js)
 item_encoded zero no_items = refl
@@ -35,7 +35,7 @@ named_encoded : (b : Bool) (o : Option Json) (c d : Json) → (b ≡ true → d 
     → later_or (option_map encoded o) (cond b (Some d) None) ≡ option_map encoded (later_or o (cond b (Some c) None))
 named_encoded b o c d h = grind arith
 
--- under each name under which nothing is shielded
+-- under each name with nothing shielded
 get_encoded : (name : List ℕ) → ((k : List ℕ) (j : Json) → bytes_eq k name ≡ true → is_shielded k j ≡ false)
     → (ms : Members)
     → get_member name (encoded_members false ms) ≡ option_map encoded (get_member name ms)
@@ -67,7 +67,7 @@ frame_encoded j h = frame_encoded_with scale_is_other translate_is_other j h
 
 -- ---- a member
 
--- what isn't shielded is taken for no shield that has something in it
+-- a value that isn't shielded stays as it is when shields are opened
 pub only_other : (k : List ℕ) (j : Json) → is_shielded k j ≡ false → cond (has_shield k j) (only j) j ≡ j
 only_other k j h = other (is_tag k) (is_attributes k) j h
   where
@@ -75,7 +75,7 @@ only_other k j h = other (is_tag k) (is_attributes k) j h
         → cond (t || (a && is_single j)) (only j) j ≡ j
     other t a j h = grind arith
 
--- a shield is opened, and nothing else
+-- the array around a shielded value is recognized as a shield
 pub shield_is : (k : List ℕ) (j : Json) → is_shielded k j ≡ true → has_shield k (array (item j no_items)) ≡ true
 shield_is k j h = is (is_tag k) (is_attributes k) j h
   where
@@ -163,6 +163,6 @@ mutual
   members_back top no_members h = refl
   members_back top (member k j ms) h = ap₂ (member k) (member_back top k j (back j h.0)) (members_back top ms h.1)
 
--- each number is back as it was written, each member in its place
+-- each number is back exactly as written, each member in its place
 pub top_back : (j : Json) → HasNumbers j → decoded_top (encoded_top j) ≡ j
 top_back j h = search (arith, items_back, members_back)

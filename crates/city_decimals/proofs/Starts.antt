@@ -1,4 +1,4 @@
--- The first token tells of which kind a value is.
+-- The first token tells the kind of a value.
 use Rattle.city_decimals.proofs.Prelude.{arith, ◌≡◌, ℕ, List, ◌∷◌, Some, sym, ◌∙◌, Token, Json, null, boolean, number}
 use Rattle.city_decimals.proofs.Prelude.{string, array, object, Items, Members, Parse, value, value_is, decoded}
 use Rattle.city_decimals.proofs.Prelude.{decoded_top, encoded, encoded_top}
@@ -23,7 +23,7 @@ pub first_token : (d : ℕ) (t : Token) (ts : List Token) (j : Json) (r : List T
     → value d (t ∷ ts) ≡ Some (j, r) → t ≡ first j
 first_token d t ts j r e = begins _ _ t ts j r (sym (value_is d (t ∷ ts)) ∙ e)
 
--- ---- what that says of a value that is no object
+-- ---- values other than objects
 
 top_other : (t : Token) (j : Json) → (t ≡ Token.begin_object → ⊥) → t ≡ first j → encoded_top j ≡ encoded j
 top_other t j other e = grind arith
@@ -32,11 +32,11 @@ pub encoded_other : (d : ℕ) (t : Token) (ts : List Token) (j : Json) (r : List
     → ⊥) → value d (t ∷ ts) ≡ Some (j, r) → encoded_top j ≡ encoded j
 encoded_other d t ts j r other e = top_other t j other (first_token d t ts j r e)
 
--- a token that a reader handed out
+-- a token given by a reader
 pub no_brace : (t : read.Token) → (t ≡ BeginObject → ⊥) → token_of t ≡ Token.begin_object → ⊥
 no_brace t other e = grind arith
 
--- ---- what is decoded
+-- ---- the decoding
 
 decoded_top_other : (t : Token) (j : Json) → (t ≡ Token.begin_object → ⊥) → t ≡ first j → decoded_top j ≡ decoded j
 decoded_top_other t j other e = grind arith

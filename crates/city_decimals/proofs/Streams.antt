@@ -1,4 +1,4 @@
--- What is written, a turn of the grammar's loops at a time.
+-- The output, one turn of the grammar's loops at a time.
 use Rattle.city_decimals.proofs.Prelude.{arith, ◌≡◌, ℕ, ◌-◌, ◌<◌, ◌≤◌, List, [], ◌∷◌, ◌++◌, length, Option, Some, None}
 use Rattle.city_decimals.proofs.Prelude.{refl, ap, ◌∙◌, append_assoc, Token, Json, Items, no_items, item, Members}
 use Rattle.city_decimals.proofs.Prelude.{no_members, member, Parse, parse_map, after_end_array, read_key, items}
@@ -10,7 +10,7 @@ use Rattle.json.proofs.Numbered.{value-HasNumbers, ArePrintableOrBad-tokens}
 use Rattle.json.proofs.Grammar.{skip_value-shorter, items_end, items_more}
 
 module _ {A : Type 0} (f : A → List Token) where
-  -- what was read, where something was written
+  -- the value read, if there is output
   pub was_read : (out now : List Token) (o : Option (A × List Token)) (r : List Token) → written f out o ≡ Some (now, r)
       → (a : A) × (o ≡ Some (a, r)) × (now ≡ out ++ f a)
   was_read out now o r e = grind arith
@@ -19,7 +19,7 @@ module _ {A : Type 0} (f : A → List Token) where
       → written f out o ≡ written f now s → s ≡ None → o ≡ None
   none_written out now o s e h = grind arith
 
-  -- another way to say the same of what was read
+  -- another function with the same output for the value read
   pub written_as : (g : A → List Token) (out now : List Token) (o : Option (A × List Token)) (r : List Token)
       → written f out o ≡ Some (now, r)
       → ((a : A) → o ≡ Some (a, r) → g a ≡ f a) → written g out o ≡ Some (now, r)
@@ -32,7 +32,7 @@ module _ {A : Type 0} (f : A → List Token) where
   token_first h g t is out None = refl
   token_first h g t is out (Some p) = search (arith, append_assoc)
 
--- what is written of a value is what is written of what it was made of
+-- the output for a value made by h is the output for its source
 pub written_with : {A B : Type 0} (h : A → B) (g : B → List Token) (f : A → List Token)
     → ((a : A) → g (h a) ≡ f a) → (out : List Token) (o : Option (A × List Token))
     → written g out (parse_map h o) ≡ written f out o
@@ -78,7 +78,7 @@ module _ (p : Parse Json) (f : List ℕ → Json → List Token) (g : Members
       → written g out (members p n ts) ≡ Some (out ++ g no_members, r)
   members_over n out ts r enough e = ap (written g out) (members_end p n ts r enough e)
 
--- a whole text that was read
+-- a whole text as read
 pub record IsWhole (limit : ℕ) (f : Json → List Token) (text : List ℕ) (now : List Token) : Type 0 where
   pub j : Json
   pub is : document_to limit text ≡ Some j

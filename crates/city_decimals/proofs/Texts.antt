@@ -60,7 +60,7 @@ last : (o : Option (Json × List Token)) (j : Json) → option_and_then (λ p. i
     → (rest : List Token) × (o ≡ Some (j, rest))
 last o j e = grind arith
 
--- however deep one reads, the tokens of a value are read as the value
+-- at any depth, the tokens of a value are read as the value
 pub one_value : (j : Json) → HasNumbers j → (d : ℕ) (i : Json)
     → option_and_then (λ p. if_last p.0 p.1) (value d (tokens (print (json_tokens j)))) ≡ Some i → i ≡ j
 one_value j h d i e =
@@ -70,7 +70,7 @@ one_value j h d i e =
     let whole = ap (value (depth j)) (sym (append-nil (json_tokens j))) ∙ value-json_tokens j (depth j) [] deep in
     ap (λ p. p.0) (Some_inj _ _ (one_reading d (depth j) (json_tokens j) (i, found.0) (j, []) found.1 whole))
 
--- ---- the laws of a text that is encoded
+-- ---- the laws of an encoded text
 
 pub lossless : (text : List ℕ) (j : Json) → document text ≡ Some j → HasNumbers j → depth j ≤ max_depth
     → (out : List ℕ) → out ≡ print (json_tokens (encoded_top j)) → (back : List ℕ) → IsDecoded out back

@@ -68,7 +68,7 @@ mutual
 pub top_whole : (j : json.Json) → AreWhole (encoded_top j)
 top_whole j = search (arith, items_whole, members_whole)
 
--- ---- what is read of it
+-- ---- the value as read
 
 pub mapped : {A B : Type 0} (f : A → B) (o : Option A) (b : B) → option_map f o ≡ Some b
     → (a : A) × (o ≡ Some a) × (f a ≡ b)
@@ -115,7 +115,7 @@ mutual
       let b = bound (λ d. of_members ms (put k d found)) (of_json j) ds e in
       members_are ms (put k b.0 found) ds h.1 (put_integral k b.0 found (integral j b.0 h.0 b.1) before) b.2
 
--- it is read, whatever else it is
+-- it is read in any case
 
 number_readable : (s : List ℕ) (o : Option Num) → number_of s ≡ o → is_written_so s o ≡ true
     → (d : Data) × (option_map number (number_of s) ≡ Some d)

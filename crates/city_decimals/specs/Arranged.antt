@@ -1,4 +1,4 @@
--- A value as the editor arranges it: the names of each object ascend, and of a repeated one the last value stays.
+-- A value as the editor arranges it: the names of each object ascend, and the last value of a repeated one stays.
 use Rattle.std.specs.Prelude.{ℕ, List}
 use Rattle.std.specs.Ordering.{nat_cmp, match_ordering}
 use Rattle.std.specs.Cmp.Lexicographic.{slice_cmp}

@@ -1,4 +1,4 @@
--- What the editor does to the attributes of an object, as it reads them encoded, is the same done to the attributes.
+-- Editing the encoded attributes of an object has the same effect as editing the attributes themselves.
 use Rattle.std.specs.Prelude.{◌≡◌, ◌↔◌, ℕ, List, [], ◌∷◌, false, cond, Option, Some, is_some, codes}
 use Rattle.std.specs.Prelude.{option_and_then}
 use Rattle.std.specs.Str.{bytes_eq}
@@ -18,14 +18,14 @@ use Rattle.json.specs.Find as find
 abbrev pub attributes : List ℕ
 attributes = codes "attributes"
 
--- ---- members that were read
+-- ---- members as read
 
 -- the members, and each of the others in its place
 abbrev pub put_each : Members → Members → Members
 put_each no_members ms = ms
 put_each (member k d others) ms = put_each others (put k d ms)
 
--- the members but those of a name
+-- the members except for those of a name
 abbrev pub without : List ℕ → Members → Members
 without name no_members = no_members
 without name (member k d ms) = cond (bytes_eq name k) (without name ms) (member k d (without name ms))
@@ -41,7 +41,7 @@ AreAmong (member k d named) found = (get_member k found ≡ Some d) × AreAmong 
 
 -- ---- members of JSON
 
--- the members, and the others behind them: of a repeated name the last one counts
+-- the members, then the others: of a repeated name the last one counts
 abbrev pub append : json.Members → json.Members → json.Members
 append json.no_members others = others
 append (json.member k j ms) others = json.member k j (append ms others)
@@ -54,14 +54,14 @@ abbrev pub leave_out_each : List (List ℕ) → json.Members → json.Members
 leave_out_each [] ms = ms
 leave_out_each (name ∷ names) ms = leave_out_each names (leave_out name ms)
 
--- each of the named members is among the others, with the same value, its numbers as they are written
+-- each of the named members is among the others, with the same value, its numbers exactly as written
 abbrev pub AreWithin : json.Members → json.Members → Type 0
 AreWithin json.no_members found = Unit {0}
 AreWithin (json.member k j named) found = (find.get_member k found ≡ Some j) × AreWithin named found
 
--- ---- what is read of encoded members
+-- ---- encoded members as read
 
--- what is read of the encoded value of a member
+-- the encoded value of a member, as read
 abbrev pub member_read : List ℕ → json.Json → Option Data
 member_read k j = of_json (in_form (form_of false k j) (encoded j))
 
@@ -69,14 +69,13 @@ member_read k j = of_json (in_form (form_of false k j) (encoded j))
 abbrev pub AreRead : json.Members → Members → Type 0
 AreRead ms ds = of_members (encoded_members false ms) no_members ≡ Some ds
 
--- they are read so, and what is written for them is decoded as the members, arranged
+-- the members are read as ds, and ds, written and decoded, is the members, arranged
 abbrev pub AreKeptAs : json.Members → Members → Type 0
 AreKeptAs ms ds = AreRead ms ds × (decoded (outline (object ds)) ≡ arranged (json.object ms))
 
 -- ---- the laws
 
--- Under `attributes` the editor finds what is read of the last member of the name, and an object where that is one
--- and nowhere else.
+-- Under `attributes` the editor finds the last member of the name, as read, and reads an object exactly if it is one.
 abbrev pub FindsAttributes : Type 0
 FindsAttributes =
     (ms : json.Members) (ds : Members) → MembersHaveNumbers ms → AreRead ms ds
@@ -84,20 +83,21 @@ FindsAttributes =
     × ((j : json.Json) (d : Data) → member_read attributes j ≡ Some d
     → is_some (as_object d) ≡ is_some (find.as_object j))
 
--- what is set, encoded, among what is there, encoded, is both one behind the other, encoded
+-- setting e among d keeps it as a followed by s
 abbrev pub KeepsSets : Type 0
 KeepsSets =
     (a s : json.Members) (d e : Members) → MembersHaveNumbers a → MembersHaveNumbers s → AreRead a d → AreRead s e
     → AreKeptAs (append a s) (put_each e d)
 
--- what is left of what is there, encoded, is what is left of it, encoded; and one is nothing where the other is
+-- leaving names out of d keeps it as a without these names; nothing is left of one exactly if nothing is left of the
+-- other
 abbrev pub KeepsUnsets : Type 0
 KeepsUnsets =
     (a : json.Members) (d : Members) (names : List (List ℕ)) → MembersHaveNumbers a → AreRead a d
     → AreKeptAs (leave_out_each names a) (without_each names d)
     × ((without_each names d ≡ no_members) ↔ (leave_out_each names a ≡ json.no_members))
 
--- what is expected, encoded, is among what is there, encoded, exactly where it is among it
+-- e is among d exactly if s is within a, both arranged
 abbrev pub KeepsExpects : Type 0
 KeepsExpects =
     (a s : json.Members) (d e : Members) → MembersHaveNumbers a → MembersHaveNumbers s → AreRead a d → AreRead s e

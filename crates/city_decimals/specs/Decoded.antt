@@ -1,4 +1,4 @@
--- A value whose encoded numbers are numbers again.
+-- A value with its encoded numbers as numbers again.
 use Rattle.std.specs.Prelude.{ℕ, ◌&&◌, List, Bool, true, false, cond, Option, Some, None}
 use Rattle.json.specs.Json.{Json, null, boolean, number, string, array, object, Items, no_items, item, Members}
 use Rattle.json.specs.Json.{no_members, member}
@@ -13,7 +13,7 @@ number_under k (string s) = cond (is_tag k && is_number s) (Some s) None
 number_under k (array js) = None
 number_under k (object ms) = None
 
--- the number that these members encode: they are one text under the tag, a number's
+-- the number encoded by these members: they are one text under the tag, a number's
 abbrev pub number_in : Members → Option (List ℕ)
 number_in no_members = None
 number_in (member k j no_members) = number_under k j
@@ -23,7 +23,7 @@ abbrev pub number_or : Option (List ℕ) → Members → Json
 number_or None ms = object ms
 number_or (Some s) ms = number s
 
--- what stands for a member j, whose value is r once its parts are decoded
+-- the value of a member j without its form; r is j with its parts decoded
 abbrev pub out_of_form : Bool → List ℕ → Json → Json → Json
 out_of_form top k j r = cond (top && is_transform k j) (fronted r) (cond (has_shield k r) (only r) r)
 

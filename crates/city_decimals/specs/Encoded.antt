@@ -1,4 +1,4 @@
--- A value whose numbers are encoded: those that are no `i64` as texts under the tag.
+-- A value with its numbers encoded: numbers other than an `i64` as texts under the tag.
 use Rattle.std.specs.Prelude.{ℕ, List, Bool, true, false, cond}
 use Rattle.json.specs.Json.{Json, null, boolean, number, string, array, object, Items, no_items, item, Members}
 use Rattle.json.specs.Json.{no_members, member}

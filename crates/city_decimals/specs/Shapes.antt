@@ -1,4 +1,4 @@
--- The shapes of values that aren't just encoded part by part.
+-- The shapes of values with an encoding of their own.
 use Rattle.std.specs.Prelude.{ℕ, ◌&&◌, ◌||◌, List, Bool, true, false, not, cond, Option, Some, None, option_and_then}
 use Rattle.std.specs.Prelude.{is_some, codes}
 use Rattle.std.specs.Str.{bytes_eq}
@@ -8,7 +8,7 @@ use Rattle.city_decimals.specs.Numbers.{is_whole}
 use Rattle.city_decimals.specs.declared.shapes.Form.{Form}
 use Rattle.city_decimals.specs.declared.shapes.Form.TheVariants.{Plain, Shielded, Framed}
 
--- the name under which a number's text stands
+-- the name of the member with a number's text
 abbrev pub tag : List ℕ
 tag = codes "#"
 
@@ -54,7 +54,7 @@ is_text (string s) = true
 is_text (array js) = false
 is_text (object ms) = false
 
--- an array of one item, which is no text
+-- an array of one item other than a text
 abbrev pub is_single : Json → Bool
 is_single null = false
 is_single (boolean b) = false
@@ -65,7 +65,7 @@ is_single (array (item j no_items)) = not (is_text j)
 is_single (array (item j (item i js))) = false
 is_single (object ms) = false
 
--- a number that is encoded as an object
+-- a number encoded as an object
 abbrev pub is_fraction : Json → Bool
 is_fraction null = false
 is_fraction (boolean b) = false
@@ -74,9 +74,8 @@ is_fraction (string s) = false
 is_fraction (array js) = false
 is_fraction (object ms) = false
 
--- Under the tag a text or an array gets a shield, so that no other object is a number. Under `attributes` a number
--- gets one that else would be an object, so that objects alone are objects there, and an array that could be taken
--- for a shield.
+-- Under the tag a text or an array gets a shield, so no other object is a number. Under `attributes` a number gets
+-- one if it is encoded as an object, so objects alone are objects there; and so does an array like a shield.
 abbrev pub is_shielded : List ℕ → Json → Bool
 is_shielded k j = (is_tag k && is_text_or_array j) || (is_attributes k && (is_fraction j || is_single j))
 
@@ -87,7 +86,7 @@ form_of top k j = cond (top && is_transform k j) Framed (cond (is_shielded k j) 
 abbrev pub three : List ℕ → Json
 three s = array (item (number s) (item (number s) (item (number s) no_items)))
 
--- the identity, beside the transform that it stands for
+-- the identity, with the transform under the tag
 abbrev pub framed : Json → Json
 framed j = object (member tag j (member (codes "scale") (three (codes "1")) (member (codes "translate") (three
     (codes "0")) no_members)))
@@ -97,13 +96,13 @@ in_form Plain j = j
 in_form Shielded j = array (item j no_items)
 in_form Framed j = framed j
 
--- ---- what stands in a form
+-- ---- the value in a form
 
--- what stands under the name may be a shield
+-- the value under the name may be a shield
 abbrev pub has_shield : List ℕ → Json → Bool
 has_shield k j = is_tag k || (is_attributes k && is_single j)
 
--- the item of an array of one; any other value as it is
+-- the item of an array of one; any other value unchanged
 abbrev pub only : Json → Json
 only null = null
 only (boolean b) = boolean b
@@ -114,7 +113,7 @@ only (array (item j no_items)) = j
 only (array (item j (item i js))) = array (item j (item i js))
 only (object ms) = object ms
 
--- the value of the first member, if its name is the tag; any other value as it is
+-- the value of the first member, if its name is the tag; any other value unchanged
 abbrev pub fronted : Json → Json
 fronted null = null
 fronted (boolean b) = boolean b

@@ -1,4 +1,4 @@
--- What private clauses and proofs speak of, and no public contract.
+-- Definitions for private clauses and proofs only.
 pub mod Changes
 pub mod Compact
 pub mod Copies

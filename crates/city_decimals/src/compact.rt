@@ -1,4 +1,4 @@
-//! Compact texts, copied but for what is encoded or decoded.
+//! Copies compact texts, with numbers and the transform encoded or decoded.
 ghost use Rattle.std.specs.Prelude.{◌≡◌, ◌<◌, ◌-◌, ◌++◌, ◌∷◌, [], ℕ, List, true, false, IfSome, IfOk};
 ghost use Rattle.std.specs.Prelude.{IfErr};
 ghost use Rattle.std.specs.Str.{IsUtf8};
@@ -19,18 +19,18 @@ use decoding::{copy_encoded_number, is_encoded_number};
 use encoding::{copy_into_frame, encode_number};
 use leaves::{copy_name, copy_string, is_framed, is_tag, may_be_shielded};
 
-/// What stands in an encoded number before its text, and behind it.
+/// The bytes of an encoded number before its text, and after it.
 const NUMBER_BEGIN: &[u8] = b"{\"#\":\"";
 
 const NUMBER_END: &[u8] = b"\"}";
 
-/// What stands in a frame before the transform, and behind it.
+/// The bytes of a frame before the transform, and after it.
 const FRAME_BEGIN: &[u8] = b"{\"#\":";
 
 const FRAME_END: &[u8] = b",\"scale\":[1,1,1],\"translate\":[0,0,0]}";
 
-/// The buffer, with the changed text behind what it holds, where the text is compact and of a form that is known
-/// here; else as it was. Arrays and objects may nest `depth` deep.
+/// Appends the changed text to the buffer, if the text is compact and of a form known here.
+/// Otherwise returns `Err` with the buffer unchanged. Arrays and objects may nest `depth` deep.
 pub(crate) fn copy_compact(
     way: Direction,
     bytes: &[u8],
@@ -48,7 +48,7 @@ pub(crate) fn copy_compact(
     copier.finish()
 }
 
-/// Copies the object that a whole text is, changed.
+/// Copies the object of a whole text, changed.
 fn copy_top(copier: &mut Copier<'_>, depth: usize, way: Direction) -> Option<()>
     ensures before { copier.new.0 ≡ copier.old.0 }
     ensures copied { IfSome result (λ _. (m : State) × (0 < depth) × Moves copier.old m (123 ∷ []) (123 ∷ [])
@@ -119,7 +119,7 @@ fn copy_items(copier: &mut Copier<'_>, depth: usize, way: Direction) -> Option<(
     Some(())
 }
 
-/// Copies a comma, where something stands before, and an item, changed.
+/// Copies an item, changed, after a comma if `later`.
 #[cycle(copy)]
 #[inline(always)]
 fn copy_item(copier: &mut Copier<'_>, later: bool, depth: usize, way: Direction) -> Option<()>
@@ -130,7 +130,7 @@ fn copy_item(copier: &mut Copier<'_>, later: bool, depth: usize, way: Direction)
     copy_value(copier, depth, way)
 }
 
-/// Copies an object, changed, or the number that it encodes.
+/// Copies an object, changed, or the number it encodes.
 #[cycle(copy)]
 #[inline(always)]
 fn copy_object(copier: &mut Copier<'_>, depth: usize, way: Direction) -> Option<()>
@@ -162,8 +162,8 @@ fn copy_members(copier: &mut Copier<'_>, depth: usize, top: bool, way: Direction
     Some(())
 }
 
-/// Copies a comma, where something stands before, and a member, changed. One under the tag isn't known here,
-/// nor one of `attributes` that may be shielded.
+/// Copies a member, changed, after a comma if `later`. Returns `None` for a member under the tag,
+/// and for `attributes` that may be shielded or a shield.
 #[cycle(copy)]
 #[inline(always)]
 fn copy_member(

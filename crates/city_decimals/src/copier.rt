@@ -1,4 +1,4 @@
-//! A compact text that is copied in pieces, but for what is left out.
+//! Copies a compact text in pieces, except for bytes left out.
 ghost use Rattle.std.specs.Prelude.{◌≡◌, ◌∷◌, ◌++◌, ◌+◌, ◌<◌, ◌≤◌, get_or, [], ℕ, List, true, false, length, take};
 ghost use Rattle.std.specs.Prelude.{drop, IfOk, IfErr, IfSome};
 ghost use Rattle.std.specs.Bool.{OnTrue};
@@ -12,16 +12,16 @@ use crate::numbers::{is_number, plain_len};
 use crate::text::{is_text, text_of};
 use std::marker::Model;
 
-/// A text of which some is read, and what is written for that. A clause sees what the buffer held before, what was
-/// written, and what is left to read.
+/// A text read in part, and the output for that part. Contracts see the old bytes of the buffer,
+/// the output, and the text left to read.
 #[derive(Drop)]
 pub(crate) struct Copier<'a> {
     text: &'a [u8],
     at: usize,
-    /// Where the piece begins that is read and not written yet.
+    /// The start of the piece read and not yet written.
     start: usize,
     out: Vec<u8>,
-    /// How many bytes the buffer held before.
+    /// The old length of the buffer.
     base: usize,
 }
 
@@ -38,7 +38,7 @@ impl<'a> Model for Copier<'a> {
 }
 
 impl<'a> Copier<'a> {
-    /// Nothing is read yet, and what is written goes behind what the buffer holds.
+    /// A copier with nothing read. Output is appended to the buffer.
     pub(crate) fn new(text: &'a [u8], out: Vec<u8>) -> Copier<'a>
         ensures { result ≡ (out.items, [], text.now) }
     {
@@ -52,8 +52,8 @@ impl<'a> Copier<'a> {
         }
     }
 
-    /// The buffer with what was written, where the whole text is read, what was written is text, and there is
-    /// memory; else as it was before.
+    /// Returns the buffer with the output appended if the whole text was read, the output is text,
+    /// and there is memory; else `Err` with the buffer as before.
     pub(crate) fn finish(self) -> Result<Vec<u8>, Vec<u8>>
         ensures ok { IfOk result (λ v. (self.entry.2 ≡ []) × IsUtf8 self.entry.1
             × (v.items ≡ self.entry.0 ++ self.entry.1)) }
@@ -77,7 +77,7 @@ impl<'a> Copier<'a> {
         Ok(out)
     }
 
-    /// The buffer as it was before.
+    /// The buffer as before.
     pub(crate) fn give_up(self) -> Vec<u8>
         ensures { result.items ≡ self.entry.0 }
     {
@@ -87,7 +87,7 @@ impl<'a> Copier<'a> {
         out
     }
 
-    /// What is left to read.
+    /// The text left to read.
     #[inline(always)]
     pub(crate) fn rest(&self) -> &'a [u8]
         ensures { result.now ≡ self.now.2 }
@@ -133,7 +133,7 @@ impl<'a> Copier<'a> {
         Some(())
     }
 
-    /// Copies this byte, where it is next: whether it was.
+    /// Copies this byte if it is next; returns whether it was.
     #[inline(always)]
     pub(crate) fn take(&mut self, byte: u8) -> bool
         ensures before { self.new.0 ≡ self.old.0 }
@@ -148,7 +148,7 @@ impl<'a> Copier<'a> {
         true
     }
 
-    /// Copies these bytes, where they are next.
+    /// Copies these bytes if they are next.
     #[inline(always)]
     pub(crate) fn pass(&mut self, bytes: &[u8]) -> Option<()>
         ensures before { self.new.0 ≡ self.old.0 }
@@ -161,7 +161,7 @@ impl<'a> Copier<'a> {
         Some(())
     }
 
-    /// Leaves these bytes out, where they are next.
+    /// Leaves these bytes out if they are next.
     pub(crate) fn skip(&mut self, bytes: &[u8]) -> Option<()>
         ensures before { self.new.0 ≡ self.old.0 }
         ensures moves { IfSome result (λ _. Moves self.old self.new bytes.now []) }
@@ -172,7 +172,7 @@ impl<'a> Copier<'a> {
         self.leave_out(bytes.len())
     }
 
-    /// Copies what stands in a string, and the quote that closes it: what stands there, as it is written.
+    /// Copies the inside of a string, and the closing quote. Returns the inside as written.
     #[inline(always)]
     pub(crate) fn pass_inside(&mut self) -> Option<&'a [u8]>
         ensures before { self.new.0 ≡ self.old.0 }
@@ -185,7 +185,7 @@ impl<'a> Copier<'a> {
         Some(&rest[..end])
     }
 
-    /// Copies a comma, where something stands before.
+    /// Copies a comma if `later`.
     #[inline(always)]
     pub(crate) fn pass_comma(&mut self, later: bool) -> Option<()>
         ensures before { self.new.0 ≡ self.old.0 }
@@ -197,7 +197,7 @@ impl<'a> Copier<'a> {
         if self.take(b',') { Some(()) } else { None }
     }
 
-    /// Copies a comma, where something stands before, and a name with its colon: the name, as it is written.
+    /// Copies a comma if `later`, then a name with its colon. Returns the name as written.
     #[inline(always)]
     pub(crate) fn pass_key(&mut self, later: bool) -> Option<&'a [u8]>
         ensures before { self.new.0 ≡ self.old.0 }
@@ -230,7 +230,7 @@ impl<'a> Copier<'a> {
         Some(())
     }
 
-    /// The bytes up to one that can't stand in a number.
+    /// The bytes before the first that can't be in a number.
     pub(crate) fn next_number(&self) -> &'a [u8]
         ensures within { length result.now ≤ length self.now.2 }
         ensures front { take (length result.now) self.now.2 ≡ result.now }
@@ -240,7 +240,7 @@ impl<'a> Copier<'a> {
         &rest[..number_end(rest)]
     }
 
-    /// Copies a comma, where something stands before, and a plain number, where they are next: whether they were.
+    /// Copies a comma if `later`, then a plain number, if they are next; returns whether they were.
     #[inline(always)]
     pub(crate) fn take_plain(&mut self, later: bool) -> bool
         ensures before { self.new.0 ≡ self.old.0 }
@@ -310,7 +310,7 @@ fn is_number_text(bytes: &[u8]) -> bool
     }
 }
 
-/// Whether a comma is next, where one has to be.
+/// Whether a comma is next, or none is needed.
 #[inline(always)]
 fn has_comma(text: &[u8], later: bool) -> bool
     ensures len { OnTrue result (length (comma_if later) ≤ length text.now) }
@@ -326,7 +326,7 @@ fn comma_len(later: bool) -> usize
     if later { 1 } else { 0 }
 }
 
-/// Where the bytes end that may stand in a number.
+/// The end of the bytes that may be in a number.
 fn number_end(text: &[u8]) -> usize
     ensures within { result ≤ length text.now }
     ensures plain { (i : ℕ) → i < result → IsPlainByte (get_or text.now i 0) }
@@ -352,8 +352,9 @@ fn is_mark(byte: u8) -> bool
     byte == b'-' || byte == b'+' || byte == b'.' || byte == b'e' || byte == b'E'
 }
 
-/// Where the quote stands that closes a string, of whose inside this is the text. None where the inside isn't
-/// written with the escapes that a writer gives, or has an escape other than of a quote, a backslash and a newline.
+/// The index of the closing quote of a string; the text begins with the inside. `None` if the
+/// inside isn't escaped as a writer does it, or has escapes other than of a quote, a backslash and
+/// a newline.
 #[inline(always)]
 fn string_end(text: &[u8]) -> Option<usize>
     ensures within { IfSome result (λ end. end + 1 ≤ length text.now) }
@@ -385,7 +386,7 @@ fn string_end(text: &[u8]) -> Option<usize>
     None
 }
 
-/// Whether a backslash and this byte are what a writer gives for a byte.
+/// Whether a backslash and this byte are a writer's escape of a quote, a backslash or a newline.
 fn is_escaped(byte: u8) -> bool
     ensures { OnTrue result (IsEscaped byte) }
 {

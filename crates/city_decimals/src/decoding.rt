@@ -1,4 +1,4 @@
-//! The text that was encoded.
+//! Decodes an encoded text.
 ghost use Rattle.std.specs.Prelude.{IfOk, IfErr};
 ghost use Rattle.std.specs.Str.{IsUtf8};
 ghost use Rattle.city_decimals.specs.Texts.{IsDecoded, IsDecimalsFault};
@@ -17,7 +17,7 @@ pub(crate) use member::decode_member_tree;
 use std::alloc::Global;
 pub(crate) use tree::decode_tree;
 
-/// The text with its numbers as they were before `encode`, without shields and frames, in one line.
+/// Returns the text in one line, its numbers as before `encode`, without shields and frames.
 pub fn decode(alloc: Global, bytes: &[u8]) -> Result<Vec<u8>, DecimalsFault>
     ensures decoded { IfOk result (λ out. IsDecoded bytes.now out.items) }
     ensures utf8 { IfOk result (λ out. IsUtf8 out.items) }

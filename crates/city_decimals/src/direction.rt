@@ -1,4 +1,4 @@
-//! Which way a text goes.
+//! The direction of a change.
 
 /// Whether the numbers of a text are encoded, or decoded.
 #[derive(Clone, Copy, Drop)]

@@ -1,4 +1,4 @@
-//! A text of whole numbers.
+//! Encodes a text as one of whole numbers.
 ghost use Rattle.std.specs.Prelude.{◌≡◌, ◌≤◌, true, IfOk, IfErr, ℕ, List, Some};
 ghost use Rattle.std.specs.Str.{IsUtf8};
 ghost use Rattle.json.specs.Json.{Json, document};
@@ -22,8 +22,9 @@ pub(crate) use number::encode_number;
 use std::alloc::Global;
 pub(crate) use tree::encode_tree;
 
-/// The text with each number that is no `i64` as a text under `#`, in one line. A text or an array under `#` is
-/// shielded, and such a number under `attributes`; a `transform` at the top is framed.
+/// Returns the text in one line, each number other than an `i64` as a text under `#`. A text or an
+/// array under `#` is shielded; under `attributes`, so are such a number and an array like its
+/// shield. A `transform` at the top is framed.
 pub fn encode(alloc: Global, bytes: &[u8]) -> Result<Vec<u8>, DecimalsFault>
     ensures encoded { IfOk result (λ out. IsEncoded bytes.now out.items) }
 
@@ -31,11 +32,11 @@ pub fn encode(alloc: Global, bytes: &[u8]) -> Result<Vec<u8>, DecimalsFault>
     ensures lossless { IfOk result (λ out. (back : List ℕ)
         → IsDecoded out.items back → document back ≡ document bytes.now) }
 
-    // The editor never finds a number in it that isn't whole.
+    // The editor finds only whole numbers in it.
     ensures whole { IfOk result (λ out. (d : Data)
         → read out.items ≡ Some d → is_integral d ≡ true) }
 
-    // Where it nests no deeper than the editor reads, it is read.
+    // If it nests no deeper than the editor reads, it is read.
     ensures read { IfOk result (λ out. (c : Json) → document out.items ≡ Some c
         → depth c ≤ max_depth → (d : Data) × (read out.items ≡ Some d)) }
     ensures utf8 { IfOk result (λ out. IsUtf8 out.items) }

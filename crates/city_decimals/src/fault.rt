@@ -8,7 +8,8 @@ use crate::OutOfMemory;
 pub enum DecimalsFault {
     /// Memory ran out.
     OutOfMemory,
-    /// The text isn't JSON, or nests deeper than 128, and what `decode_lines` decodes deeper than it may.
+    /// The text isn't JSON, or nests deeper than 128; for `decode_lines`, a line deeper than its
+    /// `depth`.
     NotJson,
 }
 

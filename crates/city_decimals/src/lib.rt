@@ -1,10 +1,11 @@
-//! Encodes a JSON text for an editor that takes only whole numbers, and decodes what the editor writes.
+//! Encodes a JSON text for an editor of whole numbers, and decodes the editor's output.
 //!
-//! `encode` gives a text of whole numbers, `decode` the numbers as they were written; not a digit is lost.
+//! `encode` gives a text of whole numbers, `decode` the numbers exactly as written; not a digit is
+//! lost.
 //!
-//! - a number that isn't written as an `i64` is an object with its text: `{"#":"0.25"}`
+//! - a number not written as an `i64` is an object with its text: `{"#":"0.25"}`
 //! - a text or an array under `#` is shielded: it stands in an array, so no object is mistaken for a number
-//! - such a number under `attributes` is shielded, and what could be taken for its shield: an object there was an object
+//! - under `attributes`, such a number is shielded, and so is an array like its shield: an object there was an object
 //! - a `transform` at the top is framed: the identity stands there, with the transform under `#`
 #![tactic(auto)]
 

@@ -1,4 +1,4 @@
-//! Decodes a text line by line, as a report and a model stand in it.
+//! Decodes a text line by line, such as a report and a model.
 ghost use Rattle.std.specs.Prelude.{◌≡◌, IfOk, IfErr};
 ghost use Rattle.city_decimals.specs.Lines.{AreDecodedLines, AreDecodedBehind, IsLinesFault, HasJsonLines};
 ghost use Rattle.city_decimals.specs.internal.Newlines.{IsFirstNewline};
@@ -11,10 +11,11 @@ use json::Scratch;
 use memchr::memchr;
 use std::alloc::Global;
 
-/// The text with each line decoded. What stands after the last newline stays as it is.
+/// Returns the text with each line decoded. The bytes after the last newline stay as they are.
 ///
-/// Arrays and objects of a line may nest `depth` deep. The stack has to be enough for that, or for what the lines nest.
-/// Where each line is JSON that nests no deeper, only memory can run out.
+/// Arrays and objects of a line may nest `depth` deep. The stack has to be enough for that, or for
+/// the actual nesting of the lines. If each line is JSON and nests no deeper, only memory can run
+/// out.
 pub fn decode_lines(alloc: Global, bytes: &[u8], depth: usize) -> Result<Vec<u8>, DecimalsFault>
     ensures decoded { IfOk result (λ out. AreDecodedLines bytes.now out.items) }
     ensures fault { IfErr result (λ f. IsLinesFault depth bytes.now f) }
@@ -23,7 +24,7 @@ pub fn decode_lines(alloc: Global, bytes: &[u8], depth: usize) -> Result<Vec<u8>
     decode_lines_onto(alloc, bytes, depth, Vec::new(alloc))
 }
 
-/// The buffer, with the text behind what it holds, each line decoded as by `decode_lines`.
+/// Appends the text to the buffer, each line decoded as by `decode_lines`.
 pub fn decode_lines_onto(
     alloc: Global,
     bytes: &[u8],
@@ -47,7 +48,7 @@ pub fn decode_lines_onto(
     Ok(out)
 }
 
-/// Where the first newline stands.
+/// The index of the first newline.
 fn first_newline(bytes: &[u8]) -> Option<usize>
     ensures { IsFirstNewline bytes.now result }
 {

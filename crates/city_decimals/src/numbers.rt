@@ -1,4 +1,4 @@
-//! Whether a number is whole.
+//! Recognizes whole numbers.
 ghost use Rattle.std.specs.Prelude.{◌≡◌, ◌==◌, ◌<◌, ◌≤◌, true, false, IsTrue, length, take, slice_index, decimal};
 ghost use Rattle.std.specs.Bool.{OnTrue};
 ghost use Rattle.std.specs.Fmt.{signed_decimal};
@@ -10,7 +10,7 @@ ghost use Rattle.city_decimals.specs.internal.PlainNumbers.{IsPlain};
 
 use fast_float::Numeral;
 
-/// Whether a number's text is that of an `i64`, written as an `i64` is. A point, an exponent or `-0` aren't.
+/// Whether a number's text is exactly how an `i64` is written: no point, no exponent, no `-0`.
 #[inline(always)]
 pub(crate) fn is_whole(text: &str) -> bool
     ensures { result ≡ is_whole text.now }
@@ -26,7 +26,7 @@ pub(crate) fn is_whole(text: &str) -> bool
     }
 }
 
-/// Whether these are digits, at most 18, without a leading zero: those of an `i64`, as it is written.
+/// Whether these are 1 to 18 digits without a leading zero: exactly how an `i64` is written.
 #[inline(always)]
 pub(crate) fn is_plain(bytes: &[u8]) -> bool
     ensures { OnTrue result (IsPlain bytes.now) }
@@ -43,7 +43,8 @@ pub(crate) fn is_plain(bytes: &[u8]) -> bool
     true
 }
 
-/// How many digits the plain number has that is next, with what ends an item or a member behind it; 0 where none is.
+/// The number of digits of a plain number, if one is next and the end of an item or a member
+/// follows; else 0.
 #[inline(always)]
 pub(crate) fn plain_len(text: &[u8]) -> usize
     ensures within { result ≤ length text.now }

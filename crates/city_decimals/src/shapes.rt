@@ -1,4 +1,4 @@
-//! The shapes of values that aren't just encoded part by part.
+//! The shapes of values with an encoding of their own.
 ghost use Rattle.std.specs.Prelude.{◌≡◌, Some};
 ghost use Rattle.json.specs.Find.{get};
 ghost use Rattle.json.specs.Value.{value_view};
@@ -10,21 +10,21 @@ ghost use Rattle.city_decimals.specs.internal.Forms.{can_have_form};
 use crate::numbers::is_whole;
 use json::Value;
 
-/// The name under which a number's text stands.
+/// The name of the member with a number's text.
 pub(crate) const TAG: &str = "#";
 
-/// In which form a member stands.
+/// The form of a member.
 #[derive(Clone, Copy, Drop)]
 pub(crate) enum Form {
     /// As it is.
     Plain,
     /// In an array.
     Shielded,
-    /// In a frame: the identity, with it under the tag.
+    /// In a frame: the identity, with the value under the tag.
     Framed,
 }
 
-/// In which form the member of this name stands.
+/// The form of the member of this name.
 pub(crate) fn form_of(top: bool, key: &str, value: &Value<'_>) -> Form
     ensures { result ≡ form_of top key.now (value_view value.now) }
 {
@@ -37,7 +37,7 @@ pub(crate) fn form_of(top: bool, key: &str, value: &Value<'_>) -> Form
     }
 }
 
-/// Whether the member of this name can have a form, by its name alone, other than under `attributes`.
+/// Whether a member can have a form by its name alone, other than under `attributes`.
 #[inline(always)]
 pub(crate) fn can_have_form(top: bool, key: &str) -> bool
     ensures { result ≡ can_have_form top key.now }
@@ -74,7 +74,7 @@ pub(crate) fn has_shield(key: &str, value: &Value<'_>) -> bool
     is_tag(key) || (is_attributes(key) && is_single(value))
 }
 
-/// Whether this is an array of one item, which is no text.
+/// Whether this is an array of one item other than a text.
 fn is_single(value: &Value<'_>) -> bool
     ensures { result ≡ is_single (value_view value.now) }
 {
@@ -106,7 +106,7 @@ fn is_text_or_array(value: &Value<'_>) -> bool
     matches!(value, Value::String(_) | Value::Array(_))
 }
 
-/// Whether this is a transform that is framed.
+/// Whether this is a `transform` with a scale and a translation.
 pub(crate) fn is_transform(key: &str, value: &Value<'_>) -> bool
     ensures { result ≡ is_transform key.now (value_view value.now) }
 {

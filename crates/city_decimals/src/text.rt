@@ -7,7 +7,7 @@ ghost use Rattle.city_decimals.specs.declared.fault.DecimalsFault.TheVariants.{N
 use crate::fault::DecimalsFault;
 use simdutf8::compat::from_utf8;
 
-/// The text that the bytes are.
+/// The bytes as text.
 pub(crate) fn text_of(bytes: &[u8]) -> Result<&str, DecimalsFault>
     ensures ok { IfOk result (λ text. (text.now ≡ bytes.now) × IsUtf8 bytes.now) }
     ensures err { IfErr result (λ f. (f ≡ NotJson) × ¬ IsUtf8 bytes.now) }

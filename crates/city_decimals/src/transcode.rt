@@ -1,4 +1,4 @@
-//! Whole texts, encoded or decoded.
+//! Encodes or decodes whole texts.
 ghost use Rattle.std.specs.Prelude.{◌≡◌, ◌++◌, IfOk, IfErr, ℕ, List};
 ghost use Rattle.std.specs.Str.{IsUtf8};
 ghost use Rattle.city_decimals.specs.Texts.{IsFaultTo};
@@ -15,7 +15,7 @@ use json::{Reader, Scratch, Writer};
 use std::alloc::Global;
 use value::transcode_top;
 
-/// The buffer, with the changed text behind what it holds. Arrays and objects of the text may nest `depth` deep.
+/// Appends the changed text to the buffer. Arrays and objects of the text may nest `depth` deep.
 pub(crate) fn transcode_onto(
     alloc: Global,
     way: Direction,

@@ -1,4 +1,4 @@
--- What a run answers is lines of JSON.
+-- A run's output is lines of JSON.
 use Rattle.city_desk.proofs.Prelude.{◌≡◌, ℕ, List, [], ◌∷◌, ◌++◌, sym, length, append-nil}
 use Rattle.std.proofs.Common.{append_assoc}
 use Rattle.std.proofs.Math.Seq.{take-append_seam, drop-append_seam}

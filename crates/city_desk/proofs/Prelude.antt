@@ -1,4 +1,4 @@
--- The words that proofs of this crate share, from std, from the libraries and from its own definitions.
+-- The shared names of this crate's proofs, from std, the libraries and its own definitions.
 pub use Rattle.std.proofs.Common.{Err, List, Ok, Result, [], ap, append-nil, length, refl, subst, sym, true, ℕ, ◌++◌}
 pub use Rattle.std.proofs.Common.{◌+◌, ◌∙◌, ◌∷◌, ◌≡◌}
 pub use Rattle.city_doc.specs.document.Canonical.{city_text}

@@ -19,7 +19,7 @@ pub scripts_fault : (document scripts : List ℕ) (city : CityValue) (f : Script
 scripts_fault document scripts city ScriptFault.OutOfMemory stands fault = (tt, refl)
 scripts_fault document scripts city f stands fault = (((λ e. absurd (cc)), (city, stands), fault), refl)
 
--- what holds of a value holds of the error of a result that is one and is that value
+-- an error equal to a value has its property
 pub of_error : {T E : Type 0} (e : E) (Q : E → Type 0) (r : Result T E) → IsErrAnd r (λ x. x ≡ e) → Q e → IfErr r Q
 of_error e Q (Ok v) is q = tt
 of_error e Q (Err x) is q = rw is q

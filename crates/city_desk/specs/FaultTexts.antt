@@ -1,4 +1,4 @@
--- How it is told that a run has no output.
+-- The text of each fault of a run.
 use Rattle.std.specs.Prelude.{ℕ, List, codes}
 use Rattle.city_doc.specs.FaultTexts.{read_fault_text, script_fault_text}
 use Rattle.city_desk.specs.declared.fault.RunFault.{RunFault}

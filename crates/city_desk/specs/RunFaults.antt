@@ -8,7 +8,7 @@ use Rattle.city_doc.specs.document.Faults.{DocumentFault}
 use Rattle.city_doc.specs.script.Faults.{ScriptTextFault}
 use Rattle.city_desk.specs.declared.fault.RunFault.{RunFault}
 
--- The document is judged before the scripts. What isn't a fault of a text says nothing of the texts
+-- The document is judged before the scripts. A fault of neither text says nothing of the texts
 abbrev pub IsRunFault : List ℕ → List ℕ → RunFault → Type 0
 IsRunFault document scripts (RunFault.Read f) = (f ≢ ReadFault.OutOfMemory) × DocumentFault document f
 IsRunFault document scripts (RunFault.Script f) =
@@ -19,7 +19,7 @@ IsRunFault document scripts RunFault.NoPlace = Unit {0}
 IsRunFault document scripts RunFault.Unfinished = Unit {0}
 IsRunFault document scripts RunFault.Mixed = Unit {0}
 
--- whether a fault comes of several workers or of viewers alone
+-- whether the fault needs several workers or viewers
 abbrev pub is_of_crew : RunFault → Bool
 is_of_crew (RunFault.Read f) = false
 is_of_crew (RunFault.Script f) = false
@@ -28,7 +28,7 @@ is_of_crew RunFault.NoPlace = true
 is_of_crew RunFault.Unfinished = true
 is_of_crew RunFault.Mixed = true
 
--- nothing but the two texts and memory is at fault
+-- only the two texts or memory are at fault
 abbrev pub IsSerialFault : List ℕ → List ℕ → RunFault → Type 0
 IsSerialFault document scripts f = IsRunFault document scripts f × (is_of_crew f ≡ false)
 

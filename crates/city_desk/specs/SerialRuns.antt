@@ -6,7 +6,7 @@ use Rattle.city_model.specs.SerialEnds.{is_no_memory}
 use Rattle.city_scheduler.specs.InTurn.{AreInTurn}
 use Rattle.city_desk.specs.TextRuns.{IsRun}
 
--- a run whose ends come in the order of the scripts
+-- a run with its ends in the order of the scripts
 pub record IsSerialRun (document scripts : List ℕ) (ends : List End) (bytes : List ℕ) : Type 0 where
   pub run : IsRun document scripts ends bytes
   pub in_turn : AreInTurn 0 ends
@@ -15,8 +15,7 @@ pub record IsSerialRun (document scripts : List ℕ) (ends : List End) (bytes : 
 abbrev pub had_memory : List End → Bool
 had_memory ends = list_all (λ e. not (is_no_memory e.outcome)) ends
 
--- the texts decide the ends and what is written: all runs of them in which no script ends out of
--- memory are the same
+-- the texts decide the ends and the bytes: all runs of them without an end out of memory are the same
 abbrev pub IsDecided : List ℕ → List ℕ → List End → List ℕ → Type 0
 IsDecided document scripts ends bytes =
     had_memory ends ≡ true → (others : List End) (written : List ℕ)

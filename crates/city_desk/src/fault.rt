@@ -1,10 +1,10 @@
-//! Why a run ends without an answer.
+//! Why a run has no output.
 use city_doc::{ReadFault, ScriptFault};
 use city_model::OutOfMemory;
 use std::error::Error;
 use std::fmt::{self, Display, Formatter, Write};
 
-/// Why a run has no output. A fault of a text shows as that fault does.
+/// Why a run has no output. The fault of a text is displayed unchanged.
 #[derive(Debug, Drop)]
 pub enum RunFault {
     /// The document is refused.
@@ -17,7 +17,7 @@ pub enum RunFault {
     NoPlace,
     /// A script had not ended when the workers had.
     Unfinished,
-    /// What was gathered isn't of this run.
+    /// The gathered results aren't of this run.
     Mixed,
 }
 

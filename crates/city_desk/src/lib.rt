@@ -1,10 +1,10 @@
-//! The desk: the scripts of two texts run on one transaction core, and what is written of their ends.
+//! The desk: the scripts of two texts run on one transaction core, and the report of their ends.
 //!
 //! - `texts`: the two texts of a run read
 //! - `serial_run`: the run of one worker
-//! - `output`, `fault`: what a run answers, and why it may have no answer
+//! - `output`, `fault`: a run's output, and why it may have none
 //!
-//! The desk itself, its shelves and its turns are those of city_scheduler.
+//! The desk itself, its shelves and its turns belong to city_scheduler.
 #![tactic(auto)]
 
 mod fault;

@@ -1,4 +1,4 @@
-//! What a run answers.
+//! The output of a run.
 ghost use Rattle.std.specs.Prelude.{◌≡◌, ◌++◌, ◌∷◌, [], length, IfOk};
 ghost use Rattle.city_doc.specs.Outputs.{IsJsonOutput};
 ghost use Rattle.city_doc.specs.document.Canonical.{city_text};
@@ -12,23 +12,24 @@ use city_model::sequence::Sequence;
 use std::alloc::Global;
 use std::thread::Threads;
 
-/// What a run answers.
+/// The output of a run.
 #[derive(Drop)]
 pub struct Output {
-    /// The ends of the scripts, in the order in which they ended.
+    /// The ends of the scripts, oldest first.
     pub ends: Sequence<End>,
     /// The report of the ends, then the model's text and a newline.
     pub bytes: Vec<u8>,
-    /// How many of the bytes are the report.
+    /// The length of the report in bytes.
     pub report: usize,
-    /// For each viewer the numbers of edits that it saw.
+    /// For each viewer, the numbers of edits seen.
     pub seen: Vec<Vec<u64>>,
 }
 
-/// The report of the ends, then the model's text and a newline; and how many of these bytes are the report.
+/// Writes the report of the ends, then the model's text and a newline. Returns the bytes and the
+/// length of the report.
 ///
-/// `room` is how many bytes the model's text may well take. Room for them is made at once, where there is
-/// memory for it. Points are hashed by the seed.
+/// `room` is the likely length of the model's text in bytes. If there is memory for it, it is
+/// reserved at once. Points are hashed by the seed.
 pub fn output_bytes(
     alloc: Global,
     seed: u64,
@@ -48,7 +49,7 @@ pub fn output_bytes(
     Ok((bytes, length))
 }
 
-/// The same bytes as by `output_bytes`, of which so many threads write pieces.
+/// Writes the same bytes as `output_bytes`, in pieces by several threads.
 pub fn output_bytes_by<R: Threads + Sync>(
     rt: &R,
     alloc: Global,

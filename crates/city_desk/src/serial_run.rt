@@ -23,7 +23,7 @@ use std::alloc::Global;
 
 /// Runs the scripts on the document's city, one after the other in their order.
 ///
-/// The document is judged before the scripts. A script that runs out of memory ends as `NoMemory`
+/// The document is judged before the scripts. If a script runs out of memory, it ends as `NoMemory`
 /// and changes nothing; running out of memory for a text, for the desk or for the output ends the
 /// run. If no script ran out of memory, the two texts alone decide the ends and the bytes.
 pub fn run_serial(alloc: Global, document: &[u8], scripts: &[u8]) -> Result<Output, RunFault>
@@ -38,7 +38,7 @@ pub fn run_serial(alloc: Global, document: &[u8], scripts: &[u8]) -> Result<Outp
     Ok(output)
 }
 
-/// Runs the scripts as `run_serial` does, and gives the city that they leave beside the output.
+/// Runs the scripts like `run_serial`, and gives the final city beside the output.
 pub fn run_serial_to_city(
     alloc: Global,
     document: &[u8],
@@ -56,10 +56,10 @@ pub fn run_serial_to_city(
     Ok(run_read(alloc, FIXED_SEED, city, list, document.len())?)
 }
 
-/// Runs scripts that were read on a city that was read, one after the other, and gives the city that they leave
-/// beside the output. The texts may be let go before.
+/// Runs scripts already read on a city already read, one after the other, and gives the final city
+/// beside the output. The texts may be freed before.
 ///
-/// `room` is how many bytes the model's text may well take. Points are hashed by the seed.
+/// `room` is the likely length of the model's text in bytes. Points are hashed by the seed.
 pub fn run_read(
     alloc: Global,
     seed: u64,

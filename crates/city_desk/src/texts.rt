@@ -13,7 +13,7 @@ use city_model::sequence::Sequence;
 use std::alloc::Global;
 use std::thread::Threads;
 
-/// The city and the scripts that two texts stand for. The document is judged before the scripts;
+/// Reads the city and the scripts from two texts. The document is judged before the scripts;
 /// running out of memory for a text is `OutOfMemory`.
 pub fn read_texts(
     alloc: Global,
@@ -29,7 +29,7 @@ pub fn read_texts(
     Ok((city, scripts))
 }
 
-/// Reads two texts as `read_texts` does, and answers the same. Both are read in pieces, each by a thread.
+/// Reads two texts like `read_texts`, with the same answer, in pieces by several threads.
 ///
 /// One piece needs no thread.
 pub fn read_texts_by<R: Threads + Sync>(

@@ -1,4 +1,4 @@
--- What the members that are put last tell.
+-- The members put last tell the fault.
 use Rattle.city_diagnostics.proofs.Prelude.{◌≡◌, ◌∙◌, ℕ, List, Data, Members, object, put, string, number, unsigned}
 use Rattle.city_diagnostics.proofs.Prelude.{Some, codes, get, refl, false, same_id, get_member-put}
 use Rattle.city_diagnostics.proofs.Prelude.{get_member-put_apart}
@@ -10,7 +10,7 @@ use Rattle.city_doc.specs.script.AllFaults.{rank_of as script_rank_of}
 use Rattle.city_diagnostics.specs.ScriptLines.{TellsScript, script_name_of}
 use Rattle.city_diagnostics.specs.internal.Heads.{with_words, with_head, with_named, with_script_named}
 
--- a name that no fault's head has
+-- a name in no fault's head
 record IsOther (k : List ℕ) : Type 0 where
   no_text : same_id (codes "text") k ≡ false
   no_number : same_id (codes "number") k ≡ false
@@ -33,7 +33,7 @@ is_script = record { no_text = refl; no_number = refl; no_fault = refl; no_messa
 is_command : IsOther (codes "command")
 is_command = record { no_text = refl; no_number = refl; no_fault = refl; no_message = refl; no_cure = refl }
 
--- what is told stays told when a member of another name is put in
+-- putting in a member of another name keeps the fault told
 still_told : (kind name : List ℕ) (n : ℕ) (k : List ℕ) (d : Data) (ms : Members) → IsOther k
     → TellsFault kind n name (object ms) → TellsFault kind n name (object (put k d ms))
 still_told kind name n k d ms other told = record {
@@ -54,7 +54,7 @@ headed kind name n message cure ms = record {
   cure = (cure, simp (get_member-put, get_member-put_apart));
 }
 
--- a fault that names one thing
+-- a fault with one detail
 one_named : (kind name : List ℕ) (n : ℕ) (message cure : List ℕ) (ms : Members) (k : List ℕ) (d : Data) → IsOther k
     → let head = with_head kind n name (with_words message cure ms) in
     TellsFault kind n name (object (put k d head)) × (get k (object (put k d head)) ≡ Some d)
@@ -62,7 +62,7 @@ one_named kind name n message cure ms k d other =
     let head = with_head kind n name (with_words message cure ms) in
     (still_told kind name n k d head other (headed kind name n message cure ms), get_member-put k d head)
 
--- a fault that names two things
+-- a fault with two details
 two_named : (kind name : List ℕ) (n : ℕ) (message cure : List ℕ) (ms : Members) (k : List ℕ) (d : Data)
     (l : List ℕ) (e : Data) → IsOther k → IsOther l → same_id k l ≡ false
     → let all = put l e (put k d (with_head kind n name (with_words message cure ms))) in
@@ -75,7 +75,7 @@ two_named kind name n message cure ms k d l e other another apart =
       get_member-put l e one,
     )
 
--- a fault of a document is told by its head and by what it names
+-- a fault of a document is told by its head and its details
 pub told : (f : ReadFault) (message cure : List ℕ) (ms : Members)
     → Tells f (object (with_named f (with_head (codes "model") (rank_of f) (name_of f) (with_words message cure ms))))
 told OutOfMemory message cure ms =

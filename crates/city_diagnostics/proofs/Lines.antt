@@ -23,7 +23,7 @@ never_empty text rest e =
     let long : length ((text ++ 10 ∷ []) ++ rest) ≡ 0 = ap length e in
     let parts = simp length-append at long in absurd (omega arith)
 
--- where there is no line, there is no fault
+-- without a line, there is no fault
 pub no_line : {F : Type 0} (tells : F → Data → Type 0) (fs : List F) (lines : List ℕ)
     → AreLinesOf tells fs lines → lines ≡ [] → fs ≡ []
 no_line tells [] lines told empty = refl
@@ -32,7 +32,7 @@ no_line tells (f ∷ fs) lines told empty =
     absurd (never_empty (compact_text (object line.0)) told.1
     (ap (λ (s : List ℕ). s ++ told.1) (sym line.2.has_its_text) ∙ sym told.4 ∙ empty))
 
--- where there is no fault, there is no line
+-- without a fault, there is no line
 pub no_fault : {F : Type 0} (tells : F → Data → Type 0) (fs : List F) (lines : List ℕ)
     → AreLinesOf tells fs lines → fs ≡ [] → lines ≡ []
 no_fault tells [] lines told empty = told
@@ -46,7 +46,7 @@ first_line {F} tells (g ∷ fs) lines f told first =
     let same : g ≡ f = cc in
     (told.0, told.1, subst (λ (h : F). IsLineOf (tells h) told.0) same told.2, told.4)
 
--- where the first fault is such a one, there is no line, or the first tells such a fault
+-- if the first fault has the property, there is no line, or the first line tells such a fault
 pub first_told : {F : Type 0} (tells : F → Data → Type 0) (P : F → Type 0) (fs : List F) (lines : List ℕ)
     → AreLinesOf tells fs lines → ((f : F) → slice_get fs 0 ≡ Some f → P f)
     → (lines ≡ []) ⊎ ((f : F) × P f × FirstLineIs (tells f) lines)

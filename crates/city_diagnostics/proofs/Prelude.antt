@@ -1,4 +1,4 @@
--- The words that proofs of this crate share.
+-- The shared names of this crate's proofs.
 pub use Rattle.std.proofs.Common.{Bool, List, None, Option, Some, [], ap, arith, cond, false, length, map, refl, rules}
 pub use Rattle.std.proofs.Common.{subst, suc, sym, true, zero, ℕ, ℤ, ◌++◌, ◌+◌, ◌<◌, ◌∙◌, ◌∷◌, ◌≡◌, ◌≤◌, ◌⊎◌, inl, inr}
 pub use Rattle.std.proofs.Common.{append-nil, append_assoc, get_or, negsuc, not, pos, true≢false}

@@ -1,4 +1,4 @@
--- The lines that tell faults: each the compact text of an object of JSON, with a newline behind.
+-- Lines for faults: each the compact text of a JSON object, and a newline.
 use Rattle.std.specs.Prelude.{◌≡◌, ◌==◌, ℕ, List, [], ◌∷◌, ◌++◌, Bool, true, false, not, Some, codes}
 use Rattle.std.specs.List.{list_all}
 use Rattle.serde_json.specs.Data.{Data, Members, object, string, number, unsigned}
@@ -11,19 +11,19 @@ use Rattle.city_model.specs.Members.{AreOrdered}
 abbrev pub is_one_line : List ℕ → Bool
 is_one_line text = list_all (λ byte. not (byte == 10)) text
 
--- the line of an object with these members: its compact text, and a newline behind. The names ascend, so that none is
--- there twice; no number is a float, so that each has its text
+-- the line of an object with these members: its compact text and a newline. The names ascend, so none is repeated; no
+-- number is a float, so each has its text
 pub record IsLineOfMembers (members : Members) (line : List ℕ) : Type 0 where
   pub names_ascend : AreOrdered members
   pub has_no_float : has_float (object members) ≡ false
   pub has_no_newline : is_one_line (compact_text (object members)) ≡ true
   pub has_its_text : line ≡ compact_text (object members) ++ 10 ∷ []
 
--- the line of an object for which it holds
+-- the line of some object with property P
 abbrev pub IsLineOf : (Data → Type 0) → List ℕ → Type 0
 IsLineOf P line = (ms : Members) × P (object ms) × IsLineOfMembers ms line
 
--- ---- what a line tells
+-- ---- the content of a line
 
 -- the member of this name is this text
 abbrev pub HasText : List ℕ → List ℕ → Data → Type 0
@@ -37,7 +37,7 @@ HasNumber name n d = get name d ≡ Some (number (unsigned n))
 abbrev pub HasSomeText : List ℕ → Data → Type 0
 HasSomeText name d = (text : List ℕ) × HasText name text d
 
--- a fault of this number and name, in a text of this kind, with words on what is wrong and on what to do
+-- a fault of this number and name, in a text of this kind, with a message and a cure
 pub record TellsFault (kind : List ℕ) (n : ℕ) (name : List ℕ) (d : Data) : Type 0 where
   pub text : HasText (codes "text") kind d
   pub number : HasNumber (codes "number") n d
@@ -53,6 +53,6 @@ AreLinesOf tells [] lines = lines ≡ []
 AreLinesOf tells (f ∷ fs) lines =
     (line : List ℕ) × (rest : List ℕ) × IsLineOf (tells f) line × AreLinesOf tells fs rest × (lines ≡ line ++ rest)
 
--- the first line is one of an object for which it holds
+-- the first line is of some object with property P
 abbrev pub FirstLineIs : (Data → Type 0) → List ℕ → Type 0
 FirstLineIs P lines = (line : List ℕ) × (rest : List ℕ) × IsLineOf P line × (lines ≡ line ++ rest)

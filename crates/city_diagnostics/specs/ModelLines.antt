@@ -1,4 +1,4 @@
--- What the line of a document's fault tells.
+-- The content of the line of a document's fault.
 use Rattle.std.specs.Prelude.{ℕ, List, codes}
 use Rattle.serde_json.specs.Data.{Data}
 use Rattle.city_doc.specs.declared.fault.ReadFault.{ReadFault}
@@ -23,7 +23,7 @@ name_of (BadRing id) = codes "BadRing"
 name_of (Relations id) = codes "Relations"
 name_of (OpenShell id) = codes "OpenShell"
 
--- what the fault names is told
+-- the details of the fault are told
 abbrev pub TellsNamed : ReadFault → Data → Type 0
 TellsNamed OutOfMemory d = Unit {0}
 TellsNamed TooLong d = Unit {0}

@@ -1,4 +1,4 @@
--- What the line of a fault of scripts tells.
+-- The content of the line of a fault of scripts.
 use Rattle.std.specs.Prelude.{ℕ, List, codes}
 use Rattle.serde_json.specs.Data.{Data}
 use Rattle.city_doc.specs.declared.fault.ScriptFault.{ScriptFault}
@@ -22,7 +22,7 @@ script_name_of (BadVertex n i) = codes "BadVertex"
 abbrev pub TellsPlace : ℕ → ℕ → Data → Type 0
 TellsPlace n i d = HasNumber (codes "script") n d × HasNumber (codes "command") i d
 
--- what the fault names is told
+-- the details of the fault are told
 abbrev pub TellsNamed : ScriptFault → Data → Type 0
 TellsNamed OutOfMemory d = Unit {0}
 TellsNamed TooLong d = Unit {0}

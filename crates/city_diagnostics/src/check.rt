@@ -17,16 +17,18 @@ pub use scripts::check_scripts;
 use serde_json::Value;
 use std::alloc::Global;
 
-/// A line of JSON for each fault of a document, in the order of the faults' numbers and then of the ids.
+/// Writes a line of JSON for each fault of a document, in the order of the faults' numbers and then
+/// of the ids.
 ///
-/// `is_given` says that the text is the one that was given, and not an encoded one.
+/// `is_given` says whether the text is as given, not encoded.
 pub fn check_document(alloc: Global, text: &[u8], is_given: bool) -> Result<Vec<u8>, OutOfMemory>
     ensures lines { IfOk result (λ lines. (faults : List fault.ReadFault)
         × AreFaultsOf text.now faults × AreLinesOf Tells faults lines.items) }
     ensures accepted { IfOk result (λ lines. lines.items ≡ [] → IsAccepted text.now) }
     ensures none { IsAccepted text.now → IfOk result (λ lines. lines.items ≡ []) }
 
-    // The first line tells a fault that `read_city` answers, and any that it answers but out of memory.
+    // The first line tells a fault that `read_city` answers, and any one it answers but out of
+    // memory.
     ensures first { IfOk result (λ lines. (lines.items ≡ [])
         ⊎ ((f : fault.ReadFault) × DocumentFault text.now f × FirstLineIs (Tells f) lines.items)) }
     ensures answered { IfOk result (λ lines. (f : fault.ReadFault) → DocumentFault text.now f
@@ -59,7 +61,7 @@ fn document_lines(
     Ok(lines)
 }
 
-/// The line of a fault of a text, or of the document that it is.
+/// The line of a fault of the document, or of its text.
 fn line_of(
     alloc: Global,
     text: &[u8],
@@ -76,7 +78,8 @@ fn line_of(
     document_line(alloc, fault, diagnostic)
 }
 
-/// The tree of a text, in which faults are looked up; `null` for a fault of the text itself, which stands alone.
+/// The tree of a text, to look up faults in; `null` for a fault of the text itself. Such a fault
+/// stands alone.
 pub fn tree_for(
     alloc: Global,
     text: &[u8],
@@ -88,7 +91,7 @@ pub fn tree_for(
     }
 }
 
-/// A document's fault, where it is one that any text may have.
+/// A document's fault as a `TextFault`, if it is one.
 pub fn text_fault_of(fault: &ReadFault) -> Option<TextFault> {
     match fault {
         ReadFault::TooLong => Some(TextFault::TooLong),
@@ -98,7 +101,7 @@ pub fn text_fault_of(fault: &ReadFault) -> Option<TextFault> {
     }
 }
 
-/// A fault of scripts, where it is one that any text may have.
+/// A fault of scripts as a `TextFault`, if it is one.
 pub fn script_text_fault_of(fault: &ScriptFault) -> Option<TextFault> {
     match fault {
         ScriptFault::TooLong => Some(TextFault::TooLong),

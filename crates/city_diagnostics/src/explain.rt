@@ -1,4 +1,4 @@
-//! One fault, told to a person.
+//! Explains one fault to a person.
 mod shown;
 
 use crate::check::{script_text_fault_of, text_fault_of, tree_for};
@@ -9,10 +9,10 @@ use city_model::OutOfMemory;
 use std::alloc::Global;
 use std::slice;
 
-/// Where a fault of a document is, what is wrong and what to do: indented lines, each with its newline. `is_given` says
-/// that the text is the one that was given, and not an encoded one.
+/// Explains a fault of a document: its place, the problem and the cure, in indented lines, each
+/// with its newline. `is_given` says whether the text is as given, not encoded.
 ///
-/// The texts that a fault names are shown as JSON texts, and nothing in them can steer a terminal.
+/// Texts named by a fault are shown as JSON texts, and nothing in them can steer a terminal.
 pub fn explain_document(
     alloc: Global,
     text: &[u8],
@@ -31,7 +31,7 @@ pub fn explain_document(
     explained(alloc, &diagnostic)
 }
 
-/// The same of a fault of scripts.
+/// The same for a fault of scripts.
 pub fn explain_scripts(
     alloc: Global,
     text: &[u8],
@@ -47,7 +47,7 @@ pub fn explain_scripts(
     explained(alloc, &diagnostic)
 }
 
-/// The lines of what is told, each where there is something to tell.
+/// The lines of a diagnostic, without empty ones.
 fn explained(alloc: Global, diagnostic: &Diagnostic) -> Result<String, OutOfMemory> {
     let mut lines = String::new(alloc);
     add_line(&mut lines, "where", diagnostic.place.as_str())?;

@@ -1,4 +1,4 @@
-//! Diagnostics: all faults of a text, each with where it is, what is wrong and what to do.
+//! Diagnostics: all faults of a text, each with its place, the problem and the cure.
 //!
 //! - `check`: all faults of a document or of scripts, a line of JSON for each; `line`: one such line
 //! - `explain`: one fault, in indented lines for a person

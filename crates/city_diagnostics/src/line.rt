@@ -88,7 +88,7 @@ fn name_of(fault: &ReadFault) -> &'static str
     }
 }
 
-/// Adds what a fault of a document names.
+/// Adds the details of a fault of a document.
 fn add_named(details: &mut Details, fault: &ReadFault) -> Result<(), OutOfMemory>
     ensures { OnOk result (details.new ≡ with_named fault.now details.old) }
 {
@@ -111,7 +111,7 @@ fn add_named(details: &mut Details, fault: &ReadFault) -> Result<(), OutOfMemory
     }
 }
 
-/// The details of a fault, with what is wrong and what to do.
+/// The details of a fault, with its message and cure.
 fn with_words(diagnostic: Diagnostic) -> Result<Details, OutOfMemory>
     ensures { IfOk result (λ details. details
         ≡ with_words (string_bytes diagnostic.message) diagnostic.cure.now diagnostic.details) }
@@ -127,7 +127,7 @@ fn with_words(diagnostic: Diagnostic) -> Result<Details, OutOfMemory>
     Ok(details)
 }
 
-/// Adds the kind of the text that a fault stands in, and the fault's number and name.
+/// Adds the kind of the faulty text, and the fault's number and name.
 fn add_head(details: &mut Details, kind: &str, number: usize, name: &str) -> Result<(), OutOfMemory>
     ensures { OnOk result (details.new ≡ with_head kind.now number name.now details.old) }
 {
@@ -179,7 +179,7 @@ fn script_name_of(fault: &ScriptFault) -> &'static str
     }
 }
 
-/// Adds what a fault of scripts names.
+/// Adds the details of a fault of scripts.
 fn add_script_named(details: &mut Details, fault: &ScriptFault) -> Result<(), OutOfMemory>
     ensures { OnOk result (details.new ≡ with_script_named fault.now details.old) }
 {

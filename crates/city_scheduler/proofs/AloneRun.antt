@@ -1,4 +1,4 @@
--- A script that is run to its end while nothing else is open, and one script after the other.
+-- Runs a script to its end while nothing else is open, and one script after the other.
 use Rattle.city_scheduler.proofs.Prelude.{◌≡◌, ◌≢◌, ◌<◌, ◌+◌, ℕ, false, List, [], ◌∷◌, ◌++◌, length, ap, sym, ◌∙◌}
 use Rattle.city_scheduler.proofs.Prelude.{arith, length-append, slice_index_or, cases_eq, get_or-set_same}
 use Rattle.city_scheduler.proofs.Prelude.{slice_get_within, Reply, End, Scripted, Progress, Phase, NotBegun, Idle, Open}
@@ -11,7 +11,7 @@ use Rattle.city_scheduler.proofs.ScriptReads.{command_as}
 use Rattle.city_scheduler.proofs.ScriptTurns.{has_its_end, has_other_ends}
 use Rattle.city_scheduler.proofs.Youngest.{open_within}
 
--- how far the script is that began after so many ends
+-- the phase of the script while it runs: not begun, or begun after so many ends
 abbrev pub IsGoing : ℕ → Phase → Type 0
 IsGoing since NotBegun = Unit {0}
 IsGoing since (Idle stamp) = ⊥
@@ -25,7 +25,7 @@ pub record IsRunning (n : ℕ) (start d : DeskState) : Type 0 where
   pub beside : (k : ℕ) → k ≢ n → phase_of d k ≡ phase_of start k
   pub alone : (k : ℕ) → k ≢ n → is_open_phase (phase_of d k) ≡ false
 
--- how many turns it may still have
+-- the most turns it can still take
 abbrev pub turns_left : List Scripted → ℕ → Phase → List Reply → ℕ
 turns_left scripts n NotBegun replies = length (commands_at scripts n) + 1
 turns_left scripts n (Idle stamp) replies = 0

@@ -1,4 +1,4 @@
--- What a call of the core says of an attempt's step.
+-- The step of an attempt, by the answer of the core.
 use Rattle.city_scheduler.proofs.Prelude.{◌≡◌, ℕ, true, false, List, [], ◌∷◌, ◌++◌, length, Option, Result, Ok, refl}
 use Rattle.city_scheduler.proofs.Prelude.{ap, sym, subst, ◌∙◌, arith, IfSome, false≢true, Command, Reply, Outcome}
 use Rattle.city_scheduler.proofs.Prelude.{object_at, CityValue, IsLawful, is_refusal, Change, after_changes, is_end}
@@ -27,7 +27,7 @@ keeps_both k l = record {
   others = λ t done ne h. l.others t done ne (k.others t done ne h);
 }
 
--- ---- what the core answered
+-- ---- the answers of the core
 
 by_done : (a : Answer) (reply r : Reply) → step_of a reply ≡ steps.Done r → (a ≡ Granted) × (reply ≡ r)
 by_done a reply r e = grind arith
@@ -38,7 +38,7 @@ by_wait a reply e = grind arith
 by_die : (a : Answer) (reply : Reply) → step_of a reply ≡ steps.Die → a ≡ Die
 by_die a reply e = grind arith
 
--- ---- a transaction that is over and has committed nothing
+-- ---- a transaction that ended without a commit
 
 pub gave_up : {stamp number : ℕ} {command : Command} {v w : CoreState} {changes : List Change} (outcome : Outcome)
     → is_commit outcome ≡ false → EndsIn v stamp command number outcome
@@ -54,7 +54,7 @@ aborted {stamp} {number} {command} {v} {w} {changes} is undone =
     rw is (gave_up Outcome.Aborted refl (aborts (snapshot v stamp)) (λ e _. absurd (false≢true (sym e)))
     undone.over.closed undone.over.keeps undone.city)
 
--- ---- a command that doesn't end its script
+-- ---- a command other than a commit or an abort
 
 module _ {stamp : ℕ} {command : Command} {p q : Progress} {v w : CoreState} {changes : List Change}
     (goes_on : is_end command ≡ false) where

@@ -1,4 +1,4 @@
--- A script that is begun, and one that couldn't be.
+-- The beginning of a script, done or refused.
 use Rattle.city_scheduler.proofs.Prelude.{◌≡◌, ◌<◌, ◌≤◌, ◌+◌, ℕ, true, false, List, [], ◌∷◌, ◌++◌, length, Option, Some}
 use Rattle.city_scheduler.proofs.Prelude.{refl, ap, sym, subst, ◌∙◌, arith, slice_set, slice_get, slice_index_or}
 use Rattle.city_scheduler.proofs.Prelude.{false≢true, Command, Reply, End, Outcome, CityMap, object_at, CityValue}
@@ -62,7 +62,7 @@ fresh d n stamp (Idle t) st is its =
     }
 fresh d n stamp p st is its = absurd (cc)
 
--- the stamps that are left
+-- the stamps left
 begun_room : (b : ℕ) (p : Phase) → (b ≤ begun_after b p) × (begun_after b p ≤ b + one_if (is_not_begun p))
 begun_room b p = grind arith
 

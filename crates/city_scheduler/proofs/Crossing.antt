@@ -1,4 +1,4 @@
--- A desk may go to other threads where its shelf may.
+-- A desk may cross threads if its shelf may.
 use denote.Param.Send.{IsSend, IsSync, recorded_send, sendable, struct_send, view_send}
 use denote.RattleType.{RattleType}
 use denote.Struct.Declared.{Declared, row, field, shape}
@@ -61,10 +61,10 @@ desk_inside_sends S N G s = struct_send (shape (DeskInside.the_type S N G)) (
   ),
 )
 
--- a struct may go where its fields may
+-- a struct may cross threads if its fields may
 pub declared_sends : (T : Declared) → IsSend (field T).row → IsSend (row T)
 declared_sends T s = recorded_send (field T).row T.D T.to T.to_one s
 
--- where the desk is a field of another struct
+-- the desk as a field of another struct
 pub desk_field_sends : (S N : RattleType) (G : Ghosts S.Denot N.Denot) → IsSend S → IsSend (Desk.the_field S N G).row
 desk_field_sends S N G s = view_send _ _ _ _ _ (declared_sends (DeskInside.the_type S N G) (desk_inside_sends S N G s))

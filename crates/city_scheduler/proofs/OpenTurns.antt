@@ -1,4 +1,4 @@
--- What a turn of a script with an open transaction leaves of the desk that contracts see.
+-- The desk after a turn of a script with an open transaction, as contracts see it.
 use Rattle.city_scheduler.proofs.Prelude.{◌≡◌, ◌<◌, ◌+◌, ℕ, suc, zero, true, false, List, [], ◌∷◌, ◌++◌, length, Option}
 use Rattle.city_scheduler.proofs.Prelude.{Some, refl, ap, sym, subst, ◌∙◌, arith, length-append, slice_set, slice_get}
 use Rattle.city_scheduler.proofs.Prelude.{slice_index_or, option_and_then, false≢true, slice_get_read, Command, End}
@@ -26,7 +26,7 @@ use Rattle.city_scheduler.proofs.ScriptTurns.{LeavesDesk, turned, IsStampOf, own
 use Rattle.city_scheduler.specs.declared.turn.Turn.TheVariants as turns
 use Rattle.city_scheduler.proofs.ScriptTurns as script_turns
 
--- a command that goes on has another after it
+-- a command other than a commit or an abort has another after it
 not_last : (cs : List Command) (k : ℕ) (c : Command) → ends_once cs ≡ true → slice_get cs k ≡ Some c
     → is_end c ≡ false → k + 1 < length cs
 not_last [] k c e h g = absurd (cc)

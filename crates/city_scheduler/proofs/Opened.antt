@@ -1,4 +1,4 @@
--- A desk as it is opened is serial, and has its room; at its end it has an end for each script.
+-- A desk at its opening is serial, and has its room; at its end it has an end for each script.
 use Rattle.city_scheduler.proofs.Prelude.{◌≡◌, ◌<◌, ◌≤◌, ℕ, zero, suc, true, List, [], ◌∷◌, length, Option, Some, refl}
 use Rattle.city_scheduler.proofs.Prelude.{ap, sym, ◌∙◌, arith, slice_get, slice_index_or, IfSome, false≢true}
 use Rattle.city_scheduler.proofs.Prelude.{count_by-le-length, object_at, CityValue, IsLawful, Scripted, Change, has_end}
@@ -72,7 +72,7 @@ opened_room city scripts capacity room =
       places = room;
     }
 
--- the desk of these fields is the one that is opened
+-- a desk with these fields is the opened one
 pub opened_stands : {start city : CityValue} {scripts : List Scripted} {ends : List End} {progress : List Progress}
     {core : CoreState} {names : List (List ℕ)} {list : List Change} {base : Option CityValue} {capacity : ℕ}
     → start ≡ city → ends ≡ [] → progress ≡ unbegun_each scripts → core ≡ (opened city scripts).core

@@ -1,4 +1,4 @@
--- The words that proofs of this crate share, from std, from the libraries and from its own definitions.
+-- The shared names of this crate's proofs, from std, the libraries and its own definitions.
 pub use Rattle.std.proofs.Common.{Bool, Err, List, Ok, Option, Result, Some, [], ap, append-nil, arith, cond, false}
 pub use Rattle.std.proofs.Common.{length, length-append, refl, subst, suc, sym, take, true, zero, ℕ, ◌++◌, ◌+◌, ◌<◌}
 pub use Rattle.std.proofs.Common.{◌∙◌, ◌∷◌, ◌≡◌, ◌≢◌, ◌≤◌}

@@ -1,4 +1,4 @@
--- What the desk's fields say of one script, and which lists hold scripts, looked at one by one.
+-- One script as the desk's fields show it, and lists of scripts checked one by one.
 use Rattle.city_scheduler.proofs.Prelude.{◌≡◌, ◌<◌, ◌≤◌, ◌+◌, ℕ, true, List, [], ◌∷◌, length, Some, refl, arith}
 use Rattle.city_scheduler.proofs.Prelude.{option_and_then, slice_get, slice_index_or, false≢true, slice_get_read}
 use Rattle.city_scheduler.proofs.Prelude.{slice_get_within, Command, Scripted, ends_once, AreScripts, commands_of}
@@ -17,12 +17,12 @@ command_found script k = grind arith
 pub command_as : (scripts : List Scripted) (n k : ℕ) → command_at scripts n k ≡ slice_get (commands_at scripts n) k
 command_as scripts n k = command_found (slice_get scripts n) k
 
--- what ends once has a command
+-- commands that end once aren't empty
 pub has_commands : (cs : List Command) → ends_once cs ≡ true → 0 < length cs
 has_commands [] e = absurd (false≢true e)
 has_commands (c ∷ cs) e = omega arith
 
--- ---- looked at one by one
+-- ---- one by one
 
 pub one_more_scripted : (scripts : List Scripted) (n : ℕ) (x : Scripted) → n < length scripts
     → x ≡ slice_index_or scripts n x → ends_once x.1 ≡ true

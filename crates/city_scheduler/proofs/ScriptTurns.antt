@@ -1,4 +1,4 @@
--- What a turn of one script leaves of a desk, where the script goes on and where it ends.
+-- The desk after a turn of one script, whether the script goes on or ends.
 use Rattle.city_scheduler.proofs.Prelude.{◌≡◌, ◌≢◌, ◌<◌, ◌≤◌, ◌+◌, ℕ, Bool, true, false, cond, List, [], ◌∷◌, ◌++◌}
 use Rattle.city_scheduler.proofs.Prelude.{length, Option, Some, refl, ap, sym, subst, ◌∙◌, arith, length-append}
 use Rattle.city_scheduler.proofs.Prelude.{append-nil, slice_set, slice_get, slice_index_or, false≢true, cases_eq}
@@ -22,7 +22,7 @@ use Rattle.city_scheduler.specs.Turning.{IsTurnAs, IsTurn, GainsCommits}
 use Rattle.city_scheduler.proofs.Shelved.{shows_all, changes_after, commits_more, gained_by, left_same}
 use Rattle.city_scheduler.specs.declared.turn.Turn.TheVariants as turns
 
--- all that a turn leaves of a desk
+-- everything about the desk after a turn
 pub record LeavesDesk (n : ℕ) (turn : Turn) (d e : DeskState) (names : List (List ℕ)) (room : ℕ)
     (before after : List Change) (base : Option CityValue) : Type 0 where
   pub serial : IsSerial e after base
@@ -38,7 +38,7 @@ turned d n ends q begun core =
 abbrev pub one_if : Bool → ℕ
 one_if b = cond b 1 0
 
--- what holds of a new entry at its place, and of the others at theirs, holds of each
+-- if it holds of the new entry at its place, and of the others at theirs, it holds of each
 pub each_set : (ps : List Progress) (n : ℕ) (q : Progress) (P : ℕ → Progress → Type 0) → n < length ps → P n q
     → ((j : ℕ) → j ≢ n → P j (slice_index_or ps j ended_progress)) → (j : ℕ)
     → P j (slice_index_or (slice_set ps n q) j ended_progress)
@@ -49,7 +49,7 @@ each_set ps n q P there here beside j = elim (cases_eq j n) [
 
 -- ---- the open transactions
 
--- the stamp is script n's, if that has one, and no other's
+-- the stamp is script n's, if it has one, and no other's
 pub record IsStampOf (d : DeskState) (n stamp : ℕ) : Type 0 where
   pub was : (t : ℕ) → stamp_of (phase_of d n) ≡ Some t → t ≡ stamp
   pub alone : (k : ℕ) → stamp_of (phase_of d k) ≡ Some stamp → k ≡ n
@@ -78,7 +78,7 @@ module _ (d : DeskState) (n stamp : ℕ) (ends : List End) (q : Progress) (begun
       }
   still j p rs ne h = h
 
-  -- the script comes so far, and the other transactions stand as they stood
+  -- the script reaches this phase, and the other transactions stand as before
   attempts_kept : AreStanding d → ((t : ℕ) → stamp_of q.phase ≡ Some t → t ≡ stamp)
       → (is_open core stamp ≡ true → (since : ℕ) × (q.phase ≡ Open stamp since))
       → StandsAs (turned d n ends q begun core) n q.phase q.replies.list → AreStanding (turned d n ends q begun core)
@@ -144,7 +144,7 @@ module _ {d : DeskState} {changes : List Change} {base : Option CityValue} {n : 
       let long = length-set d.progress n ended_progress in
       omega (arith, ended_set ended_progress, s.of_each, r.each_once)
 
-  -- the name that was copied is its own
+  -- the copied name is its own
   pub called : (script : Scripted) (name : List ℕ) → slice_get d.scripts n ≡ Some script
       → name ≡ slice_index_or names n name → name ≡ script.0
   called script name is_there named =

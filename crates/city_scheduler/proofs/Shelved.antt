@@ -19,7 +19,7 @@ pub none_of_none : {A : Type 0} (n : ℕ) → take {A = A} n [] ≡ []
 none_of_none zero = refl
 none_of_none (suc n) = refl
 
--- what holds of each first part of a list, and of the list with one more, holds of each first part of that
+-- if it holds of each prefix of a list, and of the list with one more, it holds of each prefix of the longer list
 first_more : {A : Type 0} (P : List A → Type 0) (xs : List A) (x : A) → ((n : ℕ) → P (take n xs)) → P (xs ++ x ∷ [])
     → (n : ℕ) → P (take n (xs ++ x ∷ []))
 first_more P [] x all last zero = all 0
@@ -40,7 +40,7 @@ module _ (scripts : List Scripted) (start : CityMap) (es : List End) (cs : List 
   pub shows_all : after_changes start cs ≡ model_after scripts start es
   shows_all = rw (take-length es, ← k.one_each, take-length cs) at (k.shows (length es))
 
-  -- an end, with the change that it made, if it did
+  -- one end more, and its change if it made one
   pub changes_after : (e : End) (gained : List Change) → commits_in (es ++ e ∷ []) ≡ commits_in es + length gained
       → after_changes start (cs ++ gained) ≡ model_after scripts start (es ++ e ∷ [])
       → AreChangesOf scripts start (es ++ e ∷ []) (cs ++ gained)
@@ -57,12 +57,12 @@ module _ (scripts : List Scripted) (start : CityMap) (es : List End) (cs : List 
             ∙ shown);
       }
 
--- ---- what an end leaves
+-- ---- the map after an end
 
 pub left_same : (m : CityMap) (cs : List Command) (o : Outcome) → is_commit o ≡ false → map_left m cs o ≡ m
 left_same m cs o h = grind arith
 
--- the change that was gained by an end that leaves this map: it is committed, and shown by the changes
+-- the change of an end with this map after it: it is committed, and shown by the changes
 pub gained_by : (b : Bool) (stamp : ℕ) (v w : CoreState) (start : CityMap) (before after : List Change) (m : CityMap)
     → committed v ≡ after_changes start before → (b ≡ true → m ≡ view v stamp) → (b ≡ false → m ≡ committed v)
     → Publishes b stamp v w before after

@@ -1,5 +1,5 @@
--- What contracts see of a desk: its opening city and scripts, the ends so far, how far each script is, and
--- its core.
+-- A desk as contracts see it: its opening city and scripts, the ends so far, the progress of each script, and its
+-- core.
 use Rattle.std.specs.Prelude.{ℕ, Bool, true, false, List, [], Option, None, Some, slice_get, slice_index_or}
 use Rattle.std.specs.Prelude.{option_and_then}
 use Rattle.city_model.specs.declared.command.Command.{Command}
@@ -13,28 +13,28 @@ use Rattle.city_scheduler.specs.declared.progress.Phase.{Phase}
 use Rattle.city_scheduler.specs.declared.progress.Phase.TheVariants.{NotBegun, Idle, Open, Ended}
 
 pub record DeskState : Type 0 where
-  -- the city that the desk was opened over
+  -- the opening city
   pub start : CityValue
   pub scripts : List Scripted
-  -- the ends, in the order in which they came
+  -- the ends, oldest first
   pub ends : List End
-  -- how many scripts were handed out
+  -- the number of scripts handed out
   pub taken : ℕ
-  -- how many scripts have begun
+  -- the number of scripts begun
   pub begun : ℕ
-  -- how far each script is
+  -- the progress of each script
   pub progress : List Progress
   pub core : CoreState
 
--- a script that has come so far, with these replies and room for so many
+-- the progress of a script in this phase, with these replies and room for so many
 abbrev pub progress_to : Phase → List Reply → ℕ → Progress
 progress_to phase replies room = record { phase = phase; replies = record { list = replies; room = room } }
 
--- the progress of a script that has ended
+-- the progress of an ended script
 abbrev pub ended_progress : Progress
 ended_progress = progress_to Ended [] 0
 
--- how far script n is; where there is none, as one that has ended
+-- the phase of script n; if there is no such script, that of an ended one
 abbrev pub phase_in : List Progress → ℕ → Phase
 phase_in progress n = (slice_index_or progress n ended_progress).phase
 
@@ -51,11 +51,11 @@ phase_of d n = phase_in d.progress n
 abbrev pub replies_of : DeskState → ℕ → List Reply
 replies_of d n = replies_in d.progress n
 
--- how many replies the script has room for
+-- the room for the script's replies
 abbrev pub room_of : DeskState → ℕ → ℕ
 room_of d n = room_in d.progress n
 
--- command k of script n, where there are both
+-- command k of script n, if both exist
 abbrev pub command_at : List Scripted → ℕ → ℕ → Option Command
 command_at scripts n k = option_and_then (λ s. slice_get s.1 k) (slice_get scripts n)
 
@@ -71,7 +71,7 @@ is_open_phase (Idle stamp) = false
 is_open_phase (Open stamp since) = true
 is_open_phase Ended = false
 
--- the stamp that the script keeps until it ends
+-- the stamp of the script, kept until its end
 abbrev pub stamp_of : Phase → Option ℕ
 stamp_of NotBegun = None
 stamp_of (Idle stamp) = Some stamp

@@ -1,8 +1,8 @@
--- Ends of scripts that were run one after the other in their order.
+-- Ends of scripts run one after the other in their order.
 use Rattle.std.specs.Prelude.{◌≡◌, ◌+◌, ℕ, List, [], ◌∷◌}
 use Rattle.city_model.specs.declared.end.End.{End}
 
--- the ends are those of script k and the ones after it, in their order, each begun when just those before it
+-- the ends are those of script k and its successors, in their order, each begun when exactly the ones before it
 -- had ended
 abbrev pub AreInTurn : ℕ → List End → Type 0
 AreInTurn k [] = Unit {0}

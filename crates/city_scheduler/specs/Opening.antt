@@ -1,4 +1,4 @@
--- A desk as it is opened.
+-- A desk at its opening.
 use Rattle.std.specs.Prelude.{List, [], length, map}
 use Rattle.city_model.specs.Runs.{Scripted}
 use Rattle.city_model.specs.CityMap.{CityValue}

@@ -1,8 +1,8 @@
--- What contracts see of a script's replies.
+-- A script's replies as contracts see them.
 use Rattle.std.specs.Prelude.{ℕ, List}
 use Rattle.city_model.specs.declared.command.Reply.{Reply}
 
 pub record RepliesValue : Type 0 where
   pub list : List Reply
-  -- how many replies there is room for
+  -- the number of replies that fit
   pub room : ℕ

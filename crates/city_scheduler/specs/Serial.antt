@@ -1,4 +1,4 @@
--- A desk's ends are a serial history, and its open transactions stand on what that history leaves.
+-- A desk's ends are a serial history, and its open transactions stand on the city after it.
 use Rattle.std.specs.Prelude.{◌≡◌, ◌<◌, ◌≤◌, ℕ, true, false, List, [], length, take, Option, Some, IfSome}
 use Rattle.std.specs.Prelude.{slice_get}
 use Rattle.std.specs.List.{list_any}
@@ -30,7 +30,7 @@ pub record IsAttempt (d : DeskState) (n stamp start : ℕ) (replies : List Reply
   pub unrefused : list_any is_refusal replies ≡ false
   pub stands : StandsUnderLocks d.core stamp (answered script.1 replies)
 
--- how script n stands that has come this far
+-- how script n stands in this phase
 abbrev pub StandsAs : DeskState → ℕ → Phase → List Reply → Type 0
 StandsAs d n NotBegun replies = replies ≡ []
 StandsAs d n (Idle stamp) replies = (replies ≡ []) × (stamp < d.begun)
@@ -47,15 +47,15 @@ pub record AreStanding (d : DeskState) : Type 0 where
 
 -- ---- the ends
 
--- one change for each commit, and so many of the first changes show the map after the first ends
+-- one change for each commit; the changes of the first ends show the map after those ends
 pub record AreChangesOf (scripts : List Scripted) (start : CityMap) (ends : List End) (changes : List Change)
     : Type 0 where
   pub one_each : length changes ≡ commits_in ends
   pub shows : (n : ℕ)
       → after_changes start (take (commits_in (take n ends)) changes) ≡ model_after scripts start (take n ends)
 
--- The ends are those of scripts run one at a time, each once; the committed city is what they leave;
--- the open transactions stand on it; and the shelf shows the city after each commit.
+-- The ends are those of scripts run one at a time, each once; the committed city is the city after them; the open
+-- transactions stand on it; and the shelf shows the city after each commit.
 pub record IsSerial (d : DeskState) (changes : List Change) (base : Option CityValue) : Type 0 where
   pub lawful : IsLawful (object_at d.start.1)
   pub scripted : AreScripts d.scripts

@@ -1,4 +1,4 @@
--- What a turn of a script does to a desk.
+-- The effect of a script's turn on a desk.
 use Rattle.std.specs.Prelude.{◌≡◌, ◌<◌, ◌+◌, ℕ, false, List, [], ◌∷◌, ◌++◌, length, Option, None, Some}
 use Rattle.std.specs.Prelude.{slice_get, slice_set}
 use Rattle.city_model.specs.declared.command.Command.{Command}
@@ -26,19 +26,19 @@ pub record IsNext (d : DeskState) (n stamp since : ℕ) (command : Command) : Ty
   pub phase : phase_of d n ≡ Open stamp since
   pub next : command_at d.scripts n (length (replies_of d n)) ≡ Some command
 
--- the opening city, the scripts and what was handed out stay
+-- the opening city, the scripts and the count of scripts handed out stay
 pub record Keeps (d e : DeskState) : Type 0 where
   pub start : e.start ≡ d.start
   pub scripts : e.scripts ≡ d.scripts
   pub taken : e.taken ≡ d.taken
 
--- how far script n is, with the room that it had; all others are as they were
+-- the progress of script n, with unchanged room; all others are as they were
 abbrev pub Moves : DeskState → DeskState → ℕ → Phase → List Reply → Type 0
 Moves d e n phase replies = e.progress ≡ slice_set d.progress n (progress_to phase replies (room_of d n))
 
 -- ---- begun
 
--- the stamp that it is begun with: its own, or the number of scripts that had begun
+-- the stamp to begin it with: its own, or the number of scripts begun before
 abbrev pub stamp_for : DeskState → Phase → Option ℕ
 stamp_for d NotBegun = Some d.begun
 stamp_for d (Idle stamp) = Some stamp
@@ -122,15 +122,14 @@ pub record EndsOpen (d : DeskState) (n stamp since : ℕ) (outcome : Outcome) : 
   pub granted : is_end command ≡ false → is_no_memory outcome ≡ false
       → answer_in d.core stamp command ≡ Granted
 
--- a script that has come this far ends with this outcome; if it has no open transaction,
--- it couldn't be begun
+-- a script in this phase ends with this outcome; without an open transaction, it couldn't be begun
 abbrev pub IsDue : DeskState → ℕ → Phase → ℕ → Outcome → Type 0
 IsDue d n NotBegun since outcome = (since ≡ length d.ends) × (outcome ≡ Outcome.NoMemory 0)
 IsDue d n (Idle stamp) since outcome = (since ≡ length d.ends) × (outcome ≡ Outcome.NoMemory 0)
 IsDue d n (Open stamp began) since outcome = (since ≡ began) × EndsOpen d n stamp began outcome
 IsDue d n Ended since outcome = ⊥
 
--- the end of script n, which has this name, with this outcome and the replies that it has
+-- the end of script n with this name and outcome, and with its replies so far
 abbrev pub end_of : DeskState → ℕ → List ℕ → ℕ → Outcome → End
 end_of d n name since outcome = record {
   script = n;
@@ -152,7 +151,7 @@ pub record HasEnded (d e : DeskState) (n : ℕ) : Type 0 where
 
 -- ---- any turn
 
--- what the turn did, by its answer
+-- the effect of the turn, by its answer
 abbrev pub IsTurnAs : DeskState → DeskState → ℕ → Turn → Type 0
 IsTurnAs d e n turns.Began = HasBegun d e n
 IsTurnAs d e n turns.Replied = HasReplied d e n
@@ -161,12 +160,12 @@ IsTurnAs d e n turns.Died = HasDied d e n
 IsTurnAs d e n turns.Ended = HasEnded d e n
 IsTurnAs d e n turns.AlreadyEnded = (phase_of d n ≡ Ended) × (e ≡ d)
 
--- A turn of script n: what it answers, and what becomes of the desk.
+-- A turn of script n: its answer and its effect on the desk.
 pub record IsTurn (n : ℕ) (turn : Turn) (d e : DeskState) : Type 0 where
   pub keeps : Keeps d e
   pub so : IsTurnAs d e n turn
 
--- the shelf's changes stay, and gain one for each commit of the turn
+-- the shelf's changes stay, with one more for each commit of the turn
 abbrev pub GainsCommits : List End → List End → List Change → List Change → Type 0
 GainsCommits ends more before after =
     (gained : List Change) × (after ≡ before ++ gained) × (commits_in more ≡ commits_in ends + length gained)

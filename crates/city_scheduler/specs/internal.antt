@@ -1,4 +1,4 @@
--- Definitions that only private clauses and proofs use.
+-- Definitions for private clauses and proofs only.
 pub mod Attempt
 pub mod Closing
 pub mod NoCity

@@ -16,16 +16,16 @@ use city_model::command::{Cause, Command, Reply};
 use city_model::end::Outcome;
 use city_txn::{Core, Step};
 
-/// What a command of an attempt comes to.
+/// The outcome of one command of an attempt.
 #[derive(Drop)]
 pub enum CommandOutcome {
     /// The script goes on after this turn.
     GoesOn(Turn),
-    /// The script ends so.
+    /// The script ends with this outcome.
     Ends(Outcome),
 }
 
-/// The reply, or the cause where it is a refusal.
+/// The reply, or the cause if it is a refusal.
 fn unless_refused(reply: Reply) -> Result<Reply, Cause>
     ensures ok { IfOk result (λ same. (same ≡ reply) × (is_refusal reply ≡ false)) }
     ensures err { IfErr result (λ cause. reply ≡ Reply.Refused cause) }
@@ -36,7 +36,7 @@ fn unless_refused(reply: Reply) -> Result<Reply, Cause>
     }
 }
 
-/// Runs a command that doesn't end its script.
+/// Runs a command other than a commit or an abort.
 fn run_command(core: &mut Core, progress: &mut Progress, stamp: u64, command: &Command) -> CommandOutcome
     requires place { length progress.old.replies.list < progress.old.replies.room }
     requires opened { is_open core.old stamp ≡ true }
@@ -68,8 +68,8 @@ fn run_command(core: &mut Core, progress: &mut Progress, stamp: u64, command: &C
     }
 }
 
-/// Commits the transaction and puts its change on the shelf, or rolls it back. `number` is that of
-/// the command in its script.
+/// Commits the transaction and puts its change on the shelf, or rolls it back. `number` is the
+/// command's number in its script.
 fn commit<S: Shelf>(core: &mut Core, shelf: &mut S, stamp: u64, number: usize) -> Outcome
     requires opened { is_open core.old stamp ≡ true }
     requires room { length (S.list shelf.old) + 1 < 2 ^ 64 }
@@ -101,9 +101,8 @@ fn commit<S: Shelf>(core: &mut Core, shelf: &mut S, stamp: u64, number: usize) -
 
 /// Runs the next command of an attempt, under its locks.
 ///
-/// A commit puts its change on the shelf. If the script ends or the attempt dies, its
-/// transaction is over and has left nothing but what it committed. The replies of an attempt
-/// that died are dropped.
+/// A commit puts its change on the shelf. If the script ends or the attempt dies, its transaction
+/// is over and leaves nothing uncommitted. A death drops the replies.
 pub fn step<S: Shelf>(
     core: &mut Core,
     shelf: &mut S,

@@ -1,4 +1,4 @@
-//! Rolls back what is open.
+//! Rolls back the open transactions.
 ghost use Rattle.std.specs.Prelude.{◌≡◌, ◌==◌, ℕ, false, if◌then◌else◌};
 ghost use Rattle.city_txn.specs.CoreState.{is_open};
 ghost use Rattle.city_scheduler.specs.internal.Closing.{KeepsCity, AreOpenFrom};

@@ -28,30 +28,30 @@ use std::alloc::Global;
 use std::marker::Model;
 use std::sync::Wait;
 
-/// Scripts that take turns on one core, and their ends.
+/// Runs scripts in turns on one core, and keeps their ends.
 ///
-/// Contracts see the opening city, the scripts, the ends, how far each script is, the core, and the
-/// shelf.
+/// Contracts see the opening city, the scripts, the ends, the progress of each script, the core,
+/// and the shelf.
 #[derive(Drop)]
 pub struct Desk<S: Shelf> {
     alloc: Global,
-    /// The city that the desk was opened over.
+    /// The opening city.
     start: OpeningCity,
     scripts: Vec<Script>,
     /// A copy of each script's name, until its end takes it.
     names: Vec<Text>,
-    /// The ends; there are places for all.
+    /// The ends, with room for all.
     ends: Vec<End>,
     progress: Vec<Progress>,
-    /// How many scripts were handed out.
+    /// The number of scripts handed out.
     taken: usize,
-    /// How many scripts have begun.
+    /// The number of scripts begun.
     begun: u64,
     core: Core,
     shelf: S,
 }
 
-/// What a desk leaves.
+/// The final city, the ends and the shelf of a desk.
 #[derive(Drop)]
 pub struct Finished<S: Shelf> {
     pub city: City,
@@ -82,7 +82,7 @@ impl<S: Shelf> Model for Desk<S> {
 }
 
 impl<S: Shelf> Desk<S> {
-    /// A desk over a lawful city, with no script begun. It makes room for all ends.
+    /// Opens a desk over a lawful city, with no script begun, and makes room for all ends.
     pub fn open(
         alloc: Global,
         city: City,
@@ -113,15 +113,15 @@ impl<S: Shelf> Desk<S> {
         })
     }
 
-    /// How many scripts there are. Doesn't allocate.
+    /// The number of scripts. Doesn't allocate.
     pub fn scripts(&self) -> usize
         ensures { result ≡ length self.now.0.scripts }
     {
         self.scripts.len()
     }
 
-    /// The ends so far: those of scripts run one at a time in this order,
-    /// each once. Doesn't allocate.
+    /// The ends so far: as if the scripts were run one at a time in this order, each once. Doesn't
+    /// allocate.
     pub fn ends(&self) -> &[End]
         ensures ends { result.now ≡ self.now.0.ends }
         ensures serial { IsSerial self.now.0 (S.list self.now.1) (S.base self.now.1) }
@@ -129,7 +129,7 @@ impl<S: Shelf> Desk<S> {
         self.ends.as_slice()
     }
 
-    /// The next script to be worked on: 0, 1, .. each once. Doesn't allocate.
+    /// Hands out the next script to work on: 0, 1, .. each once. Doesn't allocate.
     pub fn take(&mut self) -> Option<usize>
         ensures next { result ≡ (if nat_lt self.old.0.taken (length self.old.0.scripts) then Some self.old.0.taken else None) }
         ensures taken { self.new.0 ≡ record self.old.0 { taken = if nat_lt self.old.0.taken (length self.old.0.scripts) then self.old.0.taken + 1 else self.old.0.taken } }
@@ -143,10 +143,10 @@ impl<S: Shelf> Desk<S> {
         }
     }
 
-    /// A script whose next turn doesn't wait; none exactly where all have ended. Doesn't allocate.
+    /// A script whose next turn doesn't wait; `None` exactly when all have ended. Doesn't allocate.
     ///
-    /// Where each script that hasn't ended has an open transaction, it is the script of the
-    /// youngest, since a transaction waits only for younger ones.
+    /// If every unended script has an open transaction, returns the youngest's: a transaction waits
+    /// only for younger ones.
     pub fn ready(&self) -> Option<usize>
         ensures some { IfSome result (λ n. (n < length self.now.0.scripts) × (has_end n self.now.0.ends ≡ false) × (IsWaiting self.now.0 n → ⊥)) }
         ensures none { result ≡ None ↔ ((n : ℕ) → n < length self.now.0.scripts → has_end n self.now.0.ends ≡ true) }
@@ -158,8 +158,8 @@ impl<S: Shelf> Desk<S> {
         }
     }
 
-    /// Shows the shelf as it is; the desk is otherwise unchanged. If memory runs out, viewers see what
-    /// they saw.
+    /// Shows the shelf as it is; the desk is otherwise unchanged. If memory runs out, viewers see
+    /// the same as before.
     pub fn show<R: Wait>(&mut self, rt: &R) -> Result<S::Note, OutOfMemory>
         ensures desk { self.new.0 ≡ self.old.0 }
         ensures list { S.list self.new.1 ≡ S.list self.old.1 }
@@ -172,7 +172,7 @@ impl<S: Shelf> Desk<S> {
         self.shelf.show(rt)
     }
 
-    /// The next turn of script n: begins it, or runs its next command.
+    /// Takes the next turn of script n: begins it, or runs its next command.
     ///
     /// A refused command ends the script, and so does running out of memory; its transaction is
     /// then rolled back. A script that died keeps its stamp, and its replies are dropped. No other
@@ -193,8 +193,8 @@ impl<S: Shelf> Desk<S> {
         }
     }
 
-    /// Begins script n, or ends it if that was refused. `begun` is how many scripts
-    /// have begun by then.
+    /// Begins script n, or ends it if the core refuses. `begun` is the number of scripts begun by
+    /// then.
     fn begin(&mut self, n: usize, stamp: u64, begun: u64) -> Turn
         requires there { n < length self.old.0.scripts }
         requires its { stamp_for self.old.0 (phase_of self.old.0 n) ≡ Some stamp }
@@ -224,7 +224,7 @@ impl<S: Shelf> Desk<S> {
         Turn::Began
     }
 
-    /// Runs the next command of script n, which has an open transaction.
+    /// Runs the next command of script n, under its open transaction.
     fn go_on(&mut self, n: usize, stamp: u64, since: usize) -> Turn
         requires there { n < length self.old.0.scripts }
         requires opened { phase_of self.old.0 n ≡ Phase.Open stamp since }
@@ -254,8 +254,8 @@ impl<S: Shelf> Desk<S> {
         }
     }
 
-    /// The final city, the ends and the shelf, or the desk as it was where a script
-    /// hasn't ended. Doesn't allocate.
+    /// Returns the final city, the ends and the shelf, or the unchanged desk if a script hasn't
+    /// ended. Doesn't allocate.
     pub fn finish(self) -> Result<Finished<S>, Desk<S>>
         ensures ended { IsOk result ↔ ((n : ℕ) → n < length self.0.scripts → has_end n self.0.ends ≡ true) }
         ensures each_once { IfOk result (λ f. length f.ends ≡ length self.0.scripts) }
@@ -273,8 +273,8 @@ impl<S: Shelf> Desk<S> {
         Ok(Finished { city, ends, shelf })
     }
 
-    /// The city that the ends so far leave, the ends and the shelf; every open transaction is
-    /// rolled back. Doesn't allocate.
+    /// Rolls back every open transaction and returns the city after the ends so far, the ends and
+    /// the shelf. Doesn't allocate.
     pub fn close(self) -> (City, Sequence<End>, S)
         ensures frame { result.0.0 ≡ self.0.start.0 }
         ensures city { object_at result.0.1 ≡ model_after self.0.scripts (object_at self.0.start.1) self.0.ends }

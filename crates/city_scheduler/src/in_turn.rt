@@ -18,8 +18,8 @@ use city_model::script::Script;
 use city_model::sequence::Sequence;
 use std::alloc::Global;
 
-/// Runs script n to its end, turn by turn, while no other transaction is open: so it
-/// neither waits nor dies.
+/// Runs script n to its end, turn by turn, while no other transaction is open. So it neither waits
+/// nor dies.
 fn run_to_end<S: Shelf>(desk: &mut Desk<S>, n: usize)
     requires there { n < length desk.old.0.scripts }
     requires unbegun { phase_of desk.old.0 n ≡ Phase.NotBegun }

@@ -1,12 +1,12 @@
-//! The scheduler: scripts that take turns on one transaction core, and their ends.
+//! The scheduler: runs scripts in turns on one transaction core, and keeps their ends.
 //!
-//! - `desk`, `turn`: the desk, and what a turn answers
-//! - `opening`, `attempt`, `ready`, `closing`: what it makes at its opening, the next command of a script, whose turn
-//!   doesn't wait, what is rolled back at the close
-//! - `opening_city`: the city that it was opened over, for contracts only
+//! - `desk`, `turn`: the desk, and its answer to a turn
+//! - `opening`, `attempt`, `ready`, `closing`: room made at its opening, the next command of a script, the choice of
+//!   a script that doesn't wait, the roll-back at the close
+//! - `opening_city`: the city at its opening, for contracts only
 //! - `progress`, `replies`: how far a script is, and its replies so far
 //! - `shelf`, `null_shelf`: where the changes of commits go, and a shelf that keeps none
-//! - `taken_changes`, `no_rule`: the changes that a shelf has taken, and records of what was, for contracts only
+//! - `taken_changes`, `no_rule`: the changes taken by a shelf, and records of the past, for contracts only
 //! - `in_turn`: scripts run one after the other
 #![tactic(auto)]
 

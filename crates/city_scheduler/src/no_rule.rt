@@ -1,7 +1,7 @@
-//! A record that is never added to, for the proofs only.
+//! The rule of a record that never grows, for the proofs only.
 use logbook::Rule;
 
-/// A record that is never added to.
+/// The rule of a record that never grows.
 pub struct NoRule;
 
 impl<E> Rule<E, u64> for NoRule {

@@ -1,4 +1,4 @@
-//! A shelf that keeps no change, for a run that nobody looks at.
+//! The shelf of a run without viewers: it keeps no change.
 ghost use Rattle.std.specs.Prelude.{◌≡◌, ◌++◌, ◌∷◌, [], None, IsOk, OnOk};
 ghost use Rattle.city_model.specs.Runs.{Change};
 ghost use Rattle.city_txn.specs.Changing.{IsChangeOf, change_in};
@@ -11,7 +11,7 @@ use city_txn::Core;
 use std::marker::Model;
 use std::sync::Wait;
 
-/// A shelf that keeps no change. It is zero-sized; contracts see the changes that it took.
+/// A shelf that keeps no change. It is zero-sized; contracts see the changes it took.
 #[derive(Drop)]
 pub struct NullShelf {
     taken: TakenChanges,
@@ -31,7 +31,7 @@ impl Model for NullShelf {
 }
 
 impl NullShelf {
-    /// A shelf that has taken no change. Doesn't allocate.
+    /// A shelf before its first change. Doesn't allocate.
     pub fn new() -> NullShelf
         ensures { result ≡ [] }
     {

@@ -1,4 +1,4 @@
-//! What a desk makes when it is opened.
+//! Makes the names and the room for replies at a desk's opening.
 ghost use Rattle.std.specs.Prelude.{◌≡◌, IfOk, OnOk};
 ghost use Rattle.city_model.specs.Scripts.{AreScripts};
 ghost use Rattle.city_scheduler.specs.Opening.{unbegun_each};
@@ -23,7 +23,7 @@ pub fn names_of(alloc: Global, scripts: &[Script]) -> Result<Vec<Text>, OutOfMem
     Ok(names)
 }
 
-/// No script begun, with room for the replies of each.
+/// The progress of each script, none begun, with room for its replies.
 pub fn unbegun_each(alloc: Global, scripts: &[Script]) -> Result<Vec<Progress>, OutOfMemory>
     ensures progress { IfOk result (λ progress. progress.items ≡ unbegun_each scripts.now) }
     ensures scripted { OnOk result (AreScripts scripts.now) }

@@ -1,4 +1,4 @@
-//! The city that a desk or a board was opened over, for the proofs only.
+//! The city at the opening of a desk or a board, for the proofs only.
 ghost use Rattle.std.specs.Prelude.{◌≡◌};
 
 use crate::no_rule::NoRule;
@@ -15,7 +15,7 @@ impl FirstEntry<City, City> for OneCity {
     ghost log = { λ count city. city ∷ [] };
 }
 
-/// The city that a desk or a board was opened over. It is zero-sized; contracts see the city.
+/// The city at the opening of a desk or a board. It is zero-sized; contracts see the city.
 #[derive(Drop)]
 pub struct OpeningCity {
     seen: Seen<City, u64, NoRule>,

@@ -9,14 +9,14 @@ use city_model::text::Text;
 use std::alloc::Global;
 use std::mem;
 
-/// Where a script stands between its turns.
+/// The state of a script between its turns.
 #[derive(Clone, Copy)]
 pub enum Phase {
     /// It has never begun.
     NotBegun,
     /// It has a stamp and no open transaction: its last attempt died.
     Idle(u64),
-    /// A transaction of this stamp is open, and there were so many ends when it began.
+    /// A transaction of this stamp is open; it began after so many ends.
     Open(u64, usize),
     /// It has ended.
     Ended,

@@ -1,11 +1,11 @@
-//! Which script's turn doesn't wait.
+//! Finds a script whose turn doesn't wait.
 ghost use Rattle.std.specs.Prelude.{◌≡◌, ◌<◌, ℕ, length, true, false, MatchOption};
 ghost use Rattle.city_scheduler.specs.DeskState.{phase_in, is_open_phase};
 ghost use Rattle.city_scheduler.specs.internal.Ready.{is_unopened, IsYoungest};
 
 use crate::progress::{Phase, Progress};
 
-/// A script that hasn't ended and has no open transaction, if there is one.
+/// A script neither ended nor with an open transaction, if there is one.
 pub fn unopened(progress: &[Progress]) -> Option<usize>
     ensures { MatchOption result ((k : ℕ) → is_unopened (phase_in progress.now k) ≡ false) (λ n. (n < length progress.now) × (is_unopened (phase_in progress.now n) ≡ true)) }
 {
@@ -18,7 +18,7 @@ pub fn unopened(progress: &[Progress]) -> Option<usize>
     None
 }
 
-/// The script whose open transaction is the youngest, if any is open.
+/// The script with the youngest open transaction, if any is open.
 pub fn youngest(progress: &[Progress]) -> Option<usize>
     ensures { MatchOption result ((k : ℕ) → is_open_phase (phase_in progress.now k) ≡ false) (λ n. (n < length progress.now) × IsYoungest progress.now n) }
 {

@@ -1,4 +1,4 @@
-//! The replies in a script's open transaction, in the room that was made for them.
+//! The replies in a script's open transaction, in preallocated room.
 ghost use Rattle.std.specs.Prelude.{◌≡◌, ◌<◌, ◌++◌, ◌∷◌, [], length, IfOk};
 
 use city_model::OutOfMemory;
@@ -7,8 +7,7 @@ use city_model::sequence::Sequence;
 use std::alloc::Global;
 use std::marker::Model;
 
-/// A list of replies that never takes more room than it was made with. Contracts see the list and
-/// the room.
+/// A list of replies with fixed room. Contracts see the list and the room.
 #[derive(Drop)]
 pub struct Replies {
     items: Vec<Reply>,
@@ -46,14 +45,14 @@ impl Replies {
         }
     }
 
-    /// How many replies there are.
+    /// The number of replies.
     pub fn len(&self) -> usize
         ensures { result ≡ length self.now.list }
     {
         self.items.len()
     }
 
-    /// Adds a reply for which there is room. Doesn't allocate.
+    /// Adds a reply; there must be room for it. Doesn't allocate.
     pub fn add(&mut self, reply: Reply)
         requires { length self.old.list < self.old.room }
         ensures { self.new ≡ record self.old { list = self.old.list ++ reply ∷ [] } }

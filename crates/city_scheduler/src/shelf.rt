@@ -1,4 +1,4 @@
-//! Where a desk puts the changes of its commits.
+//! Takes the changes of a desk's commits.
 ghost use Rattle.std.specs.Prelude.{◌≡◌, ◌+◌, ◌<◌, ◌^◌, ℕ, List, [], ◌∷◌, ◌++◌, length, Option, None, option_map, IfSome, IfOk, IsOk, OnOk, OnErr};
 ghost use Rattle.city_model.specs.CityMap.{object_at, CityValue};
 ghost use Rattle.city_model.specs.Relations.{IsLawful};
@@ -14,17 +14,17 @@ use std::alloc::Global;
 use std::marker::Model;
 use std::sync::Wait;
 
-/// What takes the change of each commit, and can show them.
+/// Takes the change of each commit, and can show them.
 ///
-/// A shelf stands for a list of changes, and may have a base city and a name, which no call
-/// changes.
+/// A shelf stands for a list of changes, and may have a base city and a name. No call changes base
+/// or name.
 pub trait Shelf: Drop {
-    /// What tells of the list as it was shown.
+    /// A note of the list as shown.
     type Note: Drop + Send;
 
-    /// The changes that it took.
+    /// The changes taken.
     ghost list: { Self → List Change };
-    /// The city that they begin from, if it has one.
+    /// The city before the first change, if the shelf has one.
     ghost base: { Self → Option CityValue };
 
     ghost name: { Self → List ℕ };
@@ -33,7 +33,7 @@ pub trait Shelf: Drop {
     /// The note stands for the list.
     ghost tells: { Self → Self.Note → Type 0 };
 
-    /// Takes a change, which no viewer sees yet. If memory runs out, the list stays.
+    /// Takes a change, still unseen by viewers. If memory runs out, the list stays.
     fn take(&mut self, change: Change) -> Result<(), OutOfMemory>
         requires room { length (list self.old) + 1 < 2 ^ 64 }
         requires lawful { IfSome (base self.old) (λ city. IsLawful (after_changes (object_at city.1) (list self.old ++ change ∷ []))) }
@@ -45,8 +45,8 @@ pub trait Shelf: Drop {
 
     /// Takes the change of an open transaction that may commit. If memory runs out, the list stays.
     ///
-    /// A shelf that keeps its changes has the core make the change. One that keeps
-    /// none doesn't need it.
+    /// By default the core makes the change for `take`. A shelf that keeps no changes can do
+    /// without.
     fn take_from(&mut self, core: &Core, stamp: u64) -> Result<(), OutOfMemory>
         requires room { length (list self.old) + 1 < 2 ^ 64 }
         requires allowed { IsChangeOf core.now stamp (change_in core.now.writes stamp) }
@@ -63,7 +63,7 @@ pub trait Shelf: Drop {
         }
     }
 
-    /// Shows the list as it is; the list stays. If memory runs out, viewers see what they saw.
+    /// Shows the list as it is; the list stays. If memory runs out, viewers see the same as before.
     fn show<R: Wait>(&mut self, rt: &R) -> Result<Self::Note, OutOfMemory>
         ensures list { list self.new ≡ list self.old }
         ensures base { base self.new ≡ base self.old }
@@ -73,7 +73,7 @@ pub trait Shelf: Drop {
         ensures note { IfOk result (λ note. tells self.new note) };
 }
 
-/// The plain shelf: a list of changes that nobody looks at meanwhile.
+/// The plain shelf: a list of changes without viewers.
 #[derive(Drop)]
 pub struct ListShelf {
     changes: Sequence<Change>,
@@ -94,7 +94,7 @@ impl Model for ListShelf {
 }
 
 impl ListShelf {
-    /// A shelf with no changes. Doesn't allocate.
+    /// A shelf without changes. Doesn't allocate.
     pub fn new(alloc: Global) -> ListShelf
         ensures { result ≡ [] }
     {
@@ -103,7 +103,7 @@ impl ListShelf {
         }
     }
 
-    /// The changes that it took. Doesn't allocate.
+    /// The changes taken. Doesn't allocate.
     pub fn changes(&self) -> &[Change]
         ensures { result.now ≡ self.now }
     {

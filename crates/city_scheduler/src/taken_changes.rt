@@ -1,4 +1,4 @@
-//! The changes that a shelf has taken, for contracts only.
+//! The changes taken by a shelf, for contracts only.
 ghost use Rattle.std.specs.Prelude.{◌≡◌, ◌++◌, ◌∷◌, []};
 ghost use Rattle.city_txn.specs.Changing.{change_in};
 
@@ -24,7 +24,7 @@ pub struct WithChange<'a> {
     change: &'a Change,
 }
 
-/// The first entries of `TakenChanges::with`: these changes, and that one.
+/// The first entries of `TakenChanges::with`: these changes and one more.
 pub struct OneMore;
 
 impl<'a> FirstEntries<WithChange<'a>, Change> for OneMore {
@@ -33,7 +33,7 @@ impl<'a> FirstEntries<WithChange<'a>, Change> for OneMore {
     ghost log = { λ count with. with.taken.now ++ with.change.now ∷ [] };
 }
 
-/// Changes, and what an open transaction of a core wrote.
+/// Changes, and the writes of an open transaction of a core.
 #[derive(Clone, Copy)]
 pub struct WithWrites<'a> {
     taken: &'a TakenChanges,
@@ -41,7 +41,7 @@ pub struct WithWrites<'a> {
     stamp: u64,
 }
 
-/// The first entries of `TakenChanges::with_writes`: these changes, and that of the transaction.
+/// The first entries of `TakenChanges::with_writes`: these changes and the transaction's.
 pub struct OneWritten;
 
 impl<'a> FirstEntries<WithWrites<'a>, Change> for OneWritten {
@@ -51,7 +51,7 @@ impl<'a> FirstEntries<WithWrites<'a>, Change> for OneWritten {
     ghost log = { λ count with. with.taken.now ++ change_in with.core.now.writes with.stamp ∷ [] };
 }
 
-/// The changes that a shelf has taken. It is zero-sized; contracts see the changes.
+/// The changes taken by a shelf. It is zero-sized; contracts see the changes.
 #[derive(Drop)]
 pub struct TakenChanges {
     seen: Seen<Change, u64, NoRule>,
@@ -91,7 +91,7 @@ impl TakenChanges {
         TakenChanges { seen }
     }
 
-    /// These changes, and that of an open transaction, for which the change itself isn't made.
+    /// These changes, and the one of an open transaction; the change itself isn't made.
     pub fn with_writes(&self, core: &Core, stamp: u64) -> TakenChanges
         ensures { result ≡ self.now ++ change_in core.now.writes stamp ∷ [] }
     {

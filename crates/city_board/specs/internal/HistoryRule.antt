@@ -11,7 +11,7 @@ HasLength cells changes = cells ≡ (length changes, true) ∷ (0, true) ∷ []
 abbrev pub head_of : Book → Named
 head_of name = record { tracked = true; key = 0; book = name }
 
--- the change was added to all that was known, or the history is longer than that
+-- the change was added to all changes known, or the history is longer
 abbrev pub Adds : Step Change → Snapshot Change ℕ → ℕ → Snapshot Change ℕ → Type 0
 Adds step before found after =
     MatchBool (found == step.old) (after.0 ≡ before.0 ++ step.ask ∷ []) (length after.0 ≡ found)

@@ -22,7 +22,7 @@ pub record IsFaithful (x : Version) : Type 0 where
   pub objects : object_at x.city.1 ≡ after_changes (object_at x.opening.1) x.history.changes
   pub lawful : IsLawful (object_at x.city.1)
 
--- the edit writes one change more, after which the city is lawful
+-- the edit writes one change more, and leaves the city lawful
 pub record IsNextEdit (x : Version) (e : Edit) : Type 0 where
   pub history : e.history ≡ history_of x.history.name (x.history.changes ++ e.change ∷ [])
   pub lawful : IsLawful (after_change (object_at x.city.1) e.change)

@@ -1,4 +1,4 @@
--- The faults of a crew: which faults of its run they are, and when a run has no result.
+-- The faults of a crew as faults of its run, and the reasons for a missing result.
 use Rattle.std.specs.Prelude.{◌≡◌, ◌<◌, ℕ, List, length, true}
 use Rattle.city_model.specs.declared.end.End.{End}
 use Rattle.city_model.specs.Runs.{Scripted, has_end}
@@ -17,12 +17,12 @@ abbrev pub fault_of_board : BoardFault → CrewFault
 fault_of_board BoardFault.OutOfMemory = CrewFault.OutOfMemory
 fault_of_board BoardFault.NoPlace = CrewFault.NoPlace
 
--- each of the scripts has an end
+-- each script has an end
 abbrev pub HaveEnded : List Scripted → List End → Type 0
 HaveEnded scripts ends = (n : ℕ) → n < length scripts → has_end n ends ≡ true
 
--- why what was run on two texts has no result for these: they are other texts, or they are the same and a script
--- hasn't ended
+-- why a run in this state has no result for these texts: they are others than its own, or they are its own and a
+-- script hasn't ended
 abbrev pub IsEndFault : List ℕ × List ℕ × DeskState → List ℕ → List ℕ → CrewFault → Type 0
 IsEndFault state document scripts CrewFault.OutOfMemory = ⊥
 IsEndFault state document scripts CrewFault.NoPlace = ⊥

@@ -1,11 +1,11 @@
--- Scripts run by workers whose steps interleave in any way.
+-- Scripts run by workers with their steps interleaved in any way.
 use Rattle.std.specs.Prelude.{◌≡◌, List}
 use Rattle.city_model.specs.declared.end.End.{End}
 use Rattle.city_model.specs.CityMap.{CityValue, object_at}
 use Rattle.city_model.specs.Runs.{Scripted, model_after}
 use Rattle.city_desk.specs.TextRuns.{AreEndsOf}
 
--- the scripts, run on the city, have these ends, and left this city
+-- the scripts, run on the city, have these ends and leave this city
 pub record IsResult (city : CityValue) (list : List Scripted) (left : CityValue) (ends : List End) : Type 0 where
   pub ran : AreEndsOf city list ends
   pub frame : left.0 ≡ city.0

@@ -1,4 +1,4 @@
--- Whole texts that are encoded, or decoded.
+-- Whole texts, encoded or decoded.
 use Rattle.std.specs.Prelude.{◌≡◌, ◌≤◌, ℕ, List}
 use Rattle.json.specs.Json.{Json}
 use Rattle.json.specs.Print.{print}
@@ -13,7 +13,7 @@ abbrev pub top_changed : Direction → Json → Json
 top_changed Encode j = encoded_top j
 top_changed Decode j = decoded_top j
 
--- out is the compact text of the changed value of the text, which nests no deeper than so
+-- the text nests no deeper than the limit, and out is the compact text of its changed value
 pub record IsChanged (limit : ℕ) (way : Direction) (text out : List ℕ) : Type 0 where
   pub j : Json
   pub value : IsValueTo limit j text

@@ -21,7 +21,7 @@ abbrev mutual
   value_text (array js) = 91 ∷ items_text false js
   value_text (object ms) = 123 ∷ members_text false ms
 
-  -- with the closing bracket; `later` where an item stands before
+  -- with the closing bracket; `later` if an item stands before
   pub items_text : Bool → Items → List ℕ
   items_text later no_items = 93 ∷ []
   items_text later (item j js) = comma_if later ++ (value_text j ++ items_text true js)
@@ -33,19 +33,19 @@ abbrev mutual
 abbrev pub triple : List ℕ → List ℕ → List ℕ → Json
 triple a b c = array (item (number a) (item (number b) (item (number c) no_items)))
 
--- ---- what a copier has read and written
+-- ---- the text read and the output of a copier
 
 abbrev pub State : Type 0
 State = List ℕ × List ℕ × List ℕ
 
--- a value, for which that under f is written
+-- a value j, with f j as the output
 pub record IsCopied (f : Json → Json) (limit : ℕ) (old new : State) : Type 0 where
   pub j : Json
   pub moves : Moves old new (value_text j) (value_text (f j))
   pub numbers : HasNumbers j
   pub shallow : depth j ≤ limit
 
--- the items that are left, for which those under g are written, and the bracket
+-- the remaining items and the bracket, with the items under g as the output
 pub record AreItemsCopied (g : Items → Items) (later : Bool) (limit : ℕ) (old new : State) : Type 0 where
   pub js : Items
   pub moves : Moves old new (items_text later js) (items_text later (g js))
@@ -57,7 +57,7 @@ abbrev pub IsUntagged : Members → Type 0
 IsUntagged no_members = Unit {0}
 IsUntagged (member k j ms) = is_tag k ≡ false
 
--- the members that are left, for which those under h are written, and the brace
+-- the remaining members and the brace, with the members under h as the output
 pub record AreMembersCopied (h : Members → Members) (later : Bool) (limit : ℕ) (old new : State) : Type 0 where
   pub ms : Members
   pub moves : Moves old new (members_text later ms) (members_text later (h ms))
@@ -65,14 +65,14 @@ pub record AreMembersCopied (h : Members → Members) (later : Bool) (limit : �
   pub numbers : MembersHaveNumbers ms
   pub shallow : members_depth ms ≤ limit
 
--- a comma, where something stands before, and an item, for which that under f is written
+-- an item, after a comma if `later`, with its value under f as the output
 pub record IsItemCopied (f : Json → Json) (later : Bool) (limit : ℕ) (old new : State) : Type 0 where
   pub j : Json
   pub moves : Moves old new (comma_if later ++ value_text j) (comma_if later ++ value_text (f j))
   pub numbers : HasNumbers j
   pub shallow : depth j ≤ limit
 
--- the same of a member, whose value is written as m has it
+-- the same for a member, with its value under m
 pub record IsMemberCopied (m : List ℕ → Json → Json) (later : Bool) (limit : ℕ) (old new : State) : Type 0 where
   pub k : List ℕ
   pub j : Json
@@ -82,7 +82,7 @@ pub record IsMemberCopied (m : List ℕ → Json → Json) (later : Bool) (limit
   pub numbers : HasNumbers j
   pub shallow : depth j ≤ limit
 
--- the value of a frame, or what is put into one; m is what is written for it
+-- the value of a frame, or the value put into one; m gives the output
 pub record IsFrameCopied (m : Json → Json) (limit : ℕ) (old new : State) : Type 0 where
   pub j : Json
   pub moves : Moves old new (value_text j) (value_text (m j))
@@ -90,13 +90,13 @@ pub record IsFrameCopied (m : Json → Json) (limit : ℕ) (old new : State) : T
   pub numbers : HasNumbers j
   pub shallow : depth j ≤ limit
 
--- a number, for which that under `encoded` is written
+-- a number, with its encoding as the output
 pub record IsNumberCopied (old new : State) : Type 0 where
   pub s : List ℕ
   pub moves : Moves old new s (value_text (encoded (number s)))
   pub numbers : IsNumber s
 
--- an array of three numbers, for which that under `encoded` is written
+-- an array of three numbers, with its encoding as the output
 pub record IsTripleCopied (old new : State) : Type 0 where
   pub a : List ℕ
   pub b : List ℕ
@@ -104,12 +104,12 @@ pub record IsTripleCopied (old new : State) : Type 0 where
   pub moves : Moves old new (value_text (triple a b c)) (value_text (encoded (triple a b c)))
   pub numbers : HasNumbers (triple a b c)
 
--- what a comma, where something stands before, and a name with its colon are in a text, of which key is the inside
+-- a name with its colon, after a comma if `later`; key is the name's inside in the text
 abbrev pub IsKeyPassed : Bool → List ℕ → State → State → Type 0
 IsKeyPassed later key old new = (k : List ℕ) × (key ≡ escape k)
     × Moves old new (comma_if later ++ (quoted k ++ 58 ∷ [])) (comma_if later ++ (quoted k ++ 58 ∷ []))
 
--- the object that a whole text is; out has its members as h makes them
+-- the object of a whole text; out has its members under h
 pub record IsTopCopied (h : Members → Members) (limit : ℕ) (text out : List ℕ) : Type 0 where
   pub ms : Members
   pub text_is : text ≡ value_text (object ms)

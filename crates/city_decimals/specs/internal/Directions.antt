@@ -1,4 +1,4 @@
--- A value that is encoded, or decoded.
+-- A value, encoded or decoded.
 use Rattle.std.specs.Prelude.{ℕ, List, Bool, true, false, codes}
 use Rattle.json.specs.Json.{Json, object, Items, Members}
 use Rattle.city_decimals.specs.Shapes.{form_of, in_form, framed, fronted}
@@ -24,7 +24,7 @@ abbrev pub members_changed : Direction → Bool → Members → Members
 members_changed Encode top ms = encoded_members top ms
 members_changed Decode top ms = decoded_members top ms
 
--- what these members of an object are changed to
+-- these members of an object, changed
 abbrev pub object_made : Direction → Bool → Members → Json
 object_made Encode top ms = object (encoded_members top ms)
 object_made Decode top ms = decoded_object top ms
@@ -38,7 +38,7 @@ member_changed Decode top k j = out_of_form top k j (decoded j)
 abbrev pub attributes_changed : Direction → Json → Json
 attributes_changed way j = member_changed way false (codes "attributes") j
 
--- a transform that is put into its frame, or a frame out of which it is taken
+-- a transform put into its frame, or taken out of it
 abbrev pub frame_changed : Direction → Json → Json
 frame_changed Encode j = framed (encoded j)
 frame_changed Decode j = fronted (decoded j)

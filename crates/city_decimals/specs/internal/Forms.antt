@@ -1,4 +1,4 @@
--- Which names and values members in forms have, and the tokens of a form, around those of the value in it.
+-- The names and values of members in forms, and the tokens of a form around its value.
 use Rattle.std.specs.Prelude.{◌≡◌, ◌⊎◌, ℕ, List, [], ◌∷◌, ◌++◌, get_or, Bool, true, false, ◌&&◌, ◌||◌, codes}
 use Rattle.std.specs.Str.{bytes_eq}
 use Rattle.json.specs.Token.{Token, begin_object, end_object, begin_array, end_array, key}
@@ -8,11 +8,11 @@ use Rattle.city_decimals.specs.Shapes.{tag, is_tag, is_text, three}
 use Rattle.city_decimals.specs.declared.shapes.Form.{Form}
 use Rattle.city_decimals.specs.declared.shapes.Form.TheVariants.{Plain, Shielded, Framed}
 
--- a member of this name can have a form; what stands under `attributes` is told by its value
+-- a member of this name can have a form; under `attributes` the value decides
 abbrev pub can_have_form : Bool → List ℕ → Bool
 can_have_form top k = (top && bytes_eq k (codes "transform")) || is_tag k
 
--- an object, or an array whose first item is a text: under `attributes` it isn't shielded, and no shield
+-- an object, or an array that begins with a text: under `attributes` it is neither shielded nor a shield
 abbrev pub is_bare : Json → Bool
 is_bare null = false
 is_bare (boolean b) = false

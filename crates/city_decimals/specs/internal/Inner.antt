@@ -1,4 +1,4 @@
--- What stands in the form of a member, before anything is decoded.
+-- The value in the form of a member, before decoding.
 use Rattle.std.specs.Prelude.{ℕ, ◌&&◌, List, Bool, cond}
 use Rattle.json.specs.Json.{Json, null, boolean, number, string, array, object, no_members, member}
 use Rattle.city_decimals.specs.Shapes.{is_tag, is_transform, has_shield, only}

@@ -1,4 +1,4 @@
--- Where the first newline stands.
+-- The index of the first newline.
 use Rattle.std.specs.Prelude.{◌≡◌, ◌<◌, ℕ, List, Option, Some, None, length, take, get_or}
 use Rattle.city_decimals.specs.Lines.{HasNoNewline}
 

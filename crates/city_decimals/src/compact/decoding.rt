@@ -1,4 +1,4 @@
-//! What is decoded of a compact text: encoded numbers.
+//! Decodes the encoded numbers of a compact text.
 ghost use Rattle.std.specs.Prelude.{◌≡◌, true, IfSome};
 ghost use Rattle.city_decimals.specs.Decoded.{decoded};
 ghost use Rattle.city_decimals.specs.internal.Compact.{IsCopied};
@@ -8,7 +8,7 @@ use super::{NUMBER_BEGIN, NUMBER_END};
 use crate::copier::Copier;
 use crate::direction::Direction;
 
-/// Whether the object that is next encodes a number, and is decoded.
+/// Whether the text is to be decoded and begins like an encoded number.
 #[inline(always)]
 pub(super) fn is_encoded_number(way: Direction, text: &[u8]) -> bool
     ensures { result ≡ true → way ≡ Decode }
@@ -19,7 +19,7 @@ pub(super) fn is_encoded_number(way: Direction, text: &[u8]) -> bool
     }
 }
 
-/// Copies the number that an object encodes.
+/// Copies the number encoded by an object.
 #[inline(never)]
 pub(super) fn copy_encoded_number(copier: &mut Copier<'_>, depth: usize) -> Option<()>
     ensures before { copier.new.0 ≡ copier.old.0 }

@@ -1,4 +1,4 @@
-//! What is encoded of a compact text: numbers, and the transform.
+//! Encodes the numbers and the transform of a compact text.
 ghost use Rattle.std.specs.Prelude.{◌≡◌, IfSome};
 ghost use Rattle.city_decimals.specs.internal.Compact.{IsNumberCopied, IsTripleCopied, IsFrameCopied};
 ghost use Rattle.city_decimals.specs.internal.Directions.{frame_changed};

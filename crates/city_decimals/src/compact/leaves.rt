@@ -1,4 +1,4 @@
-//! Values of compact texts that are copied as they are, and the names of members.
+//! Values of compact texts copied unchanged, and the names of members.
 ghost use Rattle.std.specs.Prelude.{◌≡◌, ◌∷◌, [], ◌&&◌, codes, true, false, IfSome};
 ghost use Rattle.std.specs.Bool.{OnTrue};
 ghost use Rattle.std.specs.Str.{bytes_eq};
@@ -34,7 +34,7 @@ pub(super) fn copy_name(copier: &mut Copier<'_>, depth: usize, way: Direction) -
     }
 }
 
-/// Whether this is the tag, as it stands in a text.
+/// Whether this is the tag, as written in a text.
 #[inline(always)]
 pub(super) fn is_tag(key: &[u8]) -> bool
     ensures { result ≡ bytes_eq key.now (35 ∷ []) }
@@ -42,7 +42,7 @@ pub(super) fn is_tag(key: &[u8]) -> bool
     key == b"#".as_slice()
 }
 
-/// Whether a frame stands under this name, as it stands in a text.
+/// Whether a frame belongs under this name, as written in a text.
 #[inline(always)]
 pub(super) fn is_framed(top: bool, key: &[u8]) -> bool
     ensures { result ≡ (top && bytes_eq key.now (codes "transform")) }
@@ -50,8 +50,8 @@ pub(super) fn is_framed(top: bool, key: &[u8]) -> bool
     top && key == b"transform".as_slice()
 }
 
-/// Whether what is next under this name may be shielded or a shield, both as they stand in a text. Under
-/// `attributes` that is all but an object, and an array whose first item is a text.
+/// Whether the next value under this name may be shielded or a shield, judged by the text. Every
+/// value of `attributes` may be, except an object or an array that begins with a text.
 #[inline(always)]
 pub(super) fn may_be_shielded(key: &[u8], rest: &[u8]) -> bool
     ensures { result ≡ false → bytes_eq key.now (codes "attributes") ≡ true → BeginsBare rest.now }
@@ -59,7 +59,7 @@ pub(super) fn may_be_shielded(key: &[u8], rest: &[u8]) -> bool
     key == b"attributes".as_slice() && !begins_bare(rest)
 }
 
-/// Whether an object is next, or an array whose first item is a text.
+/// Whether an object is next, or an array that begins with a text.
 fn begins_bare(rest: &[u8]) -> bool
     ensures { OnTrue result (BeginsBare rest.now) }
 {

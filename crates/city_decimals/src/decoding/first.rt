@@ -10,8 +10,8 @@ use crate::fault::DecimalsFault;
 use json::{Reader, Value, Writer};
 use std::alloc::Global;
 
-/// Writes the first member, decoded, behind the brace of its object; where it is alone, what the object is decoded
-/// as. A tree is made of its value. Gives the name of the next member.
+/// Writes the first member, decoded, behind the brace of its object; if it is alone, the decoding
+/// of the whole object. Makes a tree of its value. Returns the name of the next member.
 #[inline(never)]
 pub(crate) fn decode_first_member<'a>(
     alloc: Global,

@@ -1,4 +1,4 @@
-//! What stands in the form of a member.
+//! The value of a member, out of its form.
 ghost use Rattle.std.specs.Prelude.{◌≡◌};
 ghost use Rattle.json.specs.Value.{value_view};
 ghost use Rattle.city_decimals.specs.Shapes.{only};
@@ -7,7 +7,7 @@ ghost use Rattle.city_decimals.specs.internal.Inner.{front, inner};
 use crate::shapes::{has_shield, is_tag, is_transform};
 use json::Value;
 
-/// What is decoded for a member: what stands in its form.
+/// The value to decode for a member: the one in its form.
 pub(super) fn inner<'v, 'a>(top: bool, key: &str, value: &'v Value<'a>) -> &'v Value<'a>
     ensures { value_view result.now ≡ inner top key.now (value_view value.now) }
 {
@@ -20,8 +20,8 @@ pub(super) fn inner<'v, 'a>(top: bool, key: &str, value: &'v Value<'a>) -> &'v V
     }
 }
 
-/// The value of the first member, out of its array, if its name is the tag; any other
-/// value as it is.
+/// The value of the first member, out of its array, if its name is the tag; any other value
+/// unchanged.
 fn front<'v, 'a>(value: &'v Value<'a>) -> &'v Value<'a>
     ensures { value_view result.now ≡ front (value_view value.now) }
 {
@@ -41,7 +41,7 @@ fn front<'v, 'a>(value: &'v Value<'a>) -> &'v Value<'a>
     }
 }
 
-/// The item of an array of one; any other value as it is.
+/// The item of an array of one; any other value unchanged.
 fn only<'v, 'a>(value: &'v Value<'a>) -> &'v Value<'a>
     ensures { value_view result.now ≡ only (value_view value.now) }
 {

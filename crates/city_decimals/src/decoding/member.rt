@@ -12,7 +12,7 @@ use crate::fault::DecimalsFault;
 use json::{Reader, Value, Writer};
 use std::alloc::Global;
 
-/// Writes the next value, that of a member of this name, decoded and out of its form; a tree is made of it.
+/// Reads the value of a member of this name as a tree, and writes it decoded and out of its form.
 #[inline(never)]
 pub(crate) fn decode_member_tree(
     alloc: Global,

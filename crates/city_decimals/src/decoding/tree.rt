@@ -36,7 +36,7 @@ pub(crate) fn decode_tree(value: &Value<'_>, out: &mut Writer) -> Result<(), Out
     }
 }
 
-/// Writes decoded items, and the bracket that closes them.
+/// Writes decoded items, and the closing bracket.
 #[cycle(decode)]
 fn decode_tree_items(items: &Vec<Value<'_>>, out: &mut Writer) -> Result<(), OutOfMemory>
     requires numbers { ItemsHaveNumbers (items_view items.now.items) }
@@ -50,7 +50,7 @@ fn decode_tree_items(items: &Vec<Value<'_>>, out: &mut Writer) -> Result<(), Out
     out.end_array()
 }
 
-/// Writes what the members of an object are decoded as: an object, or the number that they encode.
+/// Writes the decoding of an object's members: an object, or the number they encode.
 #[cycle(decode)]
 fn decode_tree_object<'a>(
     members: &Vec<(&'a str, Value<'a>)>,
@@ -89,7 +89,7 @@ pub(super) fn decode_first(
     decode_tree(inner(top, name, value), out)
 }
 
-/// Writes what a member alone is decoded as: an object, or the number that it encodes.
+/// Writes the decoding of a member alone: an object, or the number it encodes.
 pub(super) fn decode_alone(
     top: bool,
     name: &str,
@@ -108,7 +108,7 @@ pub(super) fn decode_alone(
     out.end_object()
 }
 
-/// The number that the members encode.
+/// The number encoded by the members.
 fn number_in<'a>(members: &Vec<(&'a str, Value<'a>)>) -> Option<&'a str>
     ensures value { option_map (λ s. s.now) result ≡ number_in (members_view members.now.items) }
     ensures number { IfSome result (λ s. IsNumber s.now) }
@@ -120,7 +120,7 @@ fn number_in<'a>(members: &Vec<(&'a str, Value<'a>)>) -> Option<&'a str>
     number_under(member.0, &member.1)
 }
 
-/// The number that a member encodes.
+/// The number encoded by a member.
 fn number_under<'a>(key: &str, value: &Value<'a>) -> Option<&'a str>
     ensures value { option_map (λ s. s.now) result ≡ number_under key.now (value_view value.now) }
     ensures number { IfSome result (λ s. IsNumber s.now) }

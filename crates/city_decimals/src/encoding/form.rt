@@ -1,4 +1,4 @@
-//! What stands around a value.
+//! The form around a value.
 ghost use Rattle.std.specs.Prelude.{◌≡◌, ◌++◌, OnOk, decimal};
 ghost use Rattle.json.specs.Tree.{json_tokens};
 ghost use Rattle.city_decimals.specs.Shapes.{three};
@@ -8,7 +8,7 @@ use crate::OutOfMemory;
 use crate::shapes::{Form, TAG};
 use json::Writer;
 
-/// Writes what a form has before its value.
+/// Writes the part of a form before its value.
 pub(super) fn begin_form(form: Form, out: &mut Writer) -> Result<(), OutOfMemory>
     ensures before { OnOk result (out.new.before ≡ out.old.before) }
     ensures tokens { OnOk result (out.new.tokens ≡ out.old.tokens ++ tokens_before form) }
@@ -23,7 +23,7 @@ pub(super) fn begin_form(form: Form, out: &mut Writer) -> Result<(), OutOfMemory
     }
 }
 
-/// Writes what a form has after its value.
+/// Writes the part of a form after its value.
 pub(super) fn end_form(form: Form, out: &mut Writer) -> Result<(), OutOfMemory>
     ensures before { OnOk result (out.new.before ≡ out.old.before) }
     ensures tokens { OnOk result (out.new.tokens ≡ out.old.tokens ++ tokens_after form) }

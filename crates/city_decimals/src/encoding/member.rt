@@ -14,7 +14,7 @@ use crate::shapes::form_of;
 use json::{Reader, Value, Writer};
 use std::alloc::Global;
 
-/// Writes the next value, that of a member of this name, encoded and in its form; a tree is made of it.
+/// Reads the value of a member of this name as a tree, and writes it encoded and in its form.
 #[inline(never)]
 pub(crate) fn encode_member_tree(
     alloc: Global,

@@ -35,7 +35,7 @@ pub(crate) fn encode_tree(value: &Value<'_>, out: &mut Writer) -> Result<(), Out
     }
 }
 
-/// Writes encoded items, and the bracket that closes them.
+/// Writes encoded items, and the closing bracket.
 #[cycle(encode)]
 fn encode_tree_items(items: &Vec<Value<'_>>, out: &mut Writer) -> Result<(), OutOfMemory>
     requires numbers { ItemsHaveNumbers (items_view items.now.items) }
@@ -49,7 +49,7 @@ fn encode_tree_items(items: &Vec<Value<'_>>, out: &mut Writer) -> Result<(), Out
     out.end_array()
 }
 
-/// Writes encoded members, and the brace that closes them.
+/// Writes encoded members, and the closing brace.
 #[cycle(encode)]
 fn encode_tree_members(
     members: &Vec<(&str, Value<'_>)>,

@@ -1,4 +1,4 @@
-//! What stands under `attributes`, where it may be shielded or a shield.
+//! Values under `attributes`: they may be shielded or a shield.
 ghost use Rattle.std.specs.Prelude.{◌≡◌, ◌++◌, OnOk};
 ghost use Rattle.json.specs.Json.{number, array, item, no_items};
 ghost use Rattle.json.specs.Print.{IsNumber};
@@ -15,7 +15,7 @@ use crate::numbers::is_whole;
 use crate::shapes::is_text;
 use json::{Value, Writer};
 
-/// Writes a number, changed; encoded it is in a shield, where it isn't whole.
+/// Writes a number, changed; if it is encoded and isn't whole, in a shield.
 pub(super) fn write_attributes_number(
     way: Direction,
     text: &str,
@@ -32,7 +32,7 @@ pub(super) fn write_attributes_number(
     }
 }
 
-/// Writes a number, encoded, in a shield where it isn't whole.
+/// Writes a number, encoded, in a shield if it isn't whole.
 fn encode_attributes_number(text: &str, out: &mut Writer) -> Result<(), OutOfMemory>
     requires number { IsNumber text.now }
     ensures before { OnOk result (out.new.before ≡ out.old.before) }
@@ -47,7 +47,8 @@ fn encode_attributes_number(text: &str, out: &mut Writer) -> Result<(), OutOfMem
     out.end_array()
 }
 
-/// Writes an array of this item alone, changed; one that is no text gets a shield, encoded, and is in one, decoded.
+/// Writes an array of this item alone, changed. Unless the item is a text, the array gets a shield
+/// when encoded, and is one when decoded.
 pub(super) fn write_single(way: Direction, only: &Value<'_>, out: &mut Writer) -> Result<(), OutOfMemory>
     requires numbers { HasNumbers (value_view only.now) }
     ensures before { OnOk result (out.new.before ≡ out.old.before) }
@@ -67,7 +68,7 @@ pub(super) fn write_single(way: Direction, only: &Value<'_>, out: &mut Writer) -
     }
 }
 
-/// Writes an array of this item alone, changed as a value of no member.
+/// Writes an array of this item alone, changed, but without a form.
 fn write_array(way: Direction, only: &Value<'_>, out: &mut Writer) -> Result<(), OutOfMemory>
     requires numbers { HasNumbers (value_view only.now) }
     ensures before { OnOk result (out.new.before ≡ out.old.before) }

@@ -1,4 +1,4 @@
-//! Values, token by token.
+//! Changes values, token by token.
 ghost use Rattle.std.specs.Prelude.{◌≡◌, ◌≢◌, ◌∷◌, ◌++◌, ◌<◌, ◌≤◌, ◌&&◌, OnOk, Some, None, Err, ℕ, length};
 ghost use Rattle.json.specs.Token.{key};
 ghost use Rattle.json.specs.Json.{number, array, value, items, members};
@@ -67,7 +67,7 @@ fn transcode_value(
     transcode_from(alloc, way, token, reader, depth, out)
 }
 
-/// Writes the value that begins with the token, changed.
+/// Writes the value beginning with the token, changed.
 #[cycle(change)]
 #[inline(always)]
 fn transcode_from(
@@ -108,7 +108,7 @@ fn transcode_from(
     }
 }
 
-/// Writes the items that are left, changed, and the bracket that closes them.
+/// Writes the remaining items, changed, and the closing bracket.
 #[cycle(change)]
 #[inline(never)]
 fn transcode_items(
@@ -132,7 +132,7 @@ fn transcode_items(
     Ok(())
 }
 
-/// Writes what the members that are left are changed to: an object, or the number that they encode.
+/// Writes the result of changing the remaining members: an object, or the number they encode.
 #[cycle(change)]
 #[inline(never)]
 fn transcode_object(
@@ -165,7 +165,7 @@ fn transcode_object(
     }
 }
 
-/// Writes what the members are decoded as, of which the first has this name: a tree is made of its value.
+/// Writes the decoding of the members; the first has this name. Makes a tree of its value.
 #[cycle(change)]
 #[inline(always)]
 fn decode_tagged(
@@ -190,7 +190,7 @@ fn decode_tagged(
     }
 }
 
-/// Writes the members, changed, of which the first has this name, and the brace that closes them.
+/// Writes the members, changed, and the closing brace; the first has this name.
 #[cycle(change)]
 #[inline(always)]
 fn transcode_members(
@@ -214,7 +214,7 @@ fn transcode_members(
     transcode_more(alloc, way, reader, depth, top, out)
 }
 
-/// Writes the members that are left, changed, and the brace that closes them.
+/// Writes the remaining members, changed, and the closing brace.
 #[cycle(change)]
 #[inline(always)]
 fn transcode_more(
@@ -240,7 +240,7 @@ fn transcode_more(
     Ok(())
 }
 
-/// Writes the next value, that of a member of this name, changed and out of its form.
+/// Writes the value of a member of this name, changed and into or out of its form.
 #[cycle(change)]
 #[inline(always)]
 fn transcode_member(
@@ -266,7 +266,7 @@ fn transcode_member(
     }
 }
 
-/// Writes the next value, that of a member `attributes`, changed and into or out of its shield.
+/// Writes the value of a member `attributes`, changed and into or out of its shield.
 #[cycle(change)]
 #[inline(never)]
 fn transcode_attributes(
@@ -294,8 +294,8 @@ fn transcode_attributes(
     }
 }
 
-/// Writes the array under `attributes` whose items are left, changed and into or out of its shield: a tree is made
-/// of its first item.
+/// Writes the remaining items of the array under `attributes`, changed and into or out of its
+/// shield. Makes a tree of the first item.
 #[cycle(change)]
 #[inline(always)]
 fn transcode_attributes_items(
@@ -326,7 +326,8 @@ fn transcode_attributes_items(
     transcode_items(alloc, way, reader, depth, out)
 }
 
-/// Writes the next value, that of a member of this name, changed and into or out of its form.
+/// Writes the value of a member of this name, changed and into or out of its form. Makes a tree of
+/// it.
 #[inline(always)]
 fn transcode_member_tree(
     alloc: Global,
@@ -362,7 +363,7 @@ fn write_number(way: Direction, text: &str, out: &mut Writer) -> Result<(), OutO
     }
 }
 
-/// Whether this is the tag, where encoded numbers are decoded.
+/// Whether this is the tag in a text to decode.
 #[inline(always)]
 fn is_decoded_tag(way: Direction, name: &str) -> bool
     ensures { result ≡ (is_decode way && is_tag name.now) }

@@ -1,4 +1,4 @@
--- The members that each fault's line has, put over its details.
+-- The members common to each fault's line, put over its details.
 use Rattle.std.specs.Prelude.{ℕ, List, codes}
 use Rattle.serde_json.specs.Data.{Members, put, string, number, unsigned}
 use Rattle.city_doc.specs.declared.fault.ReadFault.{ReadFault}
@@ -8,11 +8,11 @@ use Rattle.city_doc.specs.declared.fault.ReadFault.TheVariants.{BadGeometry, Bad
 use Rattle.city_doc.specs.declared.fault.ReadFault.TheVariants.{OpenShell}
 use Rattle.city_doc.specs.declared.fault.ScriptFault.{ScriptFault}
 
--- with what is wrong and what to do
+-- with the message and the cure
 abbrev pub with_words : List ℕ → List ℕ → Members → Members
 with_words message cure ms = put (codes "cure") (string cure) (put (codes "message") (string message) ms)
 
--- with the text that the fault stands in, its number and its name
+-- with the kind of the faulty text, the fault's number and its name
 abbrev pub with_head : List ℕ → ℕ → List ℕ → Members → Members
 with_head kind n name ms =
     put (codes "fault") (string name)
@@ -21,7 +21,7 @@ with_head kind n name ms =
 abbrev pub with_id : List ℕ → Members → Members
 with_id id ms = put (codes "id") (string id) ms
 
--- with what the fault names
+-- with the details of the fault
 abbrev pub with_named : ReadFault → Members → Members
 with_named OutOfMemory ms = ms
 with_named TooLong ms = ms
@@ -41,7 +41,7 @@ abbrev pub with_place : ℕ → ℕ → Members → Members
 with_place n i ms =
     put (codes "command") (number (unsigned i)) (put (codes "script") (number (unsigned n)) ms)
 
--- with what the fault of scripts names
+-- with the details of the fault of scripts
 abbrev pub with_script_named : ScriptFault → Members → Members
 with_script_named ScriptFault.OutOfMemory ms = ms
 with_script_named ScriptFault.TooLong ms = ms

@@ -14,15 +14,17 @@ use city_model::OutOfMemory;
 use serde_json::Value;
 use std::alloc::Global;
 
-/// A line of JSON for each fault of a text of scripts, in the order of the faults' numbers, and then of the script and
-/// the command. `is_given` says that the text is the one that was given, and not an encoded one.
+/// Writes a line of JSON for each fault of a text of scripts, in the order of the faults' numbers,
+/// and then of the script and the command. `is_given` says whether the text is as given, not
+/// encoded.
 pub fn check_scripts(alloc: Global, text: &[u8], is_given: bool) -> Result<Vec<u8>, OutOfMemory>
     ensures lines { IfOk result (λ lines. (faults : List fault.ScriptFault)
         × AreFaultsOf text.now faults × AreLinesOf TellsScript faults lines.items) }
     ensures accepted { IfOk result (λ lines. lines.items ≡ [] → IsAccepted text.now) }
     ensures none { IsAccepted text.now → IfOk result (λ lines. lines.items ≡ []) }
 
-    // The first line tells a fault that `read_scripts` answers, and any that it answers but out of memory.
+    // The first line tells a fault that `read_scripts` answers, and any one it answers but out of
+    // memory.
     ensures first { IfOk result (λ lines. (lines.items ≡ [])
         ⊎ ((f : fault.ScriptFault) × ScriptTextFault text.now f × FirstLineIs (TellsScript f) lines.items)) }
     ensures answered { IfOk result (λ lines. (f : fault.ScriptFault) → ScriptTextFault text.now f
@@ -54,7 +56,7 @@ fn script_lines(
     Ok(lines)
 }
 
-/// The line of a fault of a text, or of the scripts of its tree.
+/// The line of a fault of the scripts, or of their text.
 fn line_of(
     alloc: Global,
     text: &[u8],

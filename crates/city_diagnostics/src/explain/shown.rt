@@ -1,8 +1,8 @@
-//! Words as they are shown on a terminal.
+//! Words shown on a terminal.
 use city_model::OutOfMemory;
 use std::fmt::Write;
 
-/// Adds words, each character that could steer a terminal by its number, as in a JSON text.
+/// Adds words. A character that could steer a terminal is added by its number, as in a JSON text.
 pub fn add_shown(lines: &mut String, words: &str) -> Result<(), OutOfMemory> {
     for c in words.chars() {
         if steers(c) {

@@ -34,7 +34,7 @@ pub record IsReplied (stamp : ℕ) (command : Command) (p q : Progress) (old new
   pub stands : (done : List Answered) → StandsUnderLocks old stamp done
       → StandsUnderLocks new stamp (done ++ (command, reply) ∷ [])
 
--- the command has to wait for a younger transaction; what was done stands
+-- the command has to wait for a younger transaction; the commands before it stand
 pub record IsToWait (stamp : ℕ) (command : Command) (p q : Progress) (old new : CoreState) : Type 0 where
   pub goes_on : is_end command ≡ false
   pub waits : answer_in old stamp command ≡ Wait
@@ -51,8 +51,7 @@ pub record IsToDie (stamp : ℕ) (command : Command) (p q : Progress) (old new :
   pub idle : q ≡ progress_to (Idle stamp) [] p.replies.room
   pub closed : is_open new stamp ≡ false
 
--- what becomes of the committed city and of the shelf's changes: by a commit the city is the transaction's
--- view, and one change more makes it; else both stay
+-- a commit makes the transaction's view the committed city and adds its change to the shelf's; without one, both stay
 abbrev pub Publishes : Bool → ℕ → CoreState → CoreState → List Change → List Change → Type 0
 Publishes true stamp old new before after =
     (committed new ≡ view old stamp)
@@ -60,7 +59,7 @@ Publishes true stamp old new before after =
     × (after ≡ before ++ change ∷ []) × (after_change (committed old) change ≡ view old stamp))
 Publishes false stamp old new before after = (committed new ≡ committed old) × (after ≡ before)
 
--- the transaction ended with this outcome at the command, which is number `number` of its script
+-- the transaction ended with this outcome at the command, number `number` of its script
 pub record AttemptEnded (stamp : ℕ) (command : Command) (number : ℕ) (outcome : Outcome) (old new : CoreState)
     (before after : List Change) : Type 0 where
   pub ends : EndsIn old stamp command number outcome

@@ -1,4 +1,4 @@
--- A city of which nothing is said.
+-- A placeholder city.
 use Rattle.std.specs.Prelude.{[]}
 use Rattle.std.specs.FinMap.{empty}
 use Rattle.serde_json.specs.Data.{no_members}

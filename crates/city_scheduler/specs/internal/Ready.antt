@@ -1,4 +1,4 @@
--- Which script of a list is ready, by how far each of them is.
+-- The ready script of a list, by the progress of each.
 use Rattle.std.specs.Prelude.{◌≡◌, ◌≤◌, ◌<◌, ℕ, Bool, true, false, List}
 use Rattle.city_scheduler.specs.declared.progress.Progress.{Progress}
 use Rattle.city_scheduler.specs.declared.progress.Phase.{Phase}
@@ -12,7 +12,7 @@ is_unopened (Idle stamp) = true
 is_unopened (Open stamp since) = false
 is_unopened Ended = false
 
--- its transaction is open, with this stamp, and none of those before the place is younger
+-- its transaction is open, with this stamp, and none before the place is younger
 pub record IsYoungestBelow (progress : List Progress) (place n stamp : ℕ) : Type 0 where
   pub since : ℕ
   pub is : phase_in progress n ≡ Open stamp since

@@ -1,4 +1,4 @@
--- The room that a desk made at its opening for what is still to come.
+-- The room made at a desk's opening for everything still to come.
 use Rattle.std.specs.Prelude.{◌≡◌, ◌≤◌, ◌<◌, ◌+◌, ℕ, Bool, true, false, List, [], length}
 use Rattle.std.specs.Prelude.{count_by, map, slice_index_or}
 use Rattle.city_model.specs.Runs.{Scripted}
@@ -23,8 +23,8 @@ ended_in progress = count_by (λ p. is_ended p.phase) progress
 abbrev pub not_begun_in : List Progress → ℕ
 not_begun_in progress = count_by (λ p. is_not_begun p.phase) progress
 
--- of each script that hasn't ended a copy of its name and room for its replies; places for all ends, and
--- stamps for all scripts
+-- for each unended script, a copy of its name and room for its replies; places for all ends, and stamps for all
+-- scripts
 pub record HasRoom (d : DeskState) (names : List (List ℕ)) (capacity : ℕ) : Type 0 where
   pub named : (n : ℕ) → n < length d.scripts → is_ended (phase_in d.progress n) ≡ false
       → slice_index_or names n [] ≡ name_at d.scripts n

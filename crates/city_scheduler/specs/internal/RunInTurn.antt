@@ -1,4 +1,4 @@
--- A desk whose scripts are run one after the other in their order.
+-- A desk with its scripts run one after the other in their order.
 use Rattle.std.specs.Prelude.{◌≡◌, ◌≢◌, ◌≤◌, ◌<◌, ℕ, true, false, [], ◌∷◌, ◌++◌, length}
 use Rattle.city_model.specs.declared.end.End.{End}
 use Rattle.city_model.specs.Runs.{has_end}
@@ -7,7 +7,7 @@ use Rattle.city_scheduler.specs.DeskState.{DeskState, phase_of, is_open_phase}
 use Rattle.city_scheduler.specs.InTurn.{AreInTurn}
 use Rattle.city_scheduler.specs.Turning.{Keeps}
 
--- script n was run to its end, which stands last among the ends; it began when those before it had ended
+-- script n was run to its end, now the last; it began when the ends before it were there
 pub record HasRun (n : ℕ) (d e : DeskState) : Type 0 where
   pub keeps : Keeps d e
   pub last : End
@@ -17,7 +17,7 @@ pub record HasRun (n : ℕ) (d e : DeskState) : Type 0 where
   pub over : phase_of e n ≡ Ended
   pub beside : (k : ℕ) → k ≢ n → phase_of e k ≡ phase_of d k
 
--- the first scripts, so many, were run in turn, and the others haven't begun
+-- the first n scripts were run in turn, and the others haven't begun
 pub record HaveRun (start : DeskState) (n : ℕ) (d : DeskState) : Type 0 where
   pub keeps : Keeps start d
   pub in_turn : AreInTurn 0 d.ends

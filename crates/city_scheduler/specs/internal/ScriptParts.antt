@@ -1,4 +1,4 @@
--- The commands and the name of a script, and none where it isn't there.
+-- The commands and the name of a script; empty if there is no such script.
 use Rattle.std.specs.Prelude.{ℕ, List, [], Option, None, Some, slice_get}
 use Rattle.city_model.specs.declared.command.Command.{Command}
 use Rattle.city_model.specs.Runs.{Scripted}

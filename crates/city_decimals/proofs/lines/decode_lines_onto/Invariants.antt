@@ -2,7 +2,7 @@ use Rattle.city_decimals.proofs.Prelude.{ℕ, ◌≤◌, List, ◌++◌, length,
 use Rattle.city_decimals.specs.Lines.{AreDecodedBehind}
 use Rattle.city_decimals.proofs.lines.decode_lines_onto.Given as goal
 
--- what is decoded of the rest goes after what is there, and a fault of the rest is one of the text
+-- the decoding of the rest goes after the earlier output, and a fault of the rest is one of the text
 abbrev pub invariant-loop-at : goal.invariant-loop-at
 invariant-loop-at l =
     record {

@@ -11,7 +11,7 @@ use Rattle.city_doc.proofs.OneValue.{one_city, one_list}
 use Rattle.city_desk.specs.SerialRuns.{IsSerialRun, had_memory, IsDecided}
 use Rattle.city_desk.proofs.serial_run.run_serial_to_city.Goals as goal
 
--- two runs of the same texts, in which each script had its memory, are the same
+-- two runs of the same texts, each with memory for every script, are the same
 serial : (k : ℕ) (ends : List End) → AreInTurn k ends → had_memory ends ≡ true → IsSerialFrom k ends
 serial k [] turns had = tt
 serial k (e ∷ es) turns had =

@@ -3,7 +3,7 @@ use Rattle.city_scheduler.proofs.Prelude.{KeepsCity}
 use Rattle.std.specs.Prelude.{OnOk, OnErr}
 use Rattle.city_scheduler.proofs.closing.roll_back_if_open.Goals as goal
 
--- a core whose transaction is rolled back keeps its city
+-- a roll-back keeps the core's city
 city_kept : (stamp : ℕ) (v w : CoreState) (result : Result (Unit {0}) TxnFault)
     → OnOk result (IsRolledBack stamp v w) → OnErr result (w ≡ v) → KeepsCity v w
 city_kept stamp v w (Ok x) undone same = record { frame = undone.over.keeps.frame; city = undone.city }

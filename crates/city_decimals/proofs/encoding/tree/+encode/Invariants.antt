@@ -2,7 +2,7 @@ use Rattle.city_decimals.proofs.Prelude.{false, ◌≡◌, ◌++◌, drop, items
 use Rattle.city_decimals.proofs.Prelude.{MembersHaveNumbers, items_view, members_view, encoded_items, encoded_members}
 use Rattle.city_decimals.proofs.encoding.tree.+encode.Given as goal
 
--- what is left ends the array
+-- the output, with the tokens of the remaining items, is the whole array's
 abbrev pub invariant-encode_tree_items-loop-item : goal.invariant-encode_tree_items-loop-item
 invariant-encode_tree_items-loop-item l =
     let all = items_view l.item-items in
