@@ -15,8 +15,8 @@ crates/cityed/out/cityed. It says which command
 A link to a file or a heading that isn't there is told too. Commands that prove, or that take long, are skipped (SKIPPED
 has the reasons); --slow runs those that take a few minutes.
 
-It counts the words of README.md, CONTRIBUTING.md and docs/ (at most 20,000 in all), README.md's lines (at most 120), and
-by crate the relative words (that, which, where, those, whose, what) for each sentence of comments (at most 0.45). It
+It counts the words of README.md, CONTRIBUTING.md and docs/ (at most 20,000 in all), the lines of README.md (at most 120),
+and by crate the relative words (that, which, where, those, whose, what) for each sentence of comments (at most 0.45). It
 lists figures that stand on two pages, a number of two digits or more with the word behind it: facts that may be told
 twice, which is no fault. The status is 1 if anything was wrong.
 """
