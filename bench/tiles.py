@@ -1,5 +1,5 @@
 #!/usr/bin/env python3
-"""Measures a run over a city in tiles (docs/CITY.md) beside bare runs of the program on the same tiles.
+"""Measures a run over a city in tiles (docs/COOKBOOK.md) beside bare runs of the program on the same tiles.
 
 usage: tiles.py PROGRAM [--tiles N] [--scripts N] [--big N]
 

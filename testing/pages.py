@@ -1,19 +1,24 @@
 #!/usr/bin/env python3
-"""Runs the commands of the pages as they stand, and compares what they print with what the pages show.
+"""Runs the commands of the pages as they stand, compares what they print with what the pages show, and counts words.
 
-usage: pages.py PROGRAM [--slow] [PAGE ..]
+usage: pages.py [PROGRAM] [--slow] [PAGE.md ..]
 
-PROGRAM is a built cityed. Without pages it goes through all pages of the repository. The commands of a page are
-the blocks that begin with ```sh, and what stands as `python3 ..` in its sentences. One bash runs them for each page,
-each block from the top of a copy of the repository, in which PROGRAM stands as crates/cityed/out/cityed. It says which
-command
+PROGRAM is a built cityed; without it no command is run. Without pages it goes through all pages of the repository, and
+counts. The commands of a page are the blocks that begin with ```sh, and what stands as `python3 ..` in its sentences.
+One bash runs them for each page, each block from the top of a copy of the repository, in which PROGRAM stands as
+crates/cityed/out/cityed. It says which command
 
 - doesn't end with status 0;
 - prints anything else than the block that follows the commands' block at once (`..` stands for anything);
 - writes a file of the repository, a picture for example, otherwise than it stands there.
 
-A link that leads to no file, or to no heading of a page, is told too. Commands that prove, or that take long, are
-skipped (SKIPPED has the reasons); --slow runs those that take a few minutes. The status is 1 if anything was wrong.
+A link to a file or a heading that isn't there is told too. Commands that prove, or that take long, are skipped (SKIPPED
+has the reasons); --slow runs those that take a few minutes.
+
+It counts the words of README.md, CONTRIBUTING.md and docs/ (at most 20,000 in all), the lines of README.md (at most 120),
+and by crate the relative words (that, which, where, those, whose, what) for each sentence of comments (at most 0.45). It
+lists figures that stand on two pages, a number of two digits or more with the word behind it: facts that may be told
+twice, which is no fault. The status is 1 if anything was wrong.
 """
 import argparse
 import filecmp
@@ -23,16 +28,21 @@ import shutil
 import subprocess
 import sys
 import tempfile
+from collections import defaultdict
 from pathlib import Path
 
 ROOT = Path(__file__).resolve().parent.parent
 SECONDS = 300  # for each page, with --slow 3,600
+MOST_WORDS, MOST_LINES, MOST_RELATIVE = 20_000, 120, 0.45
+OLD = ("CHANGELOG.md", "bench/HISTORY.md")  # what tells of earlier days, and may repeat its figures
+SNAKEMAKE = shutil.which("snakemake")
+COMMON = "and|of|to|or|in|at|by|for|with|on|is|are|the|alone|more|less|each|times"  # words that name no figure's unit
 
 # What a command has in it, why it is skipped, and whether --slow runs it.
 SKIPPED = [
     (r"\brt (ci|check|verdict|lib|run|test|all|tidy|plant|must-fail)\b", "it proves", False),
     (r"\b(NAME|NAMES|MODEL|SCRIPTS|OLD|NEW|EDIT|FILE|FUNCTION|RUN|CITY)\b", "the reader fills in a name", False),
-    *([] if shutil.which("snakemake") else [(r"\b(snakemake|tiles\.py)\b|/tmp/town", "Snakemake isn't installed", False)]),
+    *([] if SNAKEMAKE else [(r"\b(snakemake|tiles\.py)\b|/tmp/town", "Snakemake isn't installed", False)]),
     (r"\bout/city_(tests_tests|scenarios)\b", "it wants another program", False),
     (r"\brt (try|fmt|seed|expand)\b", "minutes", True),
     (r"\btesting/pages\.py", "it is this script", False),
@@ -124,11 +134,16 @@ class Trial:
         self.wrong += 1
         print(f"{place}: {what[:3000]}")
 
+    def limit(self, place, count, most, of):
+        """Tells a count, and whether it is more than may be."""
+        self.wrong += count > most
+        print(f"{place}: {count:,} {of}{f', at most {most:,}' if count > most else ''}")
+
     def page(self, page):
         """Runs a page's blocks of commands in a copy of the repository, and compares what they print and write."""
         text = (ROOT / page).read_text(encoding="utf-8")
         self.links(page, text)
-        found = blocks(text)
+        found = blocks(text) if self.program else []
         script, kept, compared = [], [], []
         for i, (language, first, lines, _) in enumerate(found):
             if language != "sh":
@@ -204,15 +219,70 @@ def headings(text):
     return {re.sub(r"[^\w\- ]", "", line.lower()).strip().replace(" ", "-") for line in lines}
 
 
+def comments(path):
+    """The comments of a file of a crate, neighbouring lines as one, without what stands between backquotes."""
+    mark = r"^\s*//[/!]? ?" if path.endswith(".rt") else r"^\s*-- ?"
+    block = []
+    for line in [*(ROOT / path).read_text(encoding="utf-8").split("\n"), ""]:
+        found = re.match(mark, line)
+        if found:
+            block.append(line[found.end() :])
+        elif block:
+            yield re.sub(r"`[^`]*`", "x", " ".join(block))
+            block = []
+
+
+def relative_words():
+    """How many sentences the comments of each crate have, and how many relative words."""
+    counts = defaultdict(lambda: [0, 0])
+    for path in files():
+        if path.startswith("crates/") and path.endswith((".rt", ".antt")):
+            for text in comments(path):
+                sentences = [it for it in re.split(r"(?<=[.!?:])\s+|\s+- ", text) if len(it.split()) > 2]
+                counts[path.split("/")[1]][0] += len(sentences)
+                counts[path.split("/")[1]][1] += len(re.findall(r"\b(that|which|where|those|whose|what)\b", text, re.I))
+    return counts
+
+
+def told_twice(texts):
+    """The figures that stand on two pages, each with these pages."""
+    found = defaultdict(set)
+    for page, text in texts.items():
+        prose = re.sub(r"```.*?```|`[^`\n]*`|\]\([^)]*\)", " ", text, flags=re.DOTALL)
+        for number, word in re.findall(rf"(?<![\w.,#-])(\d[\d,.]*\d)\s+(?!(?:{COMMON})\b)(%|[A-Za-z]+)", prose):
+            found[f"{number} {word}"].add(page)
+    return {figure: sorted(on) for figure, on in sorted(found.items()) if len(on) > 1}
+
+
+def count(trial):
+    """Counts the words of pages and of comments, and lists figures that stand on two pages."""
+    texts = {page: (ROOT / page).read_text(encoding="utf-8") for page in pages()}
+    told = [it for it in texts if it in ("README.md", "CONTRIBUTING.md") or it.startswith("docs/")]
+    for page, text in texts.items():
+        print(f"{page}: {len(text.split()):,} words")
+    words, lines = sum(len(texts[page].split()) for page in told), texts["README.md"].count("\n")
+    trial.limit("README.md, CONTRIBUTING.md and docs/", words, MOST_WORDS, "words")
+    trial.limit("README.md", lines, MOST_LINES, "lines")
+    for crate, (sentences, relative) in sorted(relative_words().items()):
+        trial.limit(f"crates/{crate}", round(relative / max(sentences, 1), 2), MOST_RELATIVE, "relative words each")
+    for figure, on in told_twice({page: text for page, text in texts.items() if page not in OLD}).items():
+        print(f"on {len(on)} pages: {figure} ({', '.join(on)})")
+
+
 def main():
-    words = argparse.ArgumentParser(usage=__doc__.split("usage: ")[1].split("\n")[0])
-    words.add_argument("program")
-    words.add_argument("--slow", action="store_true")
-    words.add_argument("pages", nargs="*")
+    title, usage, about = re.split(r"\n\nusage: (.*)\n\n", __doc__)
+    form = argparse.RawTextHelpFormatter
+    words = argparse.ArgumentParser(usage=usage, description=f"{title}\n\n{about}", formatter_class=form)
+    words.add_argument("--slow", action="store_true", help="also run commands that take a few minutes")
+    words.add_argument("names", nargs="*", metavar="NAME", help="PROGRAM, and pages")
     asked = words.parse_intermixed_args()
-    trial = Trial(Path(asked.program).resolve(), asked.slow)
-    for page in asked.pages or pages():
+    named = [it for it in asked.names if it.endswith(".md")]
+    program = next((Path(it).resolve() for it in asked.names if it not in named), None)
+    trial = Trial(program, asked.slow)
+    for page in named or pages():
         trial.page(page)
+    if not named:
+        count(trial)
     print(f"{trial.ran} commands run, {trial.shown} outputs compared, {trial.skipped} skipped, {trial.wrong} wrong")
     sys.exit(1 if trial.wrong else 0)
 

@@ -1,7 +1,7 @@
 //! Plays scenarios: data files that say what the libraries' public calls answer.
 //!
 //! Each argument names a file; a line is printed for each, with how many scenarios of it were played, or the first that
-//! failed, with the line that was wanted and the one that came. docs/TESTING.md has the format.
+//! failed, with the line that was wanted and the one that came. CONTRIBUTING.md has the format.
 //!
 //! - `file`, `scenario`, `named`: a file of scenarios, one of them, and texts that they name
 //! - `play`: which verb plays what; `written`, `fault_lines`, `wanted`: what verbs write, and how it is compared
