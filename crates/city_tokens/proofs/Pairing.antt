@@ -1,10 +1,8 @@
 -- Lists related item by item, and lists written one item after another.
 use Rattle.city_tokens.proofs.Prelude.{List, [], ◌∷◌, ◌++◌, ◌≡◌, ℕ, zero, suc, ◌<◌, drop, take, length, get_or, refl}
-use Rattle.city_tokens.proofs.Prelude.{◌∙◌, append_assoc}
 use Rattle.city_tokens.proofs.Prelude.{ap, arith, AllByRecursion, Pairs, slice_set, Option, Some, None, IfSome}
 use Rattle.std.specs.Prelude.{Vec, flat_map}
 use Rattle.std.specs.Vec.{vec_items}
-use Rattle.std.proofs.lemmas.List.{flat_map_more, take-append-drop}
 use Rattle.city_tokens.specs.internal.Stretches.{AreJoined}
 
 -- both grow by one at their ends
@@ -68,14 +66,3 @@ pairs_joined R (x ∷ xs) (Some y ∷ ys) all h is =
 pairs_joined R (x ∷ xs) (None ∷ ys) all h is = absurd is
 pairs_joined R [] (y ∷ ys) all h is = absurd h
 pairs_joined R (x ∷ xs) [] all h is = absurd h
-
--- the items of so many stretches, and of one more
-pub stretch_last : {A Z : Type 0} (xs : List (Vec A Z)) (x : Vec A Z) (all : List A)
-    → all ≡ flat_map vec_items xs ++ x.items → all ≡ flat_map vec_items (xs ++ x ∷ [])
-stretch_last xs x all h = h ∙ flat_map_more vec_items [] xs x
-
-pub stretch_cut : {A Z : Type 0} (xs : List (Vec A Z)) (old x y : Vec A Z) (n : ℕ) (all : List A)
-    → all ≡ flat_map vec_items xs ++ old.items → x.items ≡ take n old.items → y.items ≡ drop n old.items
-    → all ≡ flat_map vec_items (xs ++ x ∷ []) ++ y.items
-stretch_cut xs old x y n all h first later =
-    rw (← flat_map_more vec_items [] xs x, first, later, append_assoc, take-append-drop n old.items) h

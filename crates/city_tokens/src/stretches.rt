@@ -15,7 +15,7 @@ use std::alloc::Global;
 use std::mem::replace;
 use std::thread::{Threads, map_vec};
 
-/// The objects in so many stretches, one after another, about as many in each; the last ones may be empty.
+/// The objects in at most so many stretches, one after another. All but the last are of one length.
 fn stretches_of(
     alloc: Global,
     objects: Vec<(Id, UnplacedObject)>,
@@ -25,13 +25,15 @@ fn stretches_of(
 {
     let size = objects.len().checked_div(count)?.saturating_add(1);
     let mut stretches = Vec::new(alloc);
-    let mut rest = objects;
-    'stretches: for _ in 1..count {
-        let later = rest.split_off(size.min(rest.len())).ok()?;
-        let stretch = replace(&mut rest, later);
-        stretches.push(stretch).ok()?;
+    let mut stretch = Vec::with_capacity(alloc, size).ok()?;
+    'objects: for object in objects {
+        stretch.push(object).ok()?;
+        if stretch.len() == size {
+            let next = Vec::with_capacity(alloc, size).ok()?;
+            stretches.push(replace(&mut stretch, next)).ok()?;
+        }
     }
-    stretches.push(rest).ok()?;
+    stretches.push(stretch).ok()?;
     Some(stretches)
 }
 
