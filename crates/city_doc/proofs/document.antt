@@ -2,7 +2,6 @@
 pub mod AllFaults
 mod ArrangedCities
 pub mod CanonicalCities
-pub mod CityInPieces
 mod CityNests
 pub mod EntriesRead
 mod ExampleFaults
@@ -19,9 +18,6 @@ pub mod NoFault
 mod Objects
 mod OneFirst
 mod Order
-pub mod OwnMembers
-pub mod PutMembers
-pub mod PiecesWritten
 mod ReadableObjects
 mod RelatedCities
 pub mod Right

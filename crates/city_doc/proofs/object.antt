@@ -3,4 +3,3 @@ pub mod FaultlessBodies
 pub mod LenientObjects
 pub mod ObjectsRead
 pub mod ReadBodies
-pub mod WrittenObjects

@@ -1,7 +1,2 @@
--- What the proofs of several functions of src/pool.rt use.
-pub mod KeptNumbers
-pub mod NumberedAt
-pub mod NumberedPoints
-pub mod PointsAgain
-pub mod Repeats
-pub mod Walks
+-- Points that are read at their numbers.
+pub mod PointsRead

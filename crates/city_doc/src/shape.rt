@@ -1,7 +1,6 @@
-//! Geometries: what is read of their trees, which trees have their form, and how they are written.
+//! Geometries: what is read of their trees, and which trees have their form.
 
 pub mod form;
 pub mod geometry;
 pub mod nested;
-pub mod text;
 pub mod vertices;

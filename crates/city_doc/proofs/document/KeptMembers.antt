@@ -6,7 +6,8 @@ use Rattle.city_doc.proofs.Prelude.{kept_at_object, has_location, is_empty_objec
 use Rattle.city_doc.proofs.Prelude.{kept_if, without_object_members, without_top_members, get_member-without_each}
 use Rattle.city_doc.proofs.Prelude.{has_id, put_list, same_id_back, same_id_true}
 use Rattle.std.proofs.Common.{codes}
-use Rattle.city_tokens.proofs.Laws.{lacks_each-without_each, members_integral-without_each, without-put_list}
+use Rattle.city_tokens.proofs.Laws.{lacks_each-without_each, members_integral-without_each}
+use Rattle.city_doc.proofs.tree.PutLists.{without-put_list}
 
 pub kept_all : (test : Members → Bool) (ms : Members) → test ms ≡ true → kept_if test ms ≡ Some ms
 kept_all test ms h = rw h refl

@@ -25,7 +25,7 @@ use Rattle.city_doc.proofs.document.LawfulTrees.{StandsFor, stands_for, frame_pa
 use Rattle.city_doc.proofs.document.NoFault.{read_as}
 use Rattle.city_doc.proofs.document.Searches.{here, there}
 use Rattle.city_doc.proofs.object.FaultlessBodies.{body_parts, geometry_parts}
-use Rattle.city_tokens.proofs.Laws.{all_found}
+use Rattle.city_model.proofs.Puts.{all_found}
 use Rattle.json.specs.Json as json
 
 abbrev mutual

@@ -19,7 +19,7 @@ use Rattle.std.specs.Str.{bytes_eq}
 use Rattle.std.proofs.lemmas.Option.{slice_get_within}
 use Rattle.std.proofs.lemmas.Slice.Eq.{bytes_eq-Decides}
 use Rattle.city_doc.specs.shape.Forms.{is_number, is_boundaries}
-use Rattle.city_tokens.specs.shape.Nesting.{geometry_types}
+use Rattle.city_tokens.specs.shape.GeometryTypes.{geometry_types}
 use Rattle.city_doc.proofs.document.Right.{get-object}
 
 pub record HasGeometryParts (points : List Point) (d : Data) (g : Geometry) : Type 0 where

@@ -1,6 +1,7 @@
 -- A text that stands for scripts has no fault.
 use Rattle.city_doc.proofs.Prelude.{◌≡◌, true≢false, ℕ, List, length, Bool, true, false, Option, Some, None, refl, sym}
-use Rattle.city_doc.proofs.Prelude.{ap, ◌∙◌, arith, option_and_then, slice_get, Data, get, codes, Point, Geometry, Command}
+use Rattle.city_doc.proofs.Prelude.{ap, ◌∙◌, arith, option_and_then, slice_get, Data, get, codes, Point, Geometry}
+use Rattle.city_doc.proofs.Prelude.{Command}
 use Rattle.city_doc.proofs.Prelude.{Scripted, Body, body_of, has_bad_vertex, is_bad_geometry, is_position, all_read}
 use Rattle.city_doc.proofs.Prelude.{is_bad_command, names_bad_vertex, not}
 use Rattle.city_doc.proofs.Prelude.{command_of, ScriptParts, parts_of, vertex_count, and_parts, and_then_some, map_some}

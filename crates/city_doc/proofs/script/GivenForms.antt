@@ -1,5 +1,6 @@
 -- What a command is, by its form and by what its tree has.
-use Rattle.city_doc.proofs.Prelude.{◌≡◌, List, Option, Some, refl, ap, ◌∙◌, sym, option_map, option_and_then, codes, Data, get}
+use Rattle.city_doc.proofs.Prelude.{◌≡◌, List, Option, Some, refl, ap, ◌∙◌, sym, option_map, option_and_then, codes}
+use Rattle.city_doc.proofs.Prelude.{Data, get}
 use Rattle.city_doc.proofs.Prelude.{as_object, as_str, Point, Command, command_of, kept_if, list_of}
 use Rattle.city_model.specs.declared.command.Command.TheVariants.{Put, Add, Set, Unset, Reshape, Expect}
 use Rattle.city_model.specs.Kept.{kept_at_attributes}

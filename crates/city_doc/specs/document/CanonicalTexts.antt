@@ -6,12 +6,12 @@ use Rattle.serde_json.specs.Read.{max_depth}
 use Rattle.city_model.specs.CityMap.{object_at, CityValue}
 use Rattle.city_model.specs.Relations.{IsLawful}
 use Rattle.city_doc.specs.document.Accepted.{IsAccepted}
-use Rattle.city_doc.specs.document.Canonical.{tree_of, city_text}
-use Rattle.city_doc.specs.document.Ranges.{IsInRange}
+use Rattle.city_writer.specs.document.Canonical.{tree_of, city_text}
+use Rattle.city_writer.specs.document.Ranges.{IsInRange}
 use Rattle.city_tokens.specs.document.Cities.{IsTextOfCity}
 use Rattle.city_tokens.specs.tree.Texts.{IsReadable}
-use Rattle.city_doc.specs.tree.Tokens.{tokens_of}
-use Rattle.city_doc.specs.Pool.{pool_of}
+use Rattle.city_writer.specs.tree.Tokens.{tokens_of}
+use Rattle.city_writer.specs.Pool.{pool_of}
 
 -- the text stands for the city; any city that it stands for is written as it; if the city is lawful and the
 -- text isn't too long, the text is accepted; where some text stands for the city, this one does; its tokens

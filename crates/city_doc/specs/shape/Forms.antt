@@ -4,7 +4,7 @@ use Rattle.std.specs.Prelude.{option_and_then, codes, is_some}
 use Rattle.serde_json.specs.Data.{Data, Items, no_items, item}
 use Rattle.serde_json.specs.Find.{get, as_array, as_number, as_i64}
 use Rattle.city_tokens.specs.tree.Members.{text_at}
-use Rattle.city_tokens.specs.shape.Nesting.{GeometryType, geometry_type}
+use Rattle.city_tokens.specs.shape.GeometryTypes.{GeometryType, geometry_type}
 
 -- ---- what stands in a ring
 

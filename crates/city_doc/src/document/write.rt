@@ -6,23 +6,20 @@ ghost use Rattle.serde_json.specs.Read.{max_depth};
 ghost use Rattle.city_model.specs.CityMap.{object_at, CityValue};
 ghost use Rattle.city_model.specs.Relations.{IsLawful};
 ghost use Rattle.city_doc.specs.document.Accepted.{IsAccepted};
-ghost use Rattle.city_doc.specs.document.Canonical.{tree_of, city_text};
+ghost use Rattle.city_writer.specs.document.Canonical.{tree_of, city_text};
 ghost use Rattle.city_doc.specs.document.CanonicalTexts.{IsCanonicalText};
 ghost use Rattle.city_tokens.specs.document.Cities.{IsTextOfCity};
-ghost use Rattle.city_doc.specs.document.Ranges.{IsInRange};
-ghost use Rattle.city_doc.specs.report.JsonLines.{IsCompactJson};
+ghost use Rattle.city_writer.specs.document.Ranges.{IsInRange};
+ghost use Rattle.city_writer.specs.report.JsonLines.{IsCompactJson};
 ghost use Rattle.city_tokens.specs.tree.Texts.{IsReadable};
-ghost use Rattle.city_doc.specs.tree.Tokens.{tokens_of};
-ghost use Rattle.city_doc.specs.Pool.{pool_of};
+ghost use Rattle.city_writer.specs.tree.Tokens.{tokens_of};
+ghost use Rattle.city_writer.specs.Pool.{pool_of};
 
-use crate::document::in_pieces::append_in_pieces;
-use crate::document::text::write_members;
 use crate::pieces::piece_len;
-use crate::pool::FIXED_SEED;
 use city_model::OutOfMemory;
 use city_model::city::City;
 use city_tokens::Pieces;
-use json::Writer;
+use city_writer::{FIXED_SEED, append_in_pieces, append_text};
 use std::alloc::Global;
 use std::thread::Threads;
 
@@ -66,10 +63,8 @@ pub fn append_city(
     ensures canonical { IfOk result (λ _. IsCanonicalText (city_text city.now) city.now) }
     ensures json { IfOk result (λ _. IsCompactJson (city_text city.now)) }
 {
-    let mut out = Writer::new(bytes);
-    write_members(alloc, seed, city, &mut out)?;
-    let bytes = out.into_inner();
-    Ok(bytes)
+    let text = append_text(alloc, seed, bytes, city)?;
+    Ok(text)
 }
 
 /// The bytes, and after them the canonical text of a city, without a newline.
@@ -92,5 +87,6 @@ pub fn append_city_by<R: Threads + Sync>(
     if city.len() <= len {
         return append_city(alloc, seed, bytes, city);
     }
-    append_in_pieces(rt, alloc, seed, bytes, city, len)
+    let text = append_in_pieces(rt, alloc, seed, bytes, city, len)?;
+    Ok(text)
 }

@@ -1,0 +1,2 @@
+pub mod EachPiece
+pub mod Prelude

@@ -1,0 +1,2 @@
+-- What the proofs of several functions of src/object/ use.
+pub mod WrittenObjects
