@@ -29,7 +29,7 @@ impl MemberVisitor for BodyParts {
     ) -> Option<bool> {
         match name {
             "parents" | "children" => None,
-            _ => self.object.take(alloc, name, reader, depth),
+            _ => self.object.visit_member(alloc, name, reader, depth),
         }
     }
 }
