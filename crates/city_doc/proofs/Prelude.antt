@@ -1,4 +1,4 @@
--- The words that proofs of this crate share, from std, from the libraries and from its own definitions.
+-- Words shared by the proofs of this crate, from std, from the libraries and from its own definitions.
 pub use Rattle.std.proofs.Common.{Bool, Equal, Less, List, None, Option, Ordering, Result, Some, [], add-one, ap}
 pub use Rattle.std.proofs.Common.{append-nil, append_assoc, ap₂, arith, cond, drop, drop-cons, false, get_or, inl, inr}
 pub use Rattle.std.proofs.Common.{is_eq, length, map, max, nat_cmp, not, pos, refl, rules, subst, suc, sym, true}

@@ -1,4 +1,4 @@
--- What the proofs of several functions of src/document/ use.
+-- Lemmas for several functions of src/document/.
 pub mod AllFaults
 mod ArrangedCities
 pub mod CanonicalCities

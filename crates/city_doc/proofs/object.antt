@@ -1,4 +1,4 @@
--- What the proofs of several functions of src/object/ use.
+-- Lemmas for several functions of src/object/.
 pub mod FaultlessBodies
 pub mod LenientObjects
 pub mod ObjectsRead

@@ -1,2 +1,2 @@
--- Points that are read at their numbers.
+-- Points read by their numbers.
 pub mod PointsRead

@@ -1,4 +1,4 @@
-//! Documents: the city that one stands for, which of its faults is the first, and its canonical text.
+//! Documents: their cities, their faults, and the canonical text of a city.
 
 pub mod all_faults;
 pub mod arranged;

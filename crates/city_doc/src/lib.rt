@@ -1,17 +1,15 @@
-//! Reads and writes the texts of city models: documents, scripts and reports.
+//! Reads and judges the texts of city models, documents and scripts, and writes documents and reports through
+//! `city_writer`.
 //!
-//! Each thing has a folder, in which what reads it, what judges it and what writes it stand side by side.
-//! `specs/` and `proofs/` have the same folders.
+//! Each thing has a folder for its reader and its judge. `specs/` and `proofs/` have the same folders.
 //!
-//! - `tree`: JSON trees: a text parsed, members and items taken out, kept members written
+//! - `tree`: JSON trees: a text parsed, members and items taken out
 //! - `shape`: geometries: the form of boundaries, their points, vertices
 //! - `object`: city objects: their bodies, their lists of ids
 //! - `document`: whole documents: their tops, their cities, their faults, the canonical text
 //! - `script`: texts of scripts: the forms of commands, commands, faults
-//! - `report`: the report of a run: ends and replies
-//! - `pool`: points, each with a number
-//! - `point_numbers`: the numbers of points, as they are met or as they were given beforehand
-//! - `pieces`: in how many pieces a text is read, and in how many a city or a report is written
+//! - `report`: the report of a run, in pieces if it is long
+//! - `pieces`: the number of pieces in which a text is read, or a city or a report is written
 //! - `fault`: why a text is refused
 #![tactic(auto)]
 

@@ -1,4 +1,4 @@
-//! City objects: what is read of their trees, and what is wrong with these.
+//! City objects from their trees, and the faults of these.
 
 pub mod body;
 pub mod faults;

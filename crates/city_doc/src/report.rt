@@ -1,4 +1,4 @@
-//! Writes the report of a run, in pieces where it is long.
+//! Writes the report of a run, in pieces if it is long.
 ghost use Rattle.std.specs.Prelude.{◌≡◌, IfOk};
 ghost use Rattle.city_writer.specs.report.JsonLines.{AreJsonLines};
 ghost use Rattle.city_writer.specs.report.Reports.{report_text};
@@ -11,11 +11,11 @@ use city_writer::{report_in_pieces, seeded_report};
 use std::alloc::Global;
 use std::thread::Threads;
 
-/// How many bytes of text an end counts as where a report is written in pieces.
+/// How many bytes of text an end counts as when a report is written in pieces.
 const END_BYTES: usize = 128;
 
-/// The report, as `seeded_report` gives it, of which so many threads write pieces. One that is too short for two pieces
-/// is written at once.
+/// The report of `seeded_report`, written in pieces by so many threads. A report too short for two pieces is written at
+/// once.
 pub fn seeded_report_by<R: Threads + Sync>(
     rt: &R,
     alloc: Global,

@@ -1,4 +1,4 @@
-//! Geometries: what is read of their trees, and which trees have their form.
+//! Geometries from their trees, and the form of these trees.
 
 pub mod form;
 pub mod geometry;

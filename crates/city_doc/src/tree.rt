@@ -1,4 +1,4 @@
-//! JSON trees: how a text becomes one, and what is taken out of one.
+//! JSON trees: parsed from a text, and taken apart.
 
 pub mod parse;
 pub mod texts;

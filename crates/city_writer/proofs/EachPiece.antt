@@ -1,4 +1,4 @@
--- Lists that are taken in pieces.
+-- Lists in pieces.
 use Rattle.city_writer.proofs.Prelude.{◌≡◌, true, Some, None, is_some, list_all, ℕ, suc, ◌+◌, ◌<◌, ◌≤◌, List, [], ◌∷◌}
 use Rattle.city_writer.proofs.Prelude.{Option, length, get_or, drop, refl, sym, ap, ◌∙◌, subst}
 use Rattle.city_writer.proofs.Prelude.{arith}
@@ -9,13 +9,13 @@ use Rattle.std.proofs.lemmas.List.{drop-drop}
 use Rattle.std.specs.Fork.{slice_chunk}
 use Rattle.city_writer.specs.internal.Pieces.{EachPiece}
 
--- something is made of each piece, and the pieces are all that there is
+-- each piece has a result, and the pieces are the whole list
 abbrev pub EachMade : {X A : Type 0} → ℕ → List X → List (Option A) → (List X → A → Type 0) → Type 0
 EachMade len xs [] P = xs ≡ []
 EachMade len xs (None ∷ os) P = ⊥ × EachMade len (drop len xs) os P
 EachMade len xs (Some a ∷ os) P = P (take len xs) a × EachMade len (drop len xs) os P
 
--- where nothing is missing
+-- if nothing is missing
 pub all_made : {X A : Type 0} (P : List X → A → Type 0) (len : ℕ) (xs : List X) (os : List (Option A))
     → list_all is_some os ≡ true → EachPiece len xs os P → EachMade len xs os P
 all_made P len xs [] all h = h
@@ -27,11 +27,11 @@ next_piece i len xs =
     let same : suc i * len ≡ len + i * len = omega arith in
     ap (λ n. drop n xs) same ∙ sym (drop-drop (i * len) len xs)
 
--- pieces of which each has so many reach the end
+-- pieces of so many items each reach the end
 pieces_reach : (n count len : ℕ) → 0 < len → count ≡ n / len + min 1 (n % len) → n ≤ count * len
 pieces_reach n count len some is = rw is (div_ceil_times n len some).0
 
--- what holds of what is made at each place holds of each piece
+-- a property of the result at each place is one of each piece
 each_piece : {X A : Type 0} (P : List X → A → Type 0) (len : ℕ) (xs : List X) (os : List (Option A))
     → length xs ≤ length os * len
     → ((i : ℕ) (d : Option A) → i < length os → IfSome (get_or os i d) (P (slice_chunk xs len i)))

@@ -1,2 +1,2 @@
--- What the proofs of several functions of src/object/ use.
+-- Lemmas for several functions of src/object/.
 pub mod WrittenObjects

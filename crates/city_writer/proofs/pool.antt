@@ -1,4 +1,4 @@
--- What the proofs of several functions of src/pool.rt use.
+-- Lemmas for several functions of src/pool.rt.
 pub mod KeptNumbers
 pub mod NumberedAt
 pub mod NumberedPoints

@@ -1,2 +1,2 @@
--- What the proofs of several functions of src/report/ use.
+-- Lemmas for several functions of src/report/.
 pub mod JoinedReports

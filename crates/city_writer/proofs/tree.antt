@@ -1,4 +1,4 @@
--- What the proofs of several functions of src/tree/ use.
+-- Lemmas for several functions of src/tree/.
 pub mod Among
 pub mod Appended
 pub mod CompactJson

@@ -1,4 +1,4 @@
--- What a run writes: the report of its ends, then the model that they leave.
+-- The output of a run: the report of its ends, then the model after them.
 use Rattle.std.specs.Prelude.{◌≡◌, ◌++◌, ◌∷◌, [], ℕ, List, take, drop}
 use Rattle.city_model.specs.declared.end.End.{End}
 use Rattle.city_model.specs.CityMap.{Objects, CityValue, object_at}
@@ -14,7 +14,7 @@ pub record IsOutput (city : CityValue) (scripts : List Scripted) (ends : List En
   pub left : object_at model ≡ model_after scripts (object_at city.1) ends
   pub text : bytes ≡ report_text ends ++ city_text (city.0, model) ++ 10 ∷ []
 
--- the lines of the report, which has so many bytes, and the line of the model are JSON
+-- the lines of the report and the line of the model are JSON; the report has so many bytes
 pub record IsJsonOutput (report : ℕ) (bytes : List ℕ) : Type 0 where
   pub ends : AreJsonLines (take report bytes)
   pub model : AreJsonLines (drop report bytes)

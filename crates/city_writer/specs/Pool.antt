@@ -1,5 +1,4 @@
--- The points of a city in walking order, and its vertices, each of which is there once
--- (CityJSON 2.0, section 2, `vertices`).
+-- The points of a city in walking order, and its vertices, each once (CityJSON 2.0, section 2, `vertices`).
 use Rattle.std.specs.Prelude.{ℕ, zero, suc, not, List, [], ◌∷◌, ◌++◌, filter, flat_map, if◌then◌else◌}
 use Rattle.std.specs.List.{list_any, position_or_len}
 use Rattle.std.specs.FinMap.{entries}
@@ -40,10 +39,10 @@ without_repeats (p ∷ ps) = p ∷ filter (λ q. not (same_point p q)) (without_
 abbrev pub pool_of : CityValue → List Point
 pool_of c = without_repeats (city_points c)
 
--- the number of a point: the position of an equal one, or the number of points where none is
+-- the number of a point: the index of an equal one, or the number of points if there is none
 abbrev pub number_of : List Point → Point → ℕ
 number_of pool p = position_or_len (same_point p) pool
 
--- the pool with a point, which goes last where no equal one is there
+-- the pool with a point; a new point goes last
 abbrev pub with_point : List Point → Point → List Point
 with_point pool p = if list_any (same_point p) pool then pool else pool ++ p ∷ []

@@ -1,4 +1,4 @@
--- What only private clauses and proofs use: nothing here has to be believed.
+-- Words for private clauses and proofs alone: nothing here has to be believed.
 pub mod KnownNumbers
 pub mod Pieces
 pub mod Pool

@@ -10,7 +10,7 @@ use city_model::object::Point;
 use std::alloc::Global;
 use std::marker::Model;
 
-/// Points that have their numbers, and the numbers of those that one worker meets, in the order in which it meets them.
+/// Numbered points, and the numbers of the points of one worker, in the order of its meeting them.
 #[derive(Drop)]
 struct KnownPoints<'a> {
     all: &'a [Point],
@@ -32,7 +32,7 @@ impl<'a> Model for KnownPoints<'a> {
 }
 
 impl<'a> KnownPoints<'a> {
-    /// The number of the point that is met after so many others; none where it isn't that point.
+    /// The number noted for the point met after so many others; none unless that number is this point's.
     fn number(&self, met: usize, point: &Point) -> Option<usize>
         ensures number { IfSome result (λ n. n ≡ number_of self.now point.now) }
         ensures there { IfSome result (λ _. with_point self.now point.now ≡ self.now) }
@@ -65,7 +65,7 @@ impl<'a> Model for PointNumbers<'a> {
 }
 
 impl<'a> PointNumbers<'a> {
-    /// Of points that are numbered as they are met, and hashed by the seed. Doesn't allocate.
+    /// Numbers points as they are met, and hashes them by the seed. Doesn't allocate.
     pub fn as_met(alloc: Global, seed: u64) -> Self
         ensures { result ≡ [] }
     {
@@ -75,8 +75,8 @@ impl<'a> PointNumbers<'a> {
         }
     }
 
-    /// Of points that have their numbers; `numbers` has those of the points that will be met, in that order. Doesn't
-    /// allocate.
+    /// Points with numbers; `numbers` guesses the numbers of the points to come, in the order of meeting them.
+    /// Doesn't allocate.
     pub fn known(alloc: Global, seed: u64, all: &'a [Point], numbers: &'a [usize]) -> Self
         requires { IsDistinct same_point all.now }
         ensures { result ≡ all.now }
@@ -87,9 +87,10 @@ impl<'a> PointNumbers<'a> {
         }
     }
 
-    /// Adds a point, and gives its number. A point that is there keeps its number.
+    /// Adds a point, and gives its number. A point of the pool keeps its number.
     ///
-    /// If memory runs out, no point is lost. Where a point has no number beforehand, it answers the same.
+    /// If memory runs out, no point is lost. It also answers `OutOfMemory` if the number noted for the point isn't
+    /// its own.
     pub fn add(&mut self, point: Point) -> Result<usize, OutOfMemory>
         ensures number { IfOk result (λ i. i ≡ number_of self.old point) }
         ensures added { OnOk result (self.new ≡ with_point self.old point) }

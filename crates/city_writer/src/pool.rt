@@ -1,4 +1,4 @@
-//! Numbers points in the order in which they are first met.
+//! Numbers points in the order of their first occurrence.
 ghost use Rattle.std.specs.Prelude.{◌≡◌, [], IfOk, OnOk, OnErr, true};
 ghost use Rattle.std.specs.List.{IsDistinct};
 ghost use Rattle.city_model.specs.Shells.{same_point};
@@ -11,11 +11,10 @@ use std::alloc::Global;
 use std::hash::{BuildHasher, FoldHasher, Hasher};
 use std::marker::Model;
 
-/// The seed where nobody draws one.
+/// The seed of callers without one of their own.
 pub const FIXED_SEED: u64 = 0;
 
-/// Hashes by a seed. Where the seed is drawn at random for each run, nobody can write a text whose points have one
-/// hash.
+/// Hashes by a seed. With a random seed for each run, nobody can write a text full of points of one hash.
 #[derive(Clone, Copy)]
 pub struct SeededHasher {
     first: FoldHasher,
@@ -44,16 +43,16 @@ const PLACES: usize = 256;
 
 /// The points met so far, each once; numbered from 0 in that order.
 ///
-/// Most points are met again soon, by the next surfaces of the same solid. So the number that was found last at each of
-/// a few places is tried before the table; it counts only where the point of this number is that point.
+/// Most points are met again soon, by the next surfaces of the same solid. So the pool remembers the number found last
+/// at each of a few places, and tries it before the table. A number counts only if its point is the one asked for.
 #[derive(Drop)]
 pub struct VertexPool {
     points: IndexSet<Point, SeededHasher>,
     lately: [usize; PLACES],
 }
 
-/// The place at which the number of a point is remembered. The factors are odd and their bits are spread, so points
-/// near each other mostly have different places.
+/// The place of a point's remembered number. The factors are odd and their bits are spread, so points near each other
+/// mostly have different places.
 fn place_of(point: &Point) -> u8 {
     let x = point.x.wrapping_mul(0x1E37_79B9_7F4A_7C15);
     let y = point.y.wrapping_mul(0x42B2_AE3D_27D4_EB4F);
@@ -68,7 +67,7 @@ fn is_same(point: &Point, other: &Point) -> bool
     *point == *other
 }
 
-/// Whether a point is among points of which each is there once, and has this number.
+/// Whether a point stands at this number among distinct points.
 #[tactic(auto, using(crate::proofs::pool::NumberedAt::kept_at))]
 pub fn is_numbered(points: &[Point], point: &Point, number: usize) -> bool
     requires { IsDistinct same_point points.now }
@@ -98,7 +97,7 @@ impl VertexPool {
         VertexPool::with_seed(alloc, FIXED_SEED)
     }
 
-    /// A pool without points, which hashes them by the seed. Doesn't allocate.
+    /// A pool without points. It hashes points by the seed. Doesn't allocate.
     pub fn with_seed(alloc: Global, seed: u64) -> Self
         ensures { result ≡ [] }
     {
@@ -108,7 +107,7 @@ impl VertexPool {
         }
     }
 
-    /// Adds a point, and gives its number. A point that is there keeps its number.
+    /// Adds a point, and gives its number. A point of the pool keeps its number.
     ///
     /// If memory runs out, the pool is unchanged.
     pub fn add(&mut self, point: Point) -> Result<usize, OutOfMemory>

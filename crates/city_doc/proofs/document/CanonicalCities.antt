@@ -1,4 +1,4 @@
--- What holds of the canonical text of a city that was written.
+-- Promises of the canonical text of a city.
 use Rattle.city_doc.proofs.Prelude.{◌≤◌, ap, depth, max_depth, tree_of}
 use Rattle.city_doc.proofs.Prelude.{IsTextOfCity, CityValue}
 use Rattle.city_writer.specs.document.Canonical.{city_text}

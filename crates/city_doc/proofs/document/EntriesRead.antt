@@ -1,4 +1,4 @@
--- The objects that were written one after the other are read again by their ids.
+-- Objects written one after the other are read again by their ids.
 use Rattle.city_doc.proofs.Prelude.{◌≡◌, ◌<◌, List, ◌∷◌, length, true, Some, refl, []}
 use Rattle.city_doc.proofs.Prelude.{arith, ◌^◌, flat_map}
 use Rattle.city_doc.proofs.Prelude.{list_all-append, Entries}

@@ -1,4 +1,4 @@
--- The members of the top that were written give the frame again.
+-- The written members of the top give the frame again.
 use Rattle.city_doc.proofs.Prelude.{◌≡◌, true, Some, refl, and_parts, Data, put, object}
 use Rattle.city_doc.proofs.Prelude.{get_member-put, Frame, top_members, transform_members, kept_at_top}
 use Rattle.city_doc.proofs.Prelude.{lacks_each, kept_at_transform, members_integral}
@@ -8,7 +8,7 @@ use Rattle.city_doc.proofs.document.KeptMembers.{kept_all, left_put, left_lackin
 use Rattle.city_doc.proofs.tree.ListsRead.{triple_read}
 use Rattle.city_writer.proofs.document.Lacking.{top_members_lacking}
 
--- the frame of the members that it gave, among others
+-- the frame of its own members, among others
 pub frame_read : (f : Frame) (vertices objects : Data) → is_i64_triple f.scale ≡ true → is_i64_triple f.translate ≡ true
     → kept_at_top f.extra ≡ true → kept_at_transform f.more ≡ true
     → frame_of (object (put (codes "CityObjects") objects (put (codes "vertices") vertices (frame_members f)))) ≡ Some f

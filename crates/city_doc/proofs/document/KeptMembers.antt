@@ -1,4 +1,4 @@
--- The members that are left of a tree of whole numbers may be kept at their place.
+-- The remaining members of a tree of whole numbers may be kept at their place.
 use Rattle.city_doc.proofs.Prelude.{◌≡◌, ℕ, List, Bool, true, false, Some, refl, ◌∙◌, arith, ◌∷◌, [], ap, not, cond}
 use Rattle.city_doc.proofs.Prelude.{◌&&◌, and_from, Members, Data, member, string, no_members, put, get_member}
 use Rattle.city_doc.proofs.Prelude.{members_integral, lacks_each, object_members, top_members, kept_at_top}
@@ -15,7 +15,7 @@ kept_all test ms h = rw h refl
 pub kept_passes : (test : Members → Bool) (ms kept : Members) → kept_if test ms ≡ Some kept → test ms ≡ true
 kept_passes test ms kept h = grind arith
 
--- what is left without some members is whole, and lacks each of these
+-- members without some names are whole, and lack each of these
 pub left_whole : (names : List (List ℕ)) (ms : Members) → members_integral ms ≡ true
     → (members_integral (without_each names ms) && lacks_each names (without_each names ms)) ≡ true
 left_whole names ms h =
@@ -61,7 +61,7 @@ pub left_put_list : {A : Type 0} (names : List (List ℕ)) (k : List ℕ) (f : A
     → has_id names k ≡ true → without_each names (put_list k f xs ms) ≡ without_each names ms
 left_put_list names k f xs ms there = grind (arith, left_put)
 
--- members that lack each are left as they are
+-- members that lack each name stay as they are
 pub left_lacking : (names : List (List ℕ)) (ms : Members) → lacks_each names ms ≡ true → without_each names ms ≡ ms
 left_lacking [] ms h = refl
 left_lacking (n ∷ names) ms h =

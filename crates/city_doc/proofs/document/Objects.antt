@@ -1,4 +1,4 @@
--- A loop that reads the members of a map in turn into a map in the order of their bytes.
+-- The loop from the members of a map into a map in the order of their bytes.
 use Rattle.city_doc.proofs.Prelude.{◌≡◌, List, ◌∷◌, ◌++◌, map, Some, None, Less, [], nat_cmp, refl, sym}
 use Rattle.city_doc.proofs.Prelude.{subst, append-nil, AllByRecursion, keys_of, slice_cmp, option_map_id, Members, view}
 use Rattle.city_doc.proofs.Prelude.{members_view, Entries, Object, Point, lenient_object_of, lenient_entries_of}
@@ -20,7 +20,7 @@ unfolding IsStrictlySortedBy
 sorted_bytes [] h = tt
 sorted_bytes (k ∷ ks) h = (all_bytes k ks h.0, sorted_bytes ks h.1)
 
--- the objects of `all` are those that are done, and then those of the rest
+-- the objects of `all` are the done ones, and then the rest
 pub record IsReading (points : List Point) (all : Members) (done : Entries) (rest : List Entry) : Type 0 where
   pub read : lenient_entries_of points all ≡ option_map (λ es. done ++ es)
       (lenient_entries_of points (members_view rest))

@@ -1,4 +1,4 @@
--- The tree of an object is read as that object.
+-- The tree of an object is read as the object.
 use Rattle.city_doc.proofs.Prelude.{◌≡◌, ◌<◌, List, ◌∷◌, length, Bool, true, Some, refl, [], arith, ◌&&◌, ◌^◌}
 use Rattle.city_doc.proofs.Prelude.{list_all, and_parts, string, put, as_str, get_member-put}
 use Rattle.city_doc.proofs.Prelude.{Point, Geometry, Object, object_members, geometry_members, kept_at_object}

@@ -1,4 +1,4 @@
--- A point that was written as its number is read again.
+-- A point written as its number is read again.
 use Rattle.city_doc.proofs.Prelude.{◌≡◌, ℕ, zero, suc, ◌<◌, true, List, length, Some}
 use Rattle.city_doc.proofs.Prelude.{ap, arith, ◌^◌, option_map}
 use Rattle.city_doc.proofs.Prelude.{lt-ltb, and_parts, prefix_len-le-length}

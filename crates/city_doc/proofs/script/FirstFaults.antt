@@ -1,4 +1,4 @@
--- What the reader finds is the first fault of an array of scripts.
+-- The reader's answer is the first fault of an array of scripts.
 use Rattle.city_doc.proofs.Prelude.{◌≡◌, ℕ, ◌+◌, ◌<◌, List, Bool, true, false, Some, None, Option, refl, sym, ap, subst}
 use Rattle.city_doc.proofs.Prelude.{◌∙◌, inl, inr, arith, slice_get, option_map, Data, is_bad_command, names_bad_vertex}
 use Rattle.city_doc.proofs.Prelude.{ScriptParts, vertex_count, parts_of, first_at, bad_script, index_if, first_in}

@@ -1,4 +1,4 @@
--- Lists that are put in at their names, and taken out.
+-- Lists put in at their names, and taken out.
 use Rattle.city_doc.proofs.Prelude.{◌≡◌, List, ℕ, [], None, refl, arith, Data, Members, get_member, without, put_list}
 use Rattle.city_doc.proofs.Prelude.{list_data}
 use Rattle.std.proofs.Common.{false}

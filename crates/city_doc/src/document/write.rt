@@ -23,15 +23,14 @@ use city_writer::{FIXED_SEED, append_in_pieces, append_text};
 use std::alloc::Global;
 use std::thread::Threads;
 
-/// How many bytes of text an object counts as where a city is written in pieces.
+/// How many bytes of text an object counts as when a city is written in pieces.
 const OBJECT_BYTES: usize = 1024;
 
 /// The canonical text of a city, without a newline.
 ///
-/// The text is JSON that stands for the same city, unless the city's kept members nest so deep that
-/// the text has more than the 127 levels that are read. Those of a city that was read don't. Any
-/// city that is read from the text is written as the same bytes again. The text of a lawful city,
-/// where it isn't too long, has no fault.
+/// The text is JSON and stands for the same city, unless kept members nest so deep that the text has more
+/// than 127 levels, the most of a reader. Those of a city read from a text don't. Any city read from the text
+/// is written as the same bytes again. The text of a lawful city has no fault unless it is too long.
 pub fn write_city(alloc: Global, city: &City) -> Result<Vec<u8>, OutOfMemory>
     ensures text { IfOk result (λ b. b.items ≡ city_text city.now) }
     ensures read_again { IfOk result (λ b. depth (tree_of city.now) ≤ max_depth
@@ -51,8 +50,7 @@ pub fn write_city(alloc: Global, city: &City) -> Result<Vec<u8>, OutOfMemory>
 
 /// The bytes, and after them the canonical text of a city, without a newline.
 ///
-/// The text is the one of `write_city`, and what is said of it there holds of it here. Points are hashed by the
-/// seed.
+/// The text is that of `write_city`, with the same promises. Points are hashed by the seed.
 pub fn append_city(
     alloc: Global,
     seed: u64,
@@ -69,8 +67,8 @@ pub fn append_city(
 
 /// The bytes, and after them the canonical text of a city, without a newline.
 ///
-/// The text is the one of `append_city`, of which so many threads write pieces. A city that is too small for two pieces
-/// is written at once.
+/// The text is that of `append_city`, written in pieces by so many threads. A city too small for two pieces is written
+/// at once.
 pub fn append_city_by<R: Threads + Sync>(
     rt: &R,
     alloc: Global,

@@ -53,7 +53,7 @@ fn points_in(alloc: Global, tree: &Value) -> Result<Option<Sequence<Point>>, Out
     }
 }
 
-/// The points of a document's vertices, of which a tree without any has none.
+/// The points of a document's vertices; none if the tree has no vertices.
 pub fn vertices_in(alloc: Global, tree: &Value) -> Result<Sequence<Point>, OutOfMemory>
     ensures { IfOk result (λ points. points ≡ vertices_in (view tree.now)) }
 {

@@ -1,4 +1,4 @@
--- A city of which several workers wrote pieces.
+-- A city written in pieces by several workers.
 use Rattle.city_writer.proofs.Prelude.{◌≡◌, ℕ, List, [], ◌∷◌, ◌++◌, Option, true, false, is_some, list_all, refl, sym}
 use Rattle.city_writer.proofs.Prelude.{ap}
 use Rattle.city_writer.proofs.Prelude.{◌∙◌, subst, append_assoc, entries}
@@ -32,7 +32,7 @@ use Rattle.city_writer.proofs.pool.Repeats.{pool_is_without_repeats}
 use Rattle.city_writer.proofs.tree.CompactJson.{lexed_again}
 use Rattle.city_writer.proofs.tree.ReadBack.{object_reads}
 
--- the points of all pieces are those of the city
+-- the points of all pieces are the points of the city
 pub all_pooled : {A : Type 0} (f : A → List Point) (len : ℕ) (city : CityValue) (os : List (Option A))
     (first pool points : List Point) → first ≡ [] → pool ≡ with_points first (joined os f) → points ≡ pool
     → list_all is_some os ≡ true → EachPiece len (entries city.1) os (λ es a. IsListed es (f a)) → points ≡ pool_of city
@@ -51,7 +51,7 @@ objects_written f len city os points pooled small all each =
     let made = all_made (λ es a. IsWrittenIfKnown points es (f a)) len (entries city.1) os all each in
     pieces_written points f len (entries city.1) os (each_known points f len (entries city.1) os small there made)
 
--- what holds of a city of which the head, the objects and the rest were written one after the other
+-- promises of a city, from its head, its objects and its rest, written one after the other
 module _ (points : List Point) (city : CityValue) (frame : Frame) (kept left : Members)
     (bytes head objects behind all : List ℕ) (pooled : points ≡ pool_of city) (frame_is : frame ≡ city.0)
     (kept_is : kept ≡ frame.extra) (ordered : AreOrdered frame.extra) (at_top : kept_at_top frame.extra ≡ true)

@@ -1,4 +1,4 @@
--- The text of a city that was written.
+-- The written text of a city.
 use Rattle.city_writer.proofs.Prelude.{◌≡◌, print-outline, tree_of, CityValue, ReadsBack, IsKeptCity, IsInRange}
 use Rattle.city_writer.proofs.Prelude.{pool_of}
 use Rattle.city_writer.proofs.Prelude.{tokens_of}

@@ -1,4 +1,4 @@
--- Kept members have none of the names that their place has of its own.
+-- Kept members have none of the own names of their place.
 use Rattle.city_writer.proofs.Prelude.{◌≡◌, true, None, arith, ◌&&◌}
 use Rattle.city_writer.proofs.Prelude.{and_parts, Members, get_member}
 use Rattle.city_writer.proofs.Prelude.{kept_at_object}

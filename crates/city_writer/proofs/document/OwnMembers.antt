@@ -1,4 +1,4 @@
--- The members that geometries, objects, transforms and cities have of their own, in the byte order of their names.
+-- The own members of geometries, objects, transforms and cities, in the byte order of their names.
 use Rattle.city_writer.proofs.Prelude.{◌≡◌, ℕ, List, ◌∷◌, Option, Some, refl, sym, ap, ◌∙◌, Less, nat_cmp, [], arith}
 use Rattle.city_writer.proofs.Prelude.{slice_cmp, entries, Data, string, object, Members, put, CityValue, name_of}
 use Rattle.city_writer.proofs.Prelude.{Frame}

@@ -53,7 +53,7 @@ module _ (pool : List Point) where
   reads-append (x ∷ xs) ys h k = (h.0, reads-append xs ys h.1 k)
 
   module _ {A : Type 0} (f : A → List ℕ) where
-    -- a piece is written where its points are known
+    -- a piece is written if its points are known
     pub each_known : (len : ℕ) (es : Entries) (os : List (Option A)) → length pool < 2 ^ 63
         → are_in pool (entry_points es) ≡ true → EachMade len es os (λ es a. IsWrittenIfKnown pool es (f a))
         → EachMade len es os (λ es a. IsWritten pool es (f a))
@@ -128,7 +128,7 @@ module _ (pool : List Point) where
       kept = texts_kept len es os h;
     }
 
--- what a writer printed of a piece whose points are known
+-- the text of a piece, if its points are known
 pub piece_written : (points first pool : List Point) (es : Entries) (before text : List ℕ) (old ts : List Token)
     → first ≡ points → pool ≡ with_points first (entry_points es) → before ≡ [] → old ≡ []
     → ((later : List Point) → ts ≡ old ++ tokens_of_members (in_turn (with_points pool later) es))
@@ -152,7 +152,7 @@ part-append kept zero m (Some d) a b = simp append_assoc
 part-append kept zero m None a b = simp append_assoc
 part-append kept (suc n) m o a b = simp append_assoc
 
--- what was written before stays
+-- earlier tokens stay
 pub written-append : (kept : Members) (n : ℕ) (own : Own) (a b : List Token)
     → written kept n own (a ++ b) ≡ a ++ written kept n own b
 written-append kept n [] a b = append_assoc a b _
@@ -189,7 +189,7 @@ module _ (pool : List Point) (city : CityValue) (kept : Members) where
       let split = written-append (members_from (codes "CityObjects") kept) 0 (frame_own pool city.0) (end_object ∷ []) [] in
       rw split (before_end b _)
 
-  -- the head, the objects and what comes behind them are the city
+  -- the head, the objects and the rest are the city
   pub city_printed : (head objects rest : List ℕ) → IsPut kept (city_own pool city) (tree_of city)
       → IsStrictlySortedBy (slice_cmp nat_cmp) (keys_of (entries city.1)) → IsPrinted head (head_tokens kept)
       → IsWritten pool (entries city.1) objects → IsPrinted rest rest_tokens

@@ -1,4 +1,4 @@
--- An object that is written part by part: kept members before each of its own, and those after the last.
+-- An object written part by part: kept members before each of its own, and the rest after the last.
 use Rattle.city_writer.proofs.Prelude.{◌≡◌, ℕ, zero, suc, List, [], ◌∷◌, ◌++◌, Option, Some, None, true, refl, sym, ap}
 use Rattle.city_writer.proofs.Prelude.{◌∙◌, subst, rules, Result, on_ok_weaker, Token, begin_object, Data}
 use Rattle.city_writer.proofs.Prelude.{object, Members, no_members, get_member, CityValue, kept_at_object}
@@ -24,13 +24,13 @@ abbrev pub AreApart : Members → Own → Type 0
 AreApart kept [] = Unit {0}
 AreApart kept (o ∷ own) = (get_member o.0 kept ≡ None) × AreAbove o.0 own × AreApart kept own
 
--- data that is an object of its own members among kept ones
+-- the data is an object of its own members among kept ones
 pub record IsPut (kept : Members) (own : Own) (d : Data) : Type 0 where
   pub is : d ≡ object (puts own kept)
   pub ordered : AreOrdered kept
   pub apart : AreApart kept own
 
--- what follows from a call's success
+-- consequences of a call's success
 pub on_ok : {T E P Q : Type 0} (r : Result T E) → OnOk r P → (P → Q) → OnOk r Q
 on_ok r h f = on_ok_weaker r f h
 
@@ -65,14 +65,14 @@ put_written {kept} {own} n old put =
     written_left n kept own put.ordered put.apart (begun kept own old _ refl)
     ∙ ap (λ d. old ++ tokens_of d) (sym put.is)
 
--- the same after other tokens, of an object that keeps no members
+-- the same after other tokens, of an object without kept members
 pub after_written : (own : Own) (out : List Token) → AreApart no_members own
     → written no_members 0 own out ≡ out ++ closing_members (puts own no_members)
 after_written own out apart =
     let ordered : AreOrdered no_members = tt in
     written_left 0 no_members own ordered apart (record { same = refl })
 
--- ---- what is read of them
+-- ---- read again
 
 pub put_reads : {kept : Members} {own : Own} {d : Data} → IsPut kept own d → MembersReadBack kept
     → AllReadBack own → ReadsBack d
@@ -81,7 +81,7 @@ put_reads {kept} {own} put reads each =
 
 -- ---- geometries, objects, transforms and cities
 
--- points that were added to none
+-- points added to an empty pool
 pub all_pooled : (first pool points : List Point) → first ≡ [] → pool ≡ with_points first points
     → pool ≡ without_repeats points
 all_pooled first pool points none added =

@@ -1,4 +1,4 @@
--- Objects that are written one after the other, each with the points that it adds to a pool.
+-- Objects written one after the other, each with its points added to a pool.
 use Rattle.city_writer.proofs.Prelude.{◌≡◌, ap, ℕ, suc, zero, ◌<◌, arith, List, ◌∷◌, ◌++◌, Less, nat_cmp, ◌∙◌}
 use Rattle.city_writer.proofs.Prelude.{append_assoc, [], slice_cmp, AllByRecursion, keys_of, Token, key, Entries}
 use Rattle.city_writer.proofs.Prelude.{AllAbove}
@@ -66,7 +66,7 @@ keys_of_push [] k v more = refl
 keys_of_push (e ∷ es) k v more = ap (λ ks. e.0 ∷ ks) (keys_of_push es k v more)
 
 module _ (pool : List Point) where
-  -- an id that is above those before it goes last
+  -- an id above all before it goes last
   put_last : (done : Entries) (id : List ℕ) (o : Object) (more : List (List ℕ))
       → IsStrictlySortedBy (slice_cmp nat_cmp) (keys_of done ++ id ∷ more)
       → put id (object_data pool o) (in_turn pool done) ≡ in_turn pool (done ++ (id, o) ∷ [])
@@ -86,7 +86,7 @@ module _ (pool : List Point) where
       ∙ written_from (done ++ e ∷ []) es next
       ∙ ap (in_turn pool) (append_assoc done (e ∷ []) es)
 
-  -- objects whose ids ascend stand in their order
+  -- objects with ascending ids stand in their order
   pub written_in_turn : (es : Entries) → IsStrictlySortedBy (slice_cmp nat_cmp) (keys_of es)
       → with_objects pool no_members es ≡ in_turn pool es
   written_in_turn es h = written_from [] es h

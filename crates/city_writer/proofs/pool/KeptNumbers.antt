@@ -1,4 +1,4 @@
--- A point that is added keeps its number, whatever points come after it.
+-- An added point keeps its number, whatever points come after it.
 use Rattle.city_writer.proofs.Prelude.{◌≡◌, ◌<◌, length, arith, Bool, true, false, List, [], ◌∷◌, ◌++◌, append_assoc}
 use Rattle.city_writer.proofs.Prelude.{filter, list_any, Decides-int_eq, prefix_len-le-length, Point, same_point}
 use Rattle.city_writer.proofs.Prelude.{number_of, with_point, without_repeats, with_points}

@@ -1,4 +1,4 @@
--- The number at which a point stands in a pool that has each point once.
+-- The number of a point in a pool of distinct points.
 use Rattle.city_writer.proofs.Prelude.{◌≡◌, ℕ, zero, suc, Bool, true, false, List, [], ◌∷◌, Some, refl, sym, ◌∙◌, subst}
 use Rattle.city_writer.proofs.Prelude.{arith, slice_get, list_any, AllByRecursion, Point, same_point, number_of}
 use Rattle.city_writer.proofs.Prelude.{with_point}
@@ -34,7 +34,7 @@ there_at (x ∷ pool) zero q p at same =
     rw (same_point-symm p x, first, same) refl
 there_at (x ∷ pool) (suc n) q p at same = grind (arith, there_at pool n q p)
 
--- a point that is there changes nothing
+-- a point of the pool changes nothing
 pub kept_at : (pool : List Point) (n : ℕ) (q p : Point) → slice_get pool n ≡ Some q → same_point q p ≡ true
     → with_point pool p ≡ pool
 kept_at pool n q p at same = rw (there_at pool n q p at same) refl
@@ -44,7 +44,7 @@ all_apart : {eq : Point → Point → Bool} (p : Point) (ps : List Point) → Al
 all_apart p [] h alike = tt
 all_apart p (q ∷ ps) h alike = (sym (alike p q) ∙ h.0, all_apart p ps h.1 alike)
 
--- points that no test that is alike finds twice
+-- distinct points by one test are distinct by an equal test
 pub distinct_alike : {eq : Point → Point → Bool} (ps : List Point) → IsDistinct eq ps
     → ((a b : Point) → eq a b ≡ same_point a b) → IsDistinct same_point ps
 unfolding IsDistinct

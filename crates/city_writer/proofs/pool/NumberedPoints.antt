@@ -1,4 +1,4 @@
--- Points in a pool, and what stands at their numbers.
+-- Points in a pool, and the points at their numbers.
 use Rattle.city_writer.proofs.Prelude.{◌≡◌, Bool, true, false, not, List, ◌∷◌, [], sym, Some}
 use Rattle.city_writer.proofs.Prelude.{refl, ap, arith, ◌∙◌, filter, flat_map, slice_get, list_any}
 use Rattle.city_writer.proofs.Prelude.{list_all, Decides-int_eq, list_all-append}
@@ -20,7 +20,7 @@ any_kept : {X : Type 0} (f g : X → Bool) → ((x : X) → f x ≡ true → g x
 any_kept f g each [] = refl
 any_kept f g each (x ∷ xs) = let one = each x in let rest = any_kept f g each xs in grind arith
 
--- a point stays where another one is taken out
+-- a point stays when another one is taken out
 still_in : (p q : Point) (ps : List Point) → same_point p q ≡ false → is_in ps p ≡ true
     → is_in (filter (λ r. not (same_point q r)) ps) p ≡ true
 still_in p q ps apart h =
@@ -55,7 +55,7 @@ pub parts_in : {X : Type 0} (pool : List Point) (f : X → List Point) (xs : Lis
 parts_in pool f [] h = refl
 parts_in pool f (x ∷ xs) h = grind (arith, list_all-append, parts_in pool f xs)
 
--- at the number of a point stands that point
+-- the point at the number of a point is the point
 pub found : (pool : List Point) (p : Point) → is_in pool p ≡ true → slice_get pool (number_of pool p) ≡ Some p
 found [] p h = grind arith
 found (q ∷ pool) p h = let rest = found pool p in let same = same_point-is p q in grind arith

@@ -1,4 +1,4 @@
--- Points that are added piece by piece, those of each piece once.
+-- Points added piece by piece, each once for a piece.
 use Rattle.city_writer.proofs.Prelude.{◌≡◌, ℕ, Bool, true, not, List, [], ◌∷◌, ◌++◌, Option, Some, None, refl, sym, ap}
 use Rattle.city_writer.proofs.Prelude.{◌∙◌, arith, drop}
 use Rattle.city_writer.proofs.Prelude.{filter, and_parts, Entries, Point, same_point, without_repeats}
@@ -50,7 +50,7 @@ with_points-once pool ps =
     ap (with_points pool) (pool_is_without_repeats ps) ∙ with_points-is pool (without_repeats ps)
     ∙ ap (λ qs. pool ++ filter (is_new pool) qs) (once_again ps) ∙ sym (with_points-is pool ps)
 
--- points that are there change nothing
+-- points of the pool change nothing
 pub points_known : (pool ps : List Point) → are_in pool ps ≡ true → with_points pool ps ≡ pool
 points_known pool [] h = refl
 points_known pool (p ∷ ps) h =

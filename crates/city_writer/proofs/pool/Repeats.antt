@@ -39,12 +39,12 @@ filter_nothing : (xs : List Point) → filter (is_new []) xs ≡ xs
 filter_nothing [] = refl
 filter_nothing (x ∷ xs) = ap (λ ys. x ∷ ys) (filter_nothing xs)
 
--- a point that equals p isn't new where p isn't
+-- a point equal to p isn't new if p isn't
 new_differs : (pool : List Point) (p q : Point) → list_any (same_point p) pool ≡ true
     → is_new pool q ≡ (differs p q && is_new pool q)
 new_differs pool p q there = grind (arith, same_point-alike)
 
--- what is new beside p, too, is what is new and not p
+-- a point is new with p in the pool exactly if it is new and not p
 new_beside : (pool : List Point) (p q : Point) → is_new (pool ++ p ∷ []) q ≡ (differs p q && is_new pool q)
 new_beside pool p q =
     let all = list_any-append (same_point q) pool (p ∷ []) in
@@ -61,6 +61,6 @@ with_points-is pool (p ∷ ps) =
     let assoc = append_assoc pool (p ∷ []) (filter (is_new pool) (filter (differs p) rest)) in
     grind (arith, with_points-is pool ps, with_points-is (pool ++ p ∷ []) ps)
 
--- the pool that starts empty has each point once, in the order of their first occurrences
+-- a pool begun empty has each point once, in the order of their first occurrences
 pub pool_is_without_repeats : (ps : List Point) → with_points [] ps ≡ without_repeats ps
 pool_is_without_repeats ps = with_points-is [] ps ∙ filter_nothing (without_repeats ps)

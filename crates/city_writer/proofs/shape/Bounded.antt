@@ -1,4 +1,4 @@
--- The boundaries of a shape are nested as what bounds it is.
+-- The boundaries of a shape are nested as its bounds are.
 use Rattle.city_writer.proofs.Prelude.{◌≡◌, ℕ, arith, Shape, Nested, nested}
 use Rattle.city_model.specs.internal.BorrowedBounds.{Boundaries, Surfaces, Shells, Solids, boundaries_of}
 

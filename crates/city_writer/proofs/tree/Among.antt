@@ -22,7 +22,7 @@ abbrev pub first_if : List ℕ → Option Data → Members → Members
 first_if n None ms = ms
 first_if n (Some d) ms = member n d ms
 
--- the members with those of an object's own that are there
+-- the members, with an object's own ones
 abbrev pub puts : List (List ℕ × Option Data) → Members → Members
 puts [] ms = ms
 puts (o ∷ own) ms = put_if o.0 o.1 (puts own ms)
@@ -75,7 +75,7 @@ module _ (m : List ℕ) (o : Option Data) (own : List (List ℕ × Option Data))
   parted no_members ordered none = first_put m o (puts own no_members) (above_puts m own no_members above tt)
   parted (member k d ms) ordered none = parted_at (cmp m k) k d ms refl ordered.0 none (parted ms ordered.1)
 
--- ---- what follows a name
+-- ---- members behind a name
 
 pub ordered_from : (m : List ℕ) (ms : Members) → AreOrdered ms → AreOrdered (members_from m ms)
 ordered_from m no_members h = tt
@@ -94,7 +94,7 @@ closing_own : (m : List ℕ) (o : Option Data) (ms : Members)
     → closing_members (first_if m o ms) ≡ tokens_of_own m o ++ closing_members ms
 closing_own m o ms = grind arith
 
--- an object is written whole, of which these members are left: its own, and kept ones
+-- an object is being written; these members are left: its own, and kept ones
 pub record IsLeft (whole out : List Token) (kept : Members) (own : List (List ℕ × Option Data)) : Type 0 where
   pub same : whole ≡ out ++ closing_members (puts own kept)
 
@@ -105,7 +105,7 @@ begun kept own old out begin = record { same = rw (begin, append_assoc) refl }
 module _ {kept : Members} {whole out : List Token} where
   module _ {m : List ℕ} {own : List (List ℕ × Option Data)} (ordered : AreOrdered kept)
       (none : get_member m kept ≡ None) (above : AreAbove m own) where
-    -- the kept ones before the next of its own are written, and that one, where it is there
+    -- the kept ones before the next own one are written, and then that one, if there is one
     pub own_written : {o : Option Data} (next : List Token) → IsLeft whole out kept ((m, o) ∷ own)
         → next ≡ out ++ (tokens_of_members (members_before m kept) ++ tokens_of_own m o)
         → IsLeft whole next (members_from m kept) own
@@ -152,7 +152,7 @@ own_read own kept ordered reads each =
 pub string_reads : (s : List ℕ) → ReadsBack (string s)
 string_reads s = record { same = refl }
 
--- a text that was written under another name
+-- a text, written under another name
 pub text_written : (named last : List Token) (s t : List ℕ) → last ≡ named ++ tokens_of (string s) → s ≡ t
     → last ≡ named ++ tokens_of (string t)
 text_written named last s t written same = written ∙ ap (λ s. named ++ tokens_of (string s)) same

@@ -41,7 +41,7 @@ mutual
   members_end b (json.member k j ms) =
       fold-append (λ _ t. ends t) false (json_tokens j) (members_tokens ms) ∙ members_end (after false (json_tokens j)) ms
 
--- members that are there end as a value does
+-- at least one member ends as a value does
 after_members : (ms : Members) → after true (tokens_of_members ms) ≡ true
 after_members no_members = refl
 after_members (member k d ms) =
@@ -51,7 +51,7 @@ after_members (member k d ms) =
 abbrev comma : Bool → List ℕ → List ℕ
 comma b text = cond (b && is_some_text text) (44 ∷ []) []
 
--- a comma stands before the text of members, where one is needed
+-- a comma stands before the text of members, if it needs one
 pub members_after : (b : Bool) (ms : Members) (text : List ℕ) → text ≡ print (tokens_of_members ms)
     → (comma b text ++ text ≡ print_from b (tokens_of_members ms))
     × (after b (tokens_of_members ms) ≡ (b || is_some_text text))
@@ -65,13 +65,13 @@ pub utf8_comma : (b : Bool) → IsUtf8 (cond b (44 ∷ []) [])
 utf8_comma true = IsUtf8-separator true Token.null
 utf8_comma false = IsUtf8-nil
 
--- ---- what may be printed
+-- ---- printable tokens
 
 pub printable-append : (ts us : List Token) → ArePrintableOrBad ts → ArePrintableOrBad us → ArePrintableOrBad (ts ++ us)
 printable-append [] us h k = k
 printable-append (t ∷ ts) us h k = (h.0, printable-append ts us h.1 k)
 
--- what a writer printed
+-- the text of a writer
 pub printed : (ts : List Token) → tokens (print ts) ≡ ts → IsUtf8 (print ts) → IsPrinted (print ts) ts
 printed ts again utf8 = record {
   text_is = refl;
@@ -79,7 +79,7 @@ printed ts again utf8 = record {
   utf8 = utf8;
 }
 
--- what a writer printed behind bytes
+-- the text of a writer behind bytes
 pub appended : (bytes before all : List ℕ) (ts us : List Token) → all ≡ before ++ print us → tokens (print us) ≡ us
     → IsUtf8 (print us) → before ≡ bytes → us ≡ ts → IsAppended bytes ts all
 appended bytes before all ts us is again utf8 same_before same = record {
@@ -88,7 +88,7 @@ appended bytes before all ts us is again utf8 same_before same = record {
   all_is = rw (is, same_before) refl;
 }
 
--- one text after another, where no comma is needed between them
+-- one text after another, with no comma needed between them
 pub printed-append : (ts us : List Token) (a b : List ℕ) → IsPrinted a ts → IsPrinted b us
     → print_from (after false ts) us ≡ print us → IsPrinted (a ++ b) (ts ++ us)
 printed-append ts us a b h k none = record {

@@ -1,4 +1,4 @@
--- What a writer of JSON has written is the compact text of a value.
+-- The text of a writer of JSON is the compact text of a value.
 use Rattle.city_writer.proofs.Prelude.{◌≡◌, ℕ, List, [], ◌∷◌, ◌++◌, sym, ap, ◌∙◌, subst, arith, append-nil}
 use Rattle.city_writer.proofs.Prelude.{append_assoc}
 use Rattle.city_writer.proofs.Prelude.{flat_map, AllByRecursion, Data, print-outline}
@@ -14,14 +14,14 @@ use Rattle.serde_json.specs.Written.{outline, compact_text}
 use Rattle.city_writer.specs.report.JsonLines.{IsCompactJson, AreJsonLines}
 use Rattle.city_writer.specs.tree.Tokens.{tokens_of}
 
--- tokens of a value that may be printed have numbers for numbers
+-- printable tokens of a value have numbers for numbers
 numbers_of : (tree : Json) → ArePrintableOrBad (json_tokens tree) → HasNumbers tree
 numbers_of tree printable =
     value-HasNumbers (depth tree) (json_tokens tree ++ []) [] tree
     (subst ArePrintableOrBad (sym (append-nil (json_tokens tree))) printable)
     (value-json_tokens tree (depth tree) [] (omega arith))
 
--- the tokens of data that may be printed are those of their print
+-- printable tokens of data are the tokens of their print
 pub lexed_again : (d : Data) → ArePrintableOrBad (tokens_of d) → tokens (print (tokens_of d)) ≡ tokens_of d
 lexed_again d printable =
     tokens-print (tokens_of d) (ArePrintable-json_tokens (outline d) (numbers_of (outline d) printable))

@@ -1,4 +1,4 @@
--- A number that is an `i64`, beside its text.
+-- An `i64` number, beside its text.
 use Rattle.city_writer.proofs.Prelude.{◌≡◌, ℕ, ℤ, pos, ◌<◌, true, Some, ap, arith, option_map, FitsSigned, w64}
 use Rattle.city_writer.proofs.Prelude.{ltb-true}
 use Rattle.city_writer.proofs.Prelude.{number, as_i64, of_integer, ReadsBack}

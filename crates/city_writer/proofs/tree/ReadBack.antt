@@ -1,5 +1,4 @@
--- What is written for data is read as that data, where the names in each object ascend and each number's text is read
--- as the number.
+-- The text of data is read as the data, if the names in each object ascend and each number's text is read as the number.
 use Rattle.city_writer.proofs.Prelude.{◌≡◌, ℕ, ◌≤◌, max, List, Some, Less, nat_cmp, refl, sym, ap, ap₂, ◌∙◌, subst, []}
 use Rattle.city_writer.proofs.Prelude.{suc, arith, append-nil, option_and_then, option_map, slice_cmp}
 use Rattle.city_writer.proofs.Prelude.{nat_list_cmp_total}
@@ -38,7 +37,7 @@ above_later : (l : List ℕ) (done : Members) (k : List ℕ) (d : Data) (ms : Me
 above_later l no_members k d ms h = h.0
 above_later l (member j e done) k d ms h = above_later l done k d ms h.1
 
--- a name that is above those before it goes last
+-- a name above all before it goes last
 put_last : (done : Members) (k : List ℕ) (d : Data) (ms : Members) → AreOrdered (and_then done (member k d ms))
     → put k d done ≡ and_then done (member k d no_members)
 put_last no_members k d ms h = refl
@@ -72,7 +71,7 @@ mutual
   members_outline_depth no_members = refl
   members_outline_depth (member k d ms) = ap₂ max (outline_depth d) (members_outline_depth ms)
 
--- a text whose tokens are those of data is read as the data
+-- a text with the tokens of data is read as the data
 pub text_reads : (text : List ℕ) (d : Data) → tokens text ≡ tokens_of d → ReadsBack d → depth d ≤ max_depth
     → read text ≡ Some d
 text_reads text d same h shallow =

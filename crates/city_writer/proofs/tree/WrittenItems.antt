@@ -1,4 +1,4 @@
--- Items that are written one after the other, each with the points that it adds to a pool.
+-- Items written one after the other, each with its points added to a pool.
 use Rattle.city_writer.proofs.Prelude.{◌≡◌, ℕ, ◌+◌, ◌<◌, ◌≤◌, List, ◌∷◌, ◌++◌, map, length, get_or, drop, sym, ap, ◌∙◌}
 use Rattle.city_writer.proofs.Prelude.{[]}
 use Rattle.city_writer.proofs.Prelude.{refl, subst, append_assoc, drop_all, Token, Data, items_of, Point, tokens_of}
@@ -12,7 +12,7 @@ pub item_first : {X : Type 0} (xs : List X) (i : ℕ) (x : X) → i < length xs 
 item_first xs i x lt at = drop_more xs i x lt ∙ ap (λ y. y ∷ drop (i + 1) xs) (sym at)
 
 module _ {X : Type 0} (f : X → Data) where
-  -- the items that are left, and the bracket that closes them
+  -- the remaining items, and the closing bracket
   abbrev pub closing : List X → List Token
   closing xs = closing_items (items_of (map f xs))
 

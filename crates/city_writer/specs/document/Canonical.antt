@@ -17,14 +17,14 @@ transform_data f =
     object (put (codes "translate") (triple_data f.translate)
     (put (codes "scale") (triple_data f.scale) f.more))
 
--- the members of the top that a frame gives
+-- the members of a frame at the top
 abbrev pub frame_members : Frame → Members
 frame_members f =
     put (codes "transform") (transform_data f)
     (put (codes "version") (string (codes "2.0"))
     (put (codes "type") (string (codes "CityJSON")) f.extra))
 
--- the tree of a city whose points have these numbers
+-- the tree of a city, each point as its number in the pool
 abbrev pub numbered_tree : List Point → CityValue → Data
 numbered_tree pool c =
     object (put (codes "CityObjects") (objects_data pool (entries c.1))

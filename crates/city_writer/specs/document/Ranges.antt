@@ -1,5 +1,5 @@
--- Cities whose numbers the program's types hold. A city of the program always is such; one that a clause
--- makes up may not be.
+-- Cities with numbers in the range of the program's types. Every city of the program is in range; one made up in a
+-- clause may not be.
 use Rattle.std.specs.Prelude.{◌≡◌, ◌<◌, ◌^◌, List, true, length}
 use Rattle.std.specs.List.{list_all}
 use Rattle.city_model.specs.declared.frame.Frame.{Frame}

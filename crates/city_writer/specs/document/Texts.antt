@@ -10,8 +10,8 @@ use Rattle.city_writer.specs.internal.document.KeptMembers.{IsKeptCity}
 use Rattle.city_writer.specs.internal.tree.ReadsBack.{ReadsBack}
 use Rattle.city_writer.specs.tree.Tokens.{tokens_of}
 
--- the text is UTF-8, its tokens are those of the city's tree, and they are read as this tree; the kept members
--- of the city are ones that their places keep, and its numbers are in range
+-- the text is UTF-8; its tokens are those of the city's tree, and are read as this tree; the kept members of the city
+-- may be kept at their places, and its numbers are in range
 pub record IsTextOf (text : List ℕ) (city : CityValue) : Type 0 where
   pub tokens_are : tokens text ≡ tokens_of (tree_of city)
   pub utf8 : IsUtf8 text

@@ -1,13 +1,13 @@
--- Lists that several workers take in pieces.
+-- Lists in pieces for several workers.
 use Rattle.std.specs.Prelude.{◌≡◌, ◌++◌, ◌∷◌, [], ◌||◌, ◌&&◌, ℕ, List, Bool, true, false, cond, Option, Some, None}
 use Rattle.std.specs.Prelude.{IfSome, take, drop}
 
--- what is made of each piece is there, and the pieces are all that there is
+-- each piece has a result, and the pieces are the whole list
 abbrev pub EachPiece : {X A : Type 0} → ℕ → List X → List (Option A) → (List X → A → Type 0) → Type 0
 EachPiece len xs [] P = xs ≡ []
 EachPiece len xs (o ∷ os) P = IfSome o (P (take len xs)) × EachPiece len (drop len xs) os P
 
--- what was made, one after the other
+-- the results, one after the other
 abbrev pub joined : {A X : Type 0} → List (Option A) → (A → List X) → List X
 joined [] f = []
 joined (None ∷ os) f = joined os f
@@ -17,7 +17,7 @@ abbrev pub is_some_text : List ℕ → Bool
 is_some_text [] = false
 is_some_text (x ∷ xs) = true
 
--- texts one after the other, with a comma between those that have a byte, and before the first of them if so
+-- texts one after the other, with a comma between texts with bytes, and before the first of them if so
 abbrev pub joined_by_commas : {A : Type 0} → Bool → List (Option A) → (A → List ℕ) → List ℕ
 joined_by_commas after [] f = []
 joined_by_commas after (None ∷ os) f = joined_by_commas after os f

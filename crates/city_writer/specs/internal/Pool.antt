@@ -1,4 +1,4 @@
--- A pool that points are added to, one after another.
+-- A pool to which points are added, one after another.
 use Rattle.std.specs.Prelude.{List, [], ◌∷◌}
 use Rattle.city_model.specs.declared.object.Point.{Point}
 use Rattle.city_writer.specs.Pool.{with_point}

@@ -31,7 +31,7 @@ cause_name (Exists id) = codes "Exists"
 cause_name (BadAttributes id) = codes "BadAttributes"
 cause_name (Unexpected id) = codes "Unexpected"
 
--- what a cause names, and the name of its member: an object by its id, a mark by its name
+-- the member of a cause that names something: an object by its id, a mark by its name
 abbrev pub cause_member : Cause → Option (List ℕ × List ℕ)
 cause_member (NoObject id) = Some (codes "id", id)
 cause_member (TypeFixed id) = Some (codes "id", id)
@@ -60,13 +60,13 @@ outcome_name Outcome.Aborted = codes "aborted"
 outcome_name (Outcome.Refused i cause) = codes "refused"
 outcome_name (Outcome.NoMemory i) = codes "nomemory"
 
--- the members with the number of a refused command, the cause, and what it names
+-- the members with the number of a refused command, the cause, and the member of the cause
 abbrev pub put_refusal : ℕ → Cause → Members → Members
 put_refusal i cause ms =
     put_text (cause_member cause)
     (put (codes "cause") (string (cause_name cause)) (put (codes "at") (count_data i) ms))
 
--- the members with the command that ended the script and the cause, where the outcome names them
+-- the members with the command that ended the script and the cause, if the outcome names them
 abbrev pub put_ending : Outcome → Members → Members
 put_ending Outcome.Committed ms = ms
 put_ending Outcome.Aborted ms = ms
@@ -75,7 +75,7 @@ put_ending (Outcome.NoMemory i) ms = put (codes "at") (count_data i) ms
 
 -- ---- ends
 
--- which script ended, and when its last attempt began
+-- the script, and the begin of its last attempt
 abbrev pub heading : End → Members
 heading e =
     put (codes "since") (count_data e.since)

@@ -1,4 +1,4 @@
--- Vertices as they are written (CityJSON 2.0, section 2), and those whose numbers the program's types hold.
+-- Vertices as they are written (CityJSON 2.0, section 2), and the range of their numbers.
 use Rattle.std.specs.Prelude.{◌&&◌, List, [], ◌∷◌, Bool}
 use Rattle.serde_json.specs.Data.{Data}
 use Rattle.city_model.specs.declared.object.Point.{Point}

@@ -4,7 +4,7 @@ use Rattle.serde_json.specs.Data.{Data, array, number, Members, put}
 use Rattle.serde_json.specs.Find.{of_integer}
 use Rattle.serde_json.specs.View.{items_of}
 
--- an array of what is written for each
+-- an array with an item for each value
 abbrev pub list_data : {A : Type 0} → (A → Data) → List A → Data
 list_data f xs = array (items_of (map f xs))
 

@@ -1,5 +1,4 @@
--- Numbers that the program's types hold. A value of the program always has such; one that a clause
--- makes up may not.
+-- The range of the program's types. Every number of the program is in range; one made up in a clause may not be.
 use Rattle.std.specs.Prelude.{◌^◌, ◌&&◌, ◌==◌, ℤ, pos, negsuc, List, Bool, length, nat_lt}
 use Rattle.std.specs.List.{list_all}
 

@@ -1,4 +1,4 @@
--- The tokens that data is written as.
+-- The tokens of data as it is written.
 use Rattle.std.specs.Prelude.{List}
 use Rattle.json.specs.Token.{Token}
 use Rattle.json.specs.Tree.{json_tokens}

@@ -1,4 +1,4 @@
-//! Writes a city of which several workers write pieces.
+//! Writes a city in pieces, by several workers.
 ghost use Rattle.std.specs.Prelude.{◌≡◌, ◌++◌, ◌∷◌, [], ◌*◌, ◌<◌, ◌^◌, IfOk, IfSome, OnOk};
 ghost use Rattle.std.specs.Prelude.{codes, drop, false, is_some, take, true};
 ghost use Rattle.std.specs.Fork.{slice_chunk};
@@ -47,7 +47,7 @@ fn objects_from(city: &City, mut from: usize) -> Iter<'_, Id, Object>
     left
 }
 
-/// The points of a piece, each once; none where memory runs out.
+/// The points of a piece, each once; none if memory runs out.
 fn points_of_piece(
     alloc: Global,
     seed: u64,
@@ -83,7 +83,7 @@ fn points_of_pieces<R: Threads + Sync>(
     Ok(pieces)
 }
 
-/// The numbers of points, which are added to a pool.
+/// Adds points to a pool, and gives their numbers.
 fn numbers_of_points(
     alloc: Global,
     points: &[Point],
@@ -99,7 +99,7 @@ fn numbers_of_points(
     Ok(numbers)
 }
 
-/// The numbers of the points of each piece, which are added to a pool.
+/// Adds the points of each piece to a pool, and gives their numbers.
 fn numbers_of_pieces(
     alloc: Global,
     pieces: Vec<Option<Vec<Point>>>,
@@ -173,7 +173,7 @@ fn texts_of_pieces<R: Threads + Sync>(
     Ok(texts)
 }
 
-/// What comes before the first object.
+/// Everything before the first object.
 fn append_head(bytes: Vec<u8>, kept: &mut KeptMembers<'_>) -> Result<Vec<u8>, OutOfMemory>
     ensures head { IfOk result (λ b. IsAppended bytes.items (head_tokens kept.old) b.items) }
     ensures left { OnOk result (kept.new ≡ members_from (codes "CityObjects") kept.old) }
@@ -209,7 +209,7 @@ fn append_pieces(mut bytes: Vec<u8>, texts: Vec<Option<Vec<u8>>>) -> Result<Vec<
     Ok(bytes)
 }
 
-/// What comes behind the last object.
+/// Everything behind the last object.
 fn append_rest(
     bytes: Vec<u8>,
     frame: &Frame,
@@ -230,10 +230,10 @@ fn append_rest(
     Ok(bytes)
 }
 
-/// The bytes, and after them the canonical text of a city, of whose objects a thread writes each `len`.
+/// The bytes, and after them the canonical text of a city, without a newline. Each thread writes `len` objects.
 ///
-/// Points are numbered first, piece by piece, since their numbers are in the order in which they are met. Then a
-/// worker meets those of its piece in the same order as they were numbered.
+/// Points are numbered first, piece by piece: a point's number depends on the points before it. Then each worker
+/// meets the points of its piece in the order of their numbering.
 pub fn append_in_pieces<R: Threads + Sync>(
     rt: &R,
     alloc: Global,

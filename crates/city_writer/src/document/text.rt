@@ -1,4 +1,4 @@
-//! Writes a city, and what every city has beside its objects.
+//! Writes a city: its objects, and the other members of its top.
 ghost use Rattle.std.specs.Prelude.{◌≡◌, ◌++◌, [], OnOk, true};
 ghost use Rattle.city_model.specs.Kept.{kept_at_transform};
 ghost use Rattle.city_writer.specs.document.Canonical.{transform_data, tree_of};
@@ -43,7 +43,7 @@ fn write_transform(frame: &Frame, out: &mut Writer) -> Result<(), OutOfMemory>
     kept.write_last(out)
 }
 
-/// Writes the members of a city behind its objects, and the brace that closes it.
+/// Writes the members of a city behind its objects, and the closing brace.
 pub fn write_rest(
     frame: &Frame,
     kept: &mut KeptMembers<'_>,
@@ -69,7 +69,7 @@ pub fn write_rest(
     kept.write_last(out)
 }
 
-/// Writes a city, whose points get numbers as they are met.
+/// Writes a city, and numbers its points as they are met.
 fn write_numbered(
     city: &City,
     pool: &mut PointNumbers<'_>,
@@ -91,7 +91,7 @@ fn write_numbered(
     write_rest(frame, &mut kept, pool.as_slice(), out)
 }
 
-/// Writes a city, whose points are hashed by the seed.
+/// Writes a city. Its points are hashed by the seed.
 pub fn write_members(
     alloc: Global,
     seed: u64,

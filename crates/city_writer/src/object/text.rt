@@ -95,8 +95,7 @@ fn write_relatives(
     write_ids(ids, out)
 }
 
-/// Writes an object, each point as its number. Points that the pool doesn't have are added
-/// as they are met.
+/// Writes an object, each point as its number. New points are added to the pool as they are met.
 #[tactic(auto, unfolding(crate::specs::inside::document::KeptMembers::is_kept_object))]
 pub fn write_object(
     object: &Object,
@@ -123,7 +122,7 @@ pub fn write_object(
     kept.write_last(out)
 }
 
-/// Adds the points of an object to a pool, in the order in which they are met where it is written.
+/// Adds the points of an object to a pool, in the order of `write_object`.
 fn add_points(object: &Object, pool: &mut VertexPool) -> Result<(), OutOfMemory>
     ensures { OnOk result (pool.new ≡ with_points pool.old (object_points object.now)) }
 {
@@ -131,7 +130,7 @@ fn add_points(object: &Object, pool: &mut VertexPool) -> Result<(), OutOfMemory>
     body.geometry.get().add_points(pool)
 }
 
-/// Adds the points of the first `count` of these objects, or of all where there are fewer, to a pool.
+/// Adds the points of the first `count` of these objects to a pool, or of all if there are fewer.
 pub fn add_first(
     mut left: Iter<'_, Id, Object>,
     mut count: usize,
@@ -149,7 +148,7 @@ pub fn add_first(
     Ok(())
 }
 
-/// Writes the first `count` of these objects, or all where there are fewer, each under its id.
+/// Writes the first `count` of these objects, or all if there are fewer, each under its id.
 pub fn write_first(
     mut left: Iter<'_, Id, Object>,
     mut count: usize,

@@ -36,7 +36,7 @@ fn cause_name(cause: &Cause) -> &'static str
     }
 }
 
-/// What a cause names, and the name of its member: an object by its id, a mark by its name.
+/// The member of a cause that names something: an object by its id, a mark by its name.
 fn cause_member(cause: &Cause) -> Option<(&'static str, &str)>
     ensures { option_map (λ m. (m.0.now, m.1.now)) result ≡ cause_member cause.now }
 {
@@ -58,7 +58,7 @@ fn cause_member(cause: &Cause) -> Option<(&'static str, &str)>
     }
 }
 
-/// Writes what a cause names, where it names anything.
+/// Writes the member of a cause that names something, if there is one.
 fn write_named(cause: &Cause, out: &mut Writer) -> Result<(), OutOfMemory>
     ensures before { OnOk result (out.new.before ≡ out.old.before) }
     ensures tokens { OnOk result (out.new.tokens
@@ -73,7 +73,7 @@ fn write_named(cause: &Cause, out: &mut Writer) -> Result<(), OutOfMemory>
     }
 }
 
-/// Writes the number of the command that was refused, the cause, and what it names.
+/// Writes the number of the refused command, the cause, and the member of the cause.
 fn write_refusal(at: usize, cause: &Cause, out: &mut Writer) -> Result<(), OutOfMemory>
     ensures before { OnOk result (out.new.before ≡ out.old.before) }
     ensures tokens { OnOk result (out.new.tokens
@@ -98,7 +98,7 @@ fn outcome_name(outcome: &Outcome) -> &'static str
     }
 }
 
-/// Writes what an outcome names of the command that ended the script.
+/// Writes the members of an outcome about the command that ended the script.
 fn write_ending(outcome: &Outcome, out: &mut Writer) -> Result<(), OutOfMemory>
     ensures before { OnOk result (out.new.before ≡ out.old.before) }
     ensures tokens { OnOk result (out.new.tokens

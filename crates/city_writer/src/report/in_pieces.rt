@@ -1,4 +1,4 @@
-//! Writes a report of which several workers write pieces.
+//! Writes a report in pieces, by several workers.
 ghost use Rattle.std.specs.Prelude.{◌≡◌, ◌<◌, IfOk, IfSome, OnOk, is_some, true};
 ghost use Rattle.std.specs.List.{list_all};
 ghost use Rattle.city_writer.specs.internal.Pieces.{EachPiece, joined};
@@ -30,7 +30,7 @@ fn reports_of_pieces<R: Threads + Sync>(
     Ok(reports)
 }
 
-/// The reports, one after the other; none where memory runs out.
+/// The reports, one after the other. A missing one means that memory ran out.
 fn joined(alloc: Global, reports: Vec<Option<Vec<u8>>>) -> Result<Vec<u8>, OutOfMemory>
     ensures text { IfOk result (λ b. b.items ≡ joined reports.items (λ report. report.items)) }
     ensures all { OnOk result (list_all is_some reports.items ≡ true) }
@@ -45,7 +45,7 @@ fn joined(alloc: Global, reports: Vec<Option<Vec<u8>>>) -> Result<Vec<u8>, OutOf
     Ok(all)
 }
 
-/// The report, as `seeded_report` gives it, of whose ends a thread writes each `len`.
+/// The report of `seeded_report`. Each thread writes `len` ends.
 pub fn report_in_pieces<R: Threads + Sync>(
     rt: &R,
     alloc: Global,

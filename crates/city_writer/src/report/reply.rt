@@ -13,7 +13,7 @@ use city_model::object::Object;
 use json::Writer;
 use std::alloc::Global;
 
-/// Writes an object with its own vertices, which it adds to a pool without points.
+/// Writes an object with its own vertices. The pool has no points at first.
 fn write_numbered(
     object: &Object,
     pool: &mut PointNumbers<'_>,
@@ -47,7 +47,7 @@ fn write_found(
     write_numbered(object, &mut pool, out)
 }
 
-/// Writes the reply to a read that found an object.
+/// Writes the reply to a read of an existing object.
 fn write_found_reply(
     alloc: Global,
     seed: u64,

@@ -30,7 +30,7 @@ pub fn write_report(alloc: Global, ends: &[End]) -> Result<Vec<u8>, OutOfMemory>
     seeded_report(alloc, FIXED_SEED, ends)
 }
 
-/// The report, as `write_report` gives it; the points of what was found are hashed by the seed.
+/// The report of `write_report`. The points of objects read are hashed by the seed.
 #[tactic(auto, unfolding(crate::specs::report::Reports::report_text))]
 pub fn seeded_report(alloc: Global, seed: u64, ends: &[End]) -> Result<Vec<u8>, OutOfMemory>
     ensures text { IfOk result (λ b. b.items ≡ report_text ends.now) }

@@ -1,4 +1,4 @@
-//! Writes what names points, each point as its number.
+//! Writes geometries, each point as its number.
 ghost use Rattle.std.specs.Prelude.{◌≡◌, ◌++◌, ◌∷◌, [], List, OnOk, true, Bool, flat_map};
 ghost use Rattle.std.specs.List.{list_all};
 ghost use Rattle.serde_json.specs.Data.{Data};
@@ -21,7 +21,7 @@ use city_model::sequence::Sequence;
 use city_model::shape::Bounds;
 use json::Writer;
 
-/// What is written as JSON, each point as its number in a pool.
+/// Written as JSON, each point as its number in a pool.
 pub trait Written {
     ghost points: { Self → List p.Point };
 
@@ -29,7 +29,7 @@ pub trait Written {
 
     ghost is_kept: { Self → Bool };
 
-    /// Writes the value. Points that the pool doesn't have are added as they are met.
+    /// Writes the value. New points are added to the pool as they are met.
     fn write(&self, pool: &mut PointNumbers<'_>, out: &mut Writer) -> Result<(), OutOfMemory>
         ensures pool { OnOk result (pool.new ≡ with_points pool.old (points self.now)) }
         ensures before { OnOk result (out.new.before ≡ out.old.before) }
@@ -38,7 +38,7 @@ pub trait Written {
         ensures reads { OnOk result (ReadsBackNumbered (λ ps. written ps self.now)) }
         ensures kept { OnOk result (is_kept self.now ≡ true) };
 
-    /// Adds the points of the value to a pool, in the order in which `write` meets them.
+    /// Adds the points of the value to a pool, in the order of `write`.
     fn add_points(&self, pool: &mut VertexPool) -> Result<(), OutOfMemory>
         ensures { OnOk result (pool.new ≡ with_points pool.old (points self.now)) };
 }

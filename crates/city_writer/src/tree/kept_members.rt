@@ -1,4 +1,4 @@
-//! Writes the kept members of an object among those of its own.
+//! Writes the kept members of an object among its own.
 ghost use Rattle.std.specs.Prelude.{◌≡◌, ◌++◌, ◌∷◌, [], MatchOption, OnOk, true};
 ghost use Rattle.json.specs.Token.{key, end_object};
 ghost use Rattle.serde_json.specs.Data.{no_members, member};
@@ -15,7 +15,7 @@ use serde_json::{Map, Value};
 use std::collections::btree_map::Iter;
 use std::marker::Model;
 
-/// The kept members of an object that aren't written yet, by their names.
+/// The unwritten kept members of an object, by their names.
 ///
 /// Most objects keep one or none, so the calls are short, and are inlined.
 #[derive(Drop)]
@@ -46,7 +46,7 @@ impl<'a> Model for KeptMembers<'a> {
 }
 
 impl<'a> KeptMembers<'a> {
-    /// All members of a map, whose numbers are all `i64`. Doesn't allocate.
+    /// All members of a map of `i64` numbers. Doesn't allocate.
     pub fn new(map: &'a Map<String, Value>) -> Self
         requires integral { members_integral (members_view map.now.entries) ≡ true }
         ensures { result ≡ members_view map.now.entries }
@@ -56,7 +56,7 @@ impl<'a> KeptMembers<'a> {
         KeptMembers { first, others }
     }
 
-    /// Whether there is one left whose name comes before another name.
+    /// Whether one is left with a name before this one.
     #[inline(always)]
     fn begin_before(&self, name: &str) -> bool
         ensures { result ≡ begins_before name.now self.now }
@@ -67,7 +67,7 @@ impl<'a> KeptMembers<'a> {
         }
     }
 
-    /// Takes the first of those that are left.
+    /// Takes the first one left.
     #[inline(always)]
     fn take(&mut self) -> Option<(&'a str, &'a Value)>
         ensures { MatchOption result ((self.old ≡ no_members) × (self.new ≡ no_members))
@@ -78,7 +78,7 @@ impl<'a> KeptMembers<'a> {
         Some((name.as_str(), member))
     }
 
-    /// Takes the first of those that are left, if its name comes before another name.
+    /// Takes the first one left, if its name comes before this one.
     #[inline(always)]
     fn take_before(&mut self, name: &str) -> Option<(&'a str, &'a Value)>
         ensures { MatchOption result
@@ -96,7 +96,7 @@ impl<'a> KeptMembers<'a> {
         }
     }
 
-    /// Writes the members whose names come before a name, and leaves the others.
+    /// Writes the members before a name, and leaves the others.
     #[inline(always)]
     pub fn write_before(&mut self, name: &str, out: &mut Writer) -> Result<(), OutOfMemory>
         ensures before { OnOk result (out.new.before ≡ out.old.before) }
@@ -112,7 +112,7 @@ impl<'a> KeptMembers<'a> {
         Ok(())
     }
 
-    /// Writes the members whose names come before a name, and the name.
+    /// Writes the members before a name, and the name.
     #[inline(always)]
     pub fn write_name(&mut self, name: &str, out: &mut Writer) -> Result<(), OutOfMemory>
         ensures before { OnOk result (out.new.before ≡ out.old.before) }
@@ -125,7 +125,7 @@ impl<'a> KeptMembers<'a> {
         out.key(name)
     }
 
-    /// Writes all members that are left, and the brace that closes the object.
+    /// Writes all members left, and the closing brace.
     #[inline(always)]
     pub fn write_last(&mut self, out: &mut Writer) -> Result<(), OutOfMemory>
         ensures before { OnOk result (out.new.before ≡ out.old.before) }

@@ -1,4 +1,4 @@
-//! Writes the JSON values that are kept.
+//! Writes kept JSON values.
 ghost use Rattle.std.specs.Prelude.{◌≡◌, ◌++◌, OnOk, true};
 ghost use Rattle.serde_json.specs.Data.{number};
 ghost use Rattle.serde_json.specs.View.{view, number_view, items_view, members_view};
@@ -13,7 +13,7 @@ use city_model::OutOfMemory;
 use json::Writer;
 use serde_json::{Map, Number, Value};
 
-/// Writes a number that is an `i64`.
+/// Writes an `i64` number.
 fn write_number(n: &Number, out: &mut Writer) -> Result<(), OutOfMemory>
     requires integral { is_integral (number (number_view n.now)) ≡ true }
     ensures before { OnOk result (out.new.before ≡ out.old.before) }
@@ -28,7 +28,7 @@ fn write_number(n: &Number, out: &mut Writer) -> Result<(), OutOfMemory>
     }
 }
 
-/// Writes a value whose numbers are all `i64`.
+/// Writes a value of `i64` numbers.
 #[cycle(write)]
 pub fn write_value(value: &Value, out: &mut Writer) -> Result<(), OutOfMemory>
     requires integral { is_integral (view value.now) ≡ true }
@@ -52,7 +52,7 @@ pub fn write_value(value: &Value, out: &mut Writer) -> Result<(), OutOfMemory>
     }
 }
 
-/// Writes the items, and the bracket that closes them.
+/// Writes the items, and the closing bracket.
 #[cycle(write)]
 fn write_items(items: &Vec<Value>, out: &mut Writer) -> Result<(), OutOfMemory>
     requires integral { items_integral (items_view items.now.items) ≡ true }
@@ -67,7 +67,7 @@ fn write_items(items: &Vec<Value>, out: &mut Writer) -> Result<(), OutOfMemory>
     out.end_array()
 }
 
-/// Writes the members, and the brace that closes them.
+/// Writes the members, and the closing brace.
 #[cycle(write)]
 fn write_members(members: &Map<String, Value>, out: &mut Writer) -> Result<(), OutOfMemory>
     requires integral { members_integral (members_view members.now.entries) ≡ true }

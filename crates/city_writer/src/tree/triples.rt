@@ -32,7 +32,7 @@ pub fn write_three(x: i64, y: i64, z: i64, out: &mut Writer) -> Result<(), OutOf
     out.end_array()
 }
 
-/// The same, of numbers that stand in an array.
+/// The same, from an array of numbers.
 pub fn write_triple(triple: &[i64; 3], out: &mut Writer) -> Result<(), OutOfMemory>
     ensures before { OnOk result (out.new.before ≡ out.old.before) }
     ensures tokens { OnOk result (out.new.tokens

@@ -1,5 +1,5 @@
--- Cities and objects whose kept members are all ones that their places keep. A value of the program is
--- always like that; a value that a clause makes up may not be.
+-- Cities and objects with no kept members but ones that may be kept at their places. Every value of the program is like
+-- this; one made up in a clause may not be.
 use Rattle.std.specs.Prelude.{◌≡◌, ◌&&◌, Bool, true}
 use Rattle.std.specs.List.{list_all}
 use Rattle.std.specs.FinMap.{entries}

@@ -1,4 +1,4 @@
--- A city that several workers write in pieces.
+-- A city written in pieces by several workers.
 use Rattle.std.specs.Prelude.{◌≡◌, ◌<◌, ◌^◌, ◌++◌, ◌∷◌, [], List, ℕ, codes, length, Some, true}
 use Rattle.json.specs.Token.{Token, begin_object, key}
 use Rattle.serde_json.specs.Data.{Members, string}
@@ -16,13 +16,13 @@ use Rattle.city_writer.specs.internal.tree.PartTokens.{tokens_of_members}
 use Rattle.city_writer.specs.internal.tree.ReadsBack.{MembersReadBack}
 use Rattle.city_writer.specs.shape.Vertices.{vertices_data}
 
--- the members that a city has of its own behind its objects
+-- the own members of a city behind its objects
 abbrev pub frame_own : List Point → Frame → Own
 frame_own pool f =
     (codes "transform", Some (transform_data f)) ∷ (codes "type", Some (string (codes "CityJSON")))
     ∷ (codes "version", Some (string (codes "2.0"))) ∷ (codes "vertices", Some (vertices_data pool)) ∷ []
 
--- what comes before the first object, where these members are kept
+-- the tokens before the first object, if these members are kept
 abbrev pub head_tokens : Members → List Token
 head_tokens kept =
     ((begin_object ∷ []) ++ (tokens_of_members (members_before (codes "CityObjects") kept)
@@ -32,13 +32,13 @@ head_tokens kept =
 abbrev pub IsListed : Entries → List Point → Type 0
 IsListed es ps = ps ≡ with_points [] (entry_points es)
 
--- a text has the members of a piece, whose points have these numbers
+-- a text has the members of a piece, each point as its number in the pool
 pub record IsWritten (pool : List Point) (es : Entries) (text : List ℕ) : Type 0 where
   pub printed : IsPrinted text (tokens_of_members (in_turn pool es))
   pub reads : MembersReadBack (in_turn pool es)
   pub kept : are_kept_objects es ≡ true
 
--- the same of a piece whose points all have numbers, which the program's types hold
+-- the same if all points of the piece have numbers, in the range of the program's types
 abbrev pub IsWrittenIfKnown : List Point → Entries → List ℕ → Type 0
 IsWrittenIfKnown pool es text =
     with_points pool (entry_points es) ≡ pool → length pool < 2 ^ 63 → IsWritten pool es text

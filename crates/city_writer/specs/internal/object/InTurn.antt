@@ -6,7 +6,7 @@ use Rattle.city_model.specs.CityMap.{Entries}
 use Rattle.city_writer.specs.Pool.{object_points}
 use Rattle.city_writer.specs.object.Canonical.{object_data}
 
--- the members that they are written as, each under its id
+-- their members as they are written, each under its id
 abbrev pub in_turn : List Point → Entries → Members
 in_turn pool [] = no_members
 in_turn pool (e ∷ es) = member e.0 (object_data pool e.1) (in_turn pool es)

@@ -1,10 +1,10 @@
--- Texts that end with what a writer has written.
+-- Texts with an end printed by a writer.
 use Rattle.std.specs.Prelude.{◌≡◌, ◌++◌, ℕ, List}
 use Rattle.std.specs.Str.{IsUtf8}
 use Rattle.json.specs.Token.{Token}
 use Rattle.json.specs.Print.{print, ArePrintableOrBad}
 
--- a text that a writer writes of tokens
+-- the text of tokens, printed by a writer
 pub record IsPrinted (text : List ℕ) (ts : List Token) : Type 0 where
   pub text_is : text ≡ print ts
   pub printable : ArePrintableOrBad ts

@@ -1,11 +1,11 @@
--- Data that is read again of what is written for it.
+-- Data whose tokens are read as the same data.
 use Rattle.std.specs.Prelude.{◌≡◌, ◌<◌, ◌^◌, List, Option, Some, None, length}
 use Rattle.serde_json.specs.Data.{Data, Items, no_items, item, Members, no_members, member}
 use Rattle.serde_json.specs.Read.{of_json}
 use Rattle.serde_json.specs.Written.{outline}
 use Rattle.city_model.specs.declared.object.Point.{Point}
 
--- what is written for the data is read as the data
+-- the outline of the data is read as the data
 pub record ReadsBack (d : Data) : Type 0 where
   pub same : of_json (outline d) ≡ Some d
 

@@ -2,7 +2,7 @@ use Rattle.city_writer.proofs.Prelude.{◌≡◌, ◌++◌, false, into_iter_ite
 use Rattle.city_writer.specs.internal.Pieces.{joined_by_commas}
 use Rattle.city_writer.proofs.document.in_pieces.append_pieces.Given as goal
 
--- what is left ends the text
+-- the rest ends the text
 abbrev pub invariant-loop-text : goal.invariant-loop-text
 invariant-loop-text l =
     (l.fn.bytes.items ++ joined_by_commas false l.fn.texts.items (λ text. text.items) ≡ l.bytes.items

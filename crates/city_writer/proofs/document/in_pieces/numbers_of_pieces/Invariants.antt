@@ -2,7 +2,7 @@ use Rattle.city_writer.proofs.Prelude.{◌≡◌, into_iter_items, is_some, list
 use Rattle.city_writer.specs.internal.Pieces.{joined}
 use Rattle.city_writer.proofs.document.in_pieces.numbers_of_pieces.Given as goal
 
--- what is left leads to the pool of all
+-- the rest leads to the pool of all
 abbrev pub invariant-loop-piece : goal.invariant-loop-piece
 invariant-loop-piece l =
     (with_points l.initial.pool (joined l.fn.pieces.items (λ ps. ps.items)) ≡ with_points l.pool

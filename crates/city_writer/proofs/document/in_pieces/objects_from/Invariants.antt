@@ -1,7 +1,7 @@
 use Rattle.city_writer.proofs.Prelude.{◌≡◌, drop}
 use Rattle.city_writer.proofs.document.in_pieces.objects_from.Given as goal
 
--- what has to be passed yet of what is left
+-- the objects still to pass
 abbrev pub invariant-passed : goal.invariant-passed
 invariant-passed l = drop l.from l.left ≡ drop l.initial.from l.initial.left
 

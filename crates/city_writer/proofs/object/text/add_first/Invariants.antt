@@ -3,7 +3,7 @@ use Rattle.std.proofs.Common.{take}
 use Rattle.city_writer.specs.internal.object.InTurn.{entry_points}
 use Rattle.city_writer.proofs.object.text.add_first.Given as goal
 
--- what is left leads to the pool of all
+-- the rest leads to the pool of all
 abbrev pub invariant-objects : goal.invariant-objects
 invariant-objects l =
     with_points l.initial.pool (entry_points (take l.initial.count l.initial.left)) ≡ with_points l.pool

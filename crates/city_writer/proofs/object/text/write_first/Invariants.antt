@@ -5,7 +5,7 @@ use Rattle.std.proofs.Common.{◌^◌, take}
 use Rattle.city_writer.specs.internal.object.InTurn.{in_turn, entry_points}
 use Rattle.city_writer.proofs.object.text.write_first.Given as goal
 
--- what is left leads to the pool of all, and is written behind what is written
+-- the rest leads to the pool of all, and is written behind the others
 abbrev pub invariant-objects : goal.invariant-objects
 invariant-objects l =
     let all = take l.initial.count l.initial.left in

@@ -2,7 +2,7 @@ use Rattle.city_writer.proofs.Prelude.{◌≡◌, ◌++◌, string, ids_left}
 use Rattle.city_writer.proofs.tree.WrittenItems.{closing, ReadBack}
 use Rattle.city_writer.proofs.object.text.write_ids.Given as goal
 
--- what is left ends the array
+-- the rest ends the array
 abbrev pub invariant-loop-id : goal.invariant-loop-id
 invariant-loop-id l =
     let all = ids_left l.fn.ids in

@@ -15,7 +15,7 @@ module _ (name outcome replies script since : Data) where
   own = (codes "name", Some name) ∷ (codes "outcome", Some outcome) ∷ (codes "replies", Some replies)
       ∷ (codes "script", Some script) ∷ (codes "since", Some since) ∷ []
 
-  -- what an outcome names comes before all others
+  -- the members of an outcome come before all others
   ending_first : (o : Outcome)
       → closing_members (put_ending o (puts own no_members)) ≡ tokens_of_members (put_ending o no_members)
       ++ closing_members (puts own no_members)

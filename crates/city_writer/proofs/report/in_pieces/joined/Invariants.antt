@@ -2,7 +2,7 @@ use Rattle.city_writer.proofs.Prelude.{◌≡◌, ◌++◌, into_iter_items, is_
 use Rattle.city_writer.specs.internal.Pieces.{joined}
 use Rattle.city_writer.proofs.report.in_pieces.joined.Given as goal
 
--- what is left ends the report
+-- the rest ends the report
 abbrev pub invariant-loop-report : goal.invariant-loop-report
 invariant-loop-report l =
     (joined l.fn.reports.items (λ report. report.items) ≡ l.all.items

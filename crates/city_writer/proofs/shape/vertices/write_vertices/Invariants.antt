@@ -2,7 +2,7 @@ use Rattle.city_writer.proofs.Prelude.{◌≡◌, ◌++◌, drop, list_all, vert
 use Rattle.city_writer.proofs.tree.WrittenItems.{closing, ReadBack}
 use Rattle.city_writer.proofs.shape.vertices.write_vertices.Given as goal
 
--- what is left ends the array
+-- the rest ends the array
 abbrev pub invariant-loop-point : goal.invariant-loop-point
 invariant-loop-point l =
     let left = drop l.point-index l.points in

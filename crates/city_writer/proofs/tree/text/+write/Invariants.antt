@@ -2,7 +2,7 @@ use Rattle.city_writer.proofs.Prelude.{◌≡◌, ◌++◌, drop, items_view, me
 use Rattle.city_writer.proofs.Prelude.{closing_items, closing_members, ItemsReadBack, MembersReadBack}
 use Rattle.city_writer.proofs.tree.text.+write.Given as goal
 
--- what is left ends the array
+-- the rest ends the array
 abbrev pub invariant-write_items-loop-item : goal.invariant-write_items-loop-item
 invariant-write_items-loop-item l =
     let all = items_view l.item-items in

@@ -3,7 +3,7 @@ use Rattle.std.proofs.Common.{◌^◌}
 use Rattle.city_writer.proofs.tree.WrittenItems.{closing, ReadBack}
 use Rattle.city_writer.proofs.shape.text.SequenceWritten.write.Given as goal
 
--- what is left leads to the pool of all, and ends the array
+-- the rest leads to the pool of all, and ends the array
 abbrev pub invariant-loop-item : goal.invariant-loop-item
 invariant-loop-item g l =
     let left = drop l.item-index l.items in
