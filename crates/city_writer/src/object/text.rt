@@ -96,7 +96,7 @@ fn write_relatives(
 }
 
 /// Writes an object, each point as its number. New points are added to the pool as they are met.
-#[tactic(auto, unfolding(crate::specs::inside::document::KeptMembers::is_kept_object))]
+#[tactic(auto, unfolding(crate::specs::internal::document::KeptMembers::is_kept_object))]
 pub fn write_object(
     object: &Object,
     pool: &mut PointNumbers<'_>,

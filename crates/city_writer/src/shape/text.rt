@@ -130,7 +130,7 @@ impl Written for Geometry {
 
     ghost is_kept = { is_kept_geometry };
 
-    #[tactic(auto, unfolding(crate::specs::inside::document::KeptMembers::is_kept_geometry))]
+    #[tactic(auto, unfolding(crate::specs::internal::document::KeptMembers::is_kept_geometry))]
     fn write(&self, pool: &mut PointNumbers<'_>, out: &mut Writer) -> Result<(), OutOfMemory> {
         let members = self.extra.map();
         let mut kept = KeptMembers::new(members);
