@@ -12,7 +12,7 @@ use Rattle.city_doc.specs.script.Faults.{HasAt, IsBefore, IsFirstAt, PartsFault,
 use Rattle.city_doc.specs.internal.script.Searches.{unless}
 use Rattle.city_doc.proofs.script.FirstAt.{first_at-is, first_at-none}
 
-unless_some : {A B : Type 0} (o : Option A) (y z : B) → unless o y ≡ Some z → (o ≡ None) × (z ≡ y)
+pub unless_some : {A B : Type 0} (o : Option A) (y z : B) → unless o y ≡ Some z → (o ≡ None) × (z ≡ y)
 unless_some o y z h = grind arith
 
 unless_none : {A B : Type 0} (o : Option A) (y : B) → unless o y ≡ None → o ≡ None → ⊥

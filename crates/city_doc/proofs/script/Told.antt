@@ -22,6 +22,7 @@ use Rattle.city_doc.specs.internal.script.Told.{only_where, bad_command, bad_ver
 use Rattle.city_doc.specs.internal.script.Searches.{unless}
 use Rattle.city_doc.proofs.FaultLists.{listed_parts, listed_first, listed_last, ordered_append, those_alike, those_or}
 use Rattle.city_doc.proofs.FaultLists.{one_alone, none_there}
+use Rattle.city_doc.proofs.script.FirstFaults.{unless_some}
 
 -- ---- items with numbers
 
@@ -73,9 +74,6 @@ where_some : (b : Bool) (g f : ScriptFault) → only_where b g ≡ Some f → (b
 where_some b g f h = grind arith
 
 -- ---- items without the form of a script
-
-unless_some : {A B : Type 0} (o : Option A) (y z : B) → unless o y ≡ Some z → (o ≡ None) × (z ≡ y)
-unless_some o y z h = grind arith
 
 unless_none : {A B : Type 0} (o : Option A) (y : B) → o ≡ None → unless o y ≡ Some y
 unless_none o y h = rw h refl

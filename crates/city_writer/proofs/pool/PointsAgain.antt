@@ -12,11 +12,8 @@ use Rattle.city_writer.proofs.EachPiece.{EachMade}
 use Rattle.city_writer.specs.internal.document.Pieces.{IsListed}
 use Rattle.city_writer.specs.internal.object.InTurn.{entry_points}
 use Rattle.city_writer.proofs.pool.NumberedPoints.{is_in, are_in}
-use Rattle.city_writer.proofs.pool.Repeats.{is_new, same_point-alike, with_points-is, pool_is_without_repeats}
+use Rattle.city_writer.proofs.pool.Repeats.{differs, is_new, same_point-alike, with_points-is, pool_is_without_repeats}
 use Rattle.city_writer.proofs.pool.Walks.{with_points-append}
-
-abbrev differs : Point → Point → Bool
-differs p q = not (same_point p q)
 
 filter_twice : (f : Point → Bool) (xs : List Point) → filter f (filter f xs) ≡ filter f xs
 filter_twice f [] = refl

@@ -27,7 +27,7 @@ same_point-alike p q h = fun_ext (λ r. same_point-congr p q r h)
 abbrev pub is_new : List Point → Point → Bool
 is_new pool q = not (list_any (same_point q) pool)
 
-abbrev differs : Point → Point → Bool
+abbrev pub differs : Point → Point → Bool
 differs p q = not (same_point p q)
 
 filter_two : {X : Type 0} (f g h : X → Bool) → ((x : X) → h x ≡ (g x && f x)) → (xs : List X)
