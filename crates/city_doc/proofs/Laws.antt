@@ -6,7 +6,7 @@ pub use Rattle.city_tokens.proofs.Laws.{object_is, at_listed}
 pub use Rattle.city_writer.proofs.tree.Integers.{text_of_integer}
 pub use Rattle.city_writer.proofs.pool.KeptNumbers.{same_itself}
 pub use Rattle.city_writer.proofs.pool.NumberedPoints.{is_in, are_in, points_in_pool, parts_in}
-pub use Rattle.city_doc.proofs.pool.PointsRead.{nested_read}
+pub use Rattle.city_doc.proofs.shape.PointsRead.{nested_read}
 pub use Rattle.city_writer.specs.internal.object.InTurn.{in_turn}
 pub use Rattle.city_writer.proofs.object.WrittenObjects.{written_in_turn}
 pub use Rattle.city_doc.proofs.document.LawfulTrees.{HasFrameParts, frame_parts, StandsFor, stands_for}

@@ -12,7 +12,7 @@ use Rattle.city_writer.specs.internal.document.KeptMembers.{is_kept_geometry, is
 use Rattle.city_doc.proofs.document.KeptMembers.{kept_all, left_put, left_lacking, left_put_list}
 use Rattle.city_doc.proofs.tree.ListsRead.{put_list_read, all_pass}
 use Rattle.city_writer.proofs.pool.NumberedPoints.{are_in, parts_in}
-use Rattle.city_doc.proofs.pool.PointsRead.{shape_read}
+use Rattle.city_doc.proofs.shape.PointsRead.{shape_read}
 use Rattle.city_doc.proofs.tree.PutLists.{get_member-put_list_apart}
 use Rattle.city_writer.proofs.document.Lacking.{object_members_lacking}
 

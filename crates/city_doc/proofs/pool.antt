@@ -1,2 +1,0 @@
--- Points read by their numbers.
-pub mod PointsRead
