@@ -29,8 +29,8 @@ const OBJECT_BYTES: usize = 1024;
 /// The canonical text of a city, without a newline.
 ///
 /// The text is JSON and stands for the same city, unless kept members nest so deep that the text has more
-/// than 127 levels, the most of a reader. Those of a city read from a text don't. Any city read from the text
-/// is written as the same bytes again. The text of a lawful city has no fault unless it is too long.
+/// than the 127 levels of the reader. Those of a city read from a text don't. Any city read from the text is
+/// written as the same bytes again. The text of a lawful city has no fault unless it is too long.
 pub fn write_city(alloc: Global, city: &City) -> Result<Vec<u8>, OutOfMemory>
     ensures text { IfOk result (λ b. b.items ≡ city_text city.now) }
     ensures read_again { IfOk result (λ b. depth (tree_of city.now) ≤ max_depth
@@ -51,6 +51,7 @@ pub fn write_city(alloc: Global, city: &City) -> Result<Vec<u8>, OutOfMemory>
 /// The bytes, and after them the canonical text of a city, without a newline.
 ///
 /// The text is that of `write_city`, with the same promises. Points are hashed by the seed.
+#[tactic(auto, using(crate::proofs::document::CanonicalCities::city_canonical))]
 pub fn append_city(
     alloc: Global,
     seed: u64,
@@ -69,6 +70,7 @@ pub fn append_city(
 ///
 /// The text is that of `append_city`, written in pieces by so many threads. A city too small for two pieces is written
 /// at once.
+#[tactic(auto, using(crate::proofs::document::CanonicalCities::city_canonical))]
 pub fn append_city_by<R: Threads + Sync>(
     rt: &R,
     alloc: Global,
