@@ -1,2 +1,3 @@
 pub mod EachPiece
+pub mod Laws
 pub mod Prelude

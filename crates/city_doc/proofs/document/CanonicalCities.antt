@@ -7,7 +7,7 @@ use Rattle.city_doc.specs.document.CanonicalTexts.{IsCanonicalText}
 use Rattle.city_doc.proofs.document.CityNests.{written_within}
 use Rattle.city_doc.proofs.document.LawfulTrees.{not_refused}
 use Rattle.city_doc.proofs.OneValue.{one_city}
-use Rattle.city_writer.proofs.tree.ReadBack.{text_reads}
+use Rattle.city_writer.proofs.Laws.{text_reads}
 use Rattle.city_doc.proofs.document.RoundTrip.{city_read}
 use Rattle.city_doc.proofs.document.IntegralTrees.{city_integral}
 

@@ -4,7 +4,7 @@ use Rattle.city_doc.proofs.Prelude.{arith, ◌^◌, flat_map}
 use Rattle.city_doc.proofs.Prelude.{list_all-append, Entries}
 use Rattle.city_doc.proofs.Prelude.{Point, entries_of, are_kept_objects}
 use Rattle.city_doc.proofs.Prelude.{object_points}
-use Rattle.city_writer.proofs.pool.NumberedPoints.{are_in}
+use Rattle.city_writer.proofs.Laws.{are_in}
 use Rattle.city_doc.proofs.object.ObjectsRead.{object_read}
 use Rattle.city_writer.specs.internal.object.InTurn.{in_turn}
 

@@ -6,7 +6,7 @@ use Rattle.city_doc.proofs.Prelude.{frame_members, is_i64_triple, get_member-put
 use Rattle.std.proofs.Common.{codes}
 use Rattle.city_doc.proofs.document.KeptMembers.{kept_all, left_put, left_lacking}
 use Rattle.city_doc.proofs.tree.ListsRead.{triple_read}
-use Rattle.city_writer.proofs.document.Lacking.{top_members_lacking}
+use Rattle.city_writer.proofs.Laws.{top_members_lacking}
 
 -- the frame of its own members, among others
 pub frame_read : (f : Frame) (vertices objects : Data) → is_i64_triple f.scale ≡ true → is_i64_triple f.translate ≡ true

@@ -6,7 +6,7 @@ use Rattle.city_doc.proofs.Prelude.{map_grown}
 use Rattle.std.proofs.Common.{option_map, String, Global, string_bytes, string_cmp}
 use Rattle.std.specs.List.Sorted.{IsStrictlySortedBy}
 use Rattle.serde_json.proofs.Views.{Entry}
-use Rattle.city_writer.proofs.object.WrittenObjects.{keys_of_push}
+use Rattle.city_writer.proofs.Laws.{keys_of_push}
 
 all_bytes : (k : String Global) (ks : List (String Global)) → AllByRecursion (λ y. string_cmp k y ≡ Less) ks
     → AllByRecursion (λ y. slice_cmp nat_cmp (string_bytes k) y ≡ Less) (map string_bytes ks)

@@ -5,10 +5,9 @@ use Rattle.city_doc.proofs.Prelude.{entries_of, entries_in, city_of, tree_of, fr
 use Rattle.city_doc.proofs.Prelude.{city_points, pool_of, IsInRange, vertices_data, vertex_data, is_i64_point}
 use Rattle.city_doc.proofs.Prelude.{get_member-put_apart, listed_again, list_all, Point, point_of, points_of}
 use Rattle.std.proofs.Common.{codes}
-use Rattle.city_writer.proofs.object.WrittenObjects.{written_in_turn}
+use Rattle.city_writer.proofs.Laws.{written_in_turn, points_in_pool}
 use Rattle.city_doc.proofs.document.EntriesRead.{entries_read}
 use Rattle.city_doc.proofs.document.FramesRead.{frame_read}
-use Rattle.city_writer.proofs.pool.NumberedPoints.{points_in_pool}
 use Rattle.city_doc.proofs.tree.ListsRead.{list_read, integer_read}
 
 vertex_read : (p : Point) → is_i64_point p ≡ true → point_of (vertex_data p) ≡ Some p

@@ -11,10 +11,9 @@ use Rattle.city_writer.specs.Pool.{geometry_points}
 use Rattle.city_writer.specs.internal.document.KeptMembers.{is_kept_geometry, is_kept_object}
 use Rattle.city_doc.proofs.document.KeptMembers.{kept_all, left_put, left_lacking, left_put_list}
 use Rattle.city_doc.proofs.tree.ListsRead.{put_list_read, all_pass}
-use Rattle.city_writer.proofs.pool.NumberedPoints.{are_in, parts_in}
+use Rattle.city_writer.proofs.Laws.{are_in, parts_in, object_members_lacking}
 use Rattle.city_doc.proofs.shape.PointsRead.{shape_read}
 use Rattle.city_doc.proofs.tree.PutLists.{get_member-put_list_apart}
-use Rattle.city_writer.proofs.document.Lacking.{object_members_lacking}
 
 geometry_read : (pool : List Point) → length pool < 2 ^ 63 → (g : Geometry)
     → (is_kept_geometry g && are_in pool (geometry_points g)) ≡ true → geometry_of pool (geometry_data pool g) ≡ Some g

@@ -8,7 +8,7 @@ use Rattle.city_model.specs.declared.object.Shape.TheVariants.{MultiSurface, Com
 use Rattle.city_model.specs.declared.object.Shape.TheVariants.{CompositeSolid}
 use Rattle.city_writer.specs.Pool.{nested_points, shape_points}
 use Rattle.city_doc.proofs.tree.ListsRead.{list_read}
-use Rattle.city_writer.proofs.pool.NumberedPoints.{is_in, are_in, parts_in, found}
+use Rattle.city_writer.proofs.Laws.{is_in, are_in, parts_in, found}
 
 module _ (pool : List Point) (small : length pool < 2 ^ 63) where
   point_read : (p : Point) → is_in pool p ≡ true → point_at pool (point_data pool p) ≡ Some p
