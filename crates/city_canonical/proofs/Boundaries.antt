@@ -13,10 +13,11 @@ use Rattle.std.proofs.Common.{ap₂}
 use Rattle.std.specs.Prelude.{find}
 use Rattle.serde_json.specs.Find.{as_number, as_i64}
 use Rattle.city_tokens.specs.shape.Geometries.{point_at}
-use Rattle.city_tokens.specs.tree.Triples.{integral_at, three_of, integer_data}
+use Rattle.city_tokens.specs.tree.Triples.{integral_at, three_of}
+use Rattle.city_writer.specs.tree.Lists.{integer_data}
 use Rattle.std.proofs.lemmas.List.Sums.{prefix_len-le-length}
-use Rattle.city_doc.specs.shape.Canonical.{point_data, nested_data}
-use Rattle.city_tokens.specs.shape.Nesting.{GeometryType, geometry_types}
+use Rattle.city_writer.specs.shape.Canonical.{point_data, nested_data}
+use Rattle.city_tokens.specs.shape.GeometryTypes.{GeometryType, geometry_types}
 use Rattle.city_doc.proofs.Laws.{nested_read}
 use Rattle.city_canonical.specs.Placed.{placed_items}
 use Rattle.json.specs.Json as json

@@ -13,10 +13,11 @@ use Rattle.city_canonical.proofs.Prelude.{geometry_type, shape_name, read_items,
 use Rattle.city_canonical.proofs.Prelude.{map_some, is_in, are_in, array_is, object_is, placed, or_empty, list_at}
 use Rattle.city_model.specs.declared.object_type.ObjectType.{ObjectType}
 use Rattle.city_model.specs.Types.{name_of, first_named, all_types, type_named}
-use Rattle.city_doc.specs.shape.Canonical.{geometry_data}
+use Rattle.city_writer.specs.shape.Canonical.{geometry_data}
 use Rattle.city_tokens.specs.object.Bodies.{without_object_members}
 use Rattle.city_tokens.specs.shape.Geometries.{without_geometry_members, geometry_of}
-use Rattle.city_tokens.specs.tree.Lists.{list_or_absent, list_data}
+use Rattle.city_tokens.specs.tree.Lists.{list_or_absent}
+use Rattle.city_writer.specs.tree.Lists.{list_data}
 use Rattle.city_tokens.proofs.Options.{if_some}
 use Rattle.city_doc.proofs.Laws.{geometry_parts, read_as}
 use Rattle.city_canonical.specs.Members.{unless_empty}

@@ -21,10 +21,10 @@ use Rattle.std.proofs.lemmas.Map.Views.{lookup-from_Contains}
 use Rattle.serde_json.specs.Find.{as_object}
 use Rattle.city_model.specs.CityMap.{Entries, found_in}
 use Rattle.city_model.proofs.Objects.{at_entries, entries_ascend}
-use Rattle.city_doc.specs.Pool.{city_points}
-use Rattle.city_doc.specs.document.Canonical.{frame_members}
-use Rattle.city_doc.specs.object.Canonical.{objects_data}
-use Rattle.city_doc.specs.shape.Vertices.{vertices_data}
+use Rattle.city_writer.specs.Pool.{city_points}
+use Rattle.city_writer.specs.document.Canonical.{frame_members}
+use Rattle.city_writer.specs.object.Canonical.{objects_data}
+use Rattle.city_writer.specs.shape.Vertices.{vertices_data}
 use Rattle.city_tokens.specs.document.Cities.{entries_of, objects_of, city_of}
 use Rattle.city_tokens.specs.tree.Members.{is_text}
 use Rattle.city_doc.proofs.Laws.{points_in_pool, in_turn, written_in_turn, ordered_in_turn, at_listed, found}

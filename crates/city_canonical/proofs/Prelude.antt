@@ -28,14 +28,14 @@ pub use Rattle.city_decimals.specs.Encoded.{encoded, encoded_items, encoded_memb
 pub use Rattle.city_decimals.specs.Shapes.{has_shield, is_shielded, is_tag, only}
 pub use Rattle.city_decimals.specs.Texts.{IsDecimalsFault, IsDecoded}
 pub use Rattle.city_doc.proofs.Laws.{are_in, array_is, is_in, object_is}
-pub use Rattle.city_doc.specs.Pool.{geometry_points, object_points, pool_of, shape_points}
-pub use Rattle.city_doc.specs.document.Canonical.{transform_data, tree_of}
+pub use Rattle.city_writer.specs.Pool.{geometry_points, object_points, pool_of, shape_points}
+pub use Rattle.city_writer.specs.document.Canonical.{transform_data, tree_of}
 pub use Rattle.city_doc.specs.document.Faults.{DocumentFault}
-pub use Rattle.city_doc.specs.document.Ranges.{IsInRange}
-pub use Rattle.city_doc.specs.internal.tree.PartTokens.{listed}
-pub use Rattle.city_doc.specs.object.Canonical.{object_data}
-pub use Rattle.city_doc.specs.shape.Canonical.{boundaries_data}
-pub use Rattle.city_doc.specs.shape.Vertices.{vertex_data}
+pub use Rattle.city_writer.specs.document.Ranges.{IsInRange}
+pub use Rattle.city_writer.specs.internal.tree.PartTokens.{listed}
+pub use Rattle.city_writer.specs.object.Canonical.{object_data}
+pub use Rattle.city_writer.specs.shape.Canonical.{boundaries_data}
+pub use Rattle.city_writer.specs.shape.Vertices.{vertex_data}
 pub use Rattle.city_model.proofs.Ids.{by_id}
 pub use Rattle.city_model.specs.CityMap.{CityValue, has_id, same_id}
 pub use Rattle.city_model.specs.Members.{AreOrdered}
@@ -47,7 +47,9 @@ pub use Rattle.city_tokens.proofs.Options.{and_then_some, map_some}
 pub use Rattle.city_tokens.specs.document.Cities.{IsTextOfCity}
 pub use Rattle.city_tokens.specs.object.Bodies.{object_of}
 pub use Rattle.city_tokens.specs.shape.Geometries.{nested_of}
-pub use Rattle.city_tokens.specs.shape.Nesting.{Nested, geometry_type, nested, shape_name}
-pub use Rattle.city_tokens.specs.tree.Lists.{list_of, put_list, read_items}
+pub use Rattle.city_model.specs.Nesting.{Nested, nested, shape_name}
+pub use Rattle.city_tokens.specs.shape.GeometryTypes.{geometry_type}
+pub use Rattle.city_tokens.specs.tree.Lists.{list_of, read_items}
+pub use Rattle.city_writer.specs.tree.Lists.{put_list}
 pub use Rattle.city_tokens.specs.tree.Triples.{point_of, points_of, triple_of}
 pub use Rattle.city_canonical.specs.Placed.{list_at, or_empty, placed}

@@ -25,7 +25,7 @@ use Rattle.city_decimals.specs.declared.fault.DecimalsFault.{DecimalsFault}
 use Rattle.city_decimals.proofs.Insides.{only_numbers}
 use Rattle.city_decimals.proofs.Texts.{top_numbers, one_value}
 use Rattle.city_doc.specs.declared.fault.ReadFault.{ReadFault}
-use Rattle.city_doc.specs.tree.Tokens.{tokens_of}
+use Rattle.city_writer.specs.tree.Tokens.{tokens_of}
 use Rattle.city_canonical.specs.Faults.{fault_of, read_fault_of}
 use Rattle.city_canonical.specs.Texts.{IsSameText, IsCanonicalFault}
 use Rattle.city_canonical.proofs.Models.{model_same}

@@ -11,7 +11,7 @@ use Rattle.city_model.specs.declared.frame.Frame.{Frame}
 use Rattle.city_decimals.specs.Shapes.{is_triple, is_frame, framed}
 use Rattle.city_decimals.proofs.Kept.{transform_kept}
 use Rattle.city_tokens.specs.document.Frames.{triple_at, without_transform_members, without_top_members}
-use Rattle.city_tokens.specs.tree.Triples.{triple_data}
+use Rattle.city_writer.specs.tree.Lists.{triple_data}
 use Rattle.city_doc.proofs.Laws.{HasFrameParts}
 use Rattle.city_canonical.proofs.Members.{member_read, value_at, object_read, found_read}
 use Rattle.city_canonical.proofs.Boundaries.{triple_is, itself}

@@ -14,9 +14,9 @@ use Rattle.std.proofs.lemmas.Option.{slice_get_within, get_or_from_slice_get}
 use Rattle.serde_json.specs.Find.{of_integer}
 use Rattle.serde_json.specs.Written.{number_text}
 use Rattle.city_model.specs.Shells.{same_point}
-use Rattle.city_doc.specs.Pool.{nested_points, without_repeats}
-use Rattle.city_doc.specs.shape.Vertices.{is_i64_point}
-use Rattle.city_doc.specs.tree.Ranges.{is_i64}
+use Rattle.city_writer.specs.Pool.{nested_points, without_repeats}
+use Rattle.city_writer.specs.shape.Vertices.{is_i64_point}
+use Rattle.city_writer.specs.tree.Ranges.{is_i64}
 use Rattle.city_doc.proofs.Laws.{text_of_integer}
 use Rattle.city_canonical.specs.Same.{IsEachOnce, IsPart, IsPartOfOne}
 use Rattle.city_canonical.proofs.Boundaries.{shown_point, shown, shown_list, shown_shape}

@@ -6,7 +6,7 @@ use Rattle.json.specs.Print.{print}
 use Rattle.json.specs.Tree.{json_tokens}
 use Rattle.city_model.specs.CityMap.{CityValue}
 use Rattle.city_decimals.specs.Texts.{IsValueOf, IsEncoded, IsDecoded}
-use Rattle.city_doc.specs.document.Canonical.{city_text}
+use Rattle.city_writer.specs.document.Canonical.{city_text}
 use Rattle.city_tokens.specs.document.Cities.{IsTextOfCity}
 use Rattle.city_doc.specs.document.Faults.{DocumentFault}
 use Rattle.city_canonical.specs.Same.{IsSameModel}

@@ -4,8 +4,8 @@ pub use Rattle.std.proofs.Common.{subst, sym, take, true, ℕ, ◌++◌, ◌<◌
 pub use mathlib.Core.List.{IsPrefix}
 pub use denote.Param.Send.{IsSend, sendable}
 pub use Rattle.city_desk.specs.TextRuns.{IsReadFrom}
-pub use Rattle.city_doc.specs.document.Canonical.{city_text}
-pub use Rattle.city_doc.specs.report.Reports.{report_text}
+pub use Rattle.city_writer.specs.document.Canonical.{city_text}
+pub use Rattle.city_writer.specs.report.Reports.{report_text}
 pub use Rattle.city_model.specs.CityMap.{CityMap, CityValue, object_at}
 pub use Rattle.city_model.specs.Runs.{Change, after_changes}
 pub use Rattle.city_model.specs.declared.end.End.{End}

@@ -6,7 +6,7 @@ use Rattle.city_model.specs.Relations.{IsLawful}
 use Rattle.city_model.specs.Runs.{Scripted, IsSerialHistory, model_after}
 use Rattle.city_tokens.specs.document.Cities.{IsAdmitted}
 use Rattle.city_tokens.specs.script.Scripts.{IsReadAs}
-use Rattle.city_doc.specs.Outputs.{IsOutput}
+use Rattle.city_writer.specs.Outputs.{IsOutput}
 
 -- the document stands for the city, a lawful one, and the text for the scripts
 pub record IsReadFrom (document scripts : List ℕ) (city : CityValue) (list : List Scripted) : Type 0 where

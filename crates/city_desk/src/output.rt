@@ -1,8 +1,8 @@
 //! The output of a run.
 ghost use Rattle.std.specs.Prelude.{◌≡◌, ◌++◌, ◌∷◌, [], length, IfOk};
-ghost use Rattle.city_doc.specs.Outputs.{IsJsonOutput};
-ghost use Rattle.city_doc.specs.document.Canonical.{city_text};
-ghost use Rattle.city_doc.specs.report.Reports.{report_text};
+ghost use Rattle.city_writer.specs.Outputs.{IsJsonOutput};
+ghost use Rattle.city_writer.specs.document.Canonical.{city_text};
+ghost use Rattle.city_writer.specs.report.Reports.{report_text};
 
 use city_doc::{Pieces, append_city, append_city_by, seeded_report, seeded_report_by};
 use city_model::OutOfMemory;

@@ -2,9 +2,9 @@
 ghost use Rattle.std.specs.Prelude.{◌≡◌, ◌++◌, ◌∷◌, [], ℕ, List, length, IfOk, IfErr};
 ghost use Rattle.city_model.specs.CityMap.{object_at};
 ghost use Rattle.city_model.specs.Relations.{IsLawful};
-ghost use Rattle.city_doc.specs.Outputs.{IsJsonOutput};
-ghost use Rattle.city_doc.specs.document.Canonical.{city_text};
-ghost use Rattle.city_doc.specs.report.Reports.{report_text};
+ghost use Rattle.city_writer.specs.Outputs.{IsJsonOutput};
+ghost use Rattle.city_writer.specs.document.Canonical.{city_text};
+ghost use Rattle.city_writer.specs.report.Reports.{report_text};
 ghost use Rattle.city_scheduler.specs.InTurn.{AreInTurn};
 ghost use Rattle.city_desk.specs.RunFaults.{IsSerialFault};
 ghost use Rattle.city_desk.specs.SerialRuns.{IsSerialRun, IsDecided};

@@ -4,7 +4,7 @@ ghost use Rattle.serde_json.specs.Data.{no_members, put, object, array, string, 
 ghost use Rattle.serde_json.specs.Find.{of_integer};
 ghost use Rattle.serde_json.specs.View.{view, items_of, items_view, members_view};
 ghost use Rattle.serde_json.specs.Written.{has_float, items_have_float, members_have_float};
-ghost use Rattle.city_doc.specs.shape.Vertices.{vertex_data};
+ghost use Rattle.city_writer.specs.shape.Vertices.{vertex_data};
 
 use city_model::OutOfMemory;
 use city_model::members::members_count;

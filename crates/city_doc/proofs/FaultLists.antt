@@ -1,4 +1,4 @@
--- Lists of all faults for which something holds, each once, in order: alone, and one behind another.
+-- Lists of all faults with a property, each once, in order: alone, and one behind another.
 use Rattle.city_doc.proofs.Prelude.{◌≡◌, ◌⊎◌, inl, inr, ℕ, List, ◌∷◌, ◌++◌, [], sym, subst, arith, refl, AllByRecursion}
 use Rattle.city_doc.proofs.Prelude.{Data}
 use Rattle.city_tokens.specs.tree.Texts.{IsTooLong, IsNoJson, HasTree}
@@ -50,7 +50,7 @@ ordered_append before (f ∷ fs) gs h k between = (
 
 -- ---- all of something
 
--- those for which one thing holds are those for which the other does
+-- equivalent properties have the same list
 pub those_alike : {F : Type 0} {before : F → F → Type 0} (P Q : F → Type 0) (fs : List F) → ((f : F) → P f → Q f)
     → ((f : F) → Q f → P f) → AreAll before P fs → AreAll before Q fs
 those_alike P Q fs to from h =

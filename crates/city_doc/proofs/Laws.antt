@@ -1,12 +1,13 @@
 -- Laws over the definitions of documents, for the crates above.
-pub use Rattle.city_tokens.proofs.Laws.{ordered_put, get_member-put_apart, get_member-put_list_apart, array_is}
+pub use Rattle.city_model.proofs.Puts.{ordered_put}
+pub use Rattle.city_tokens.proofs.Laws.{get_member-put_apart, array_is}
+pub use Rattle.city_doc.proofs.tree.PutLists.{get_member-put_list_apart}
 pub use Rattle.city_tokens.proofs.Laws.{object_is, at_listed}
-pub use Rattle.city_doc.proofs.tree.Integers.{text_of_integer}
-pub use Rattle.city_doc.proofs.pool.KeptNumbers.{same_itself}
-pub use Rattle.city_doc.proofs.pool.NumberedPoints.{is_in, are_in, points_in_pool, parts_in, nested_read}
-pub use Rattle.city_doc.proofs.document.EntriesRead.{in_turn, written_in_turn}
+pub use Rattle.city_writer.proofs.Laws.{text_of_integer, same_itself, is_in, are_in, points_in_pool, parts_in}
+pub use Rattle.city_writer.proofs.Laws.{written_in_turn, ordered_in_turn}
+pub use Rattle.city_doc.proofs.shape.PointsRead.{nested_read}
+pub use Rattle.city_writer.specs.internal.object.InTurn.{in_turn}
 pub use Rattle.city_doc.proofs.document.LawfulTrees.{HasFrameParts, frame_parts, StandsFor, stands_for}
 pub use Rattle.city_doc.proofs.document.KeptMembers.{kept_passes}
 pub use Rattle.city_doc.proofs.document.NoFault.{IsReadAs, read_as, found}
-pub use Rattle.city_doc.proofs.object.WrittenObjects.{ordered_in_turn}
 pub use Rattle.city_doc.proofs.object.FaultlessBodies.{HasGeometryParts, geometry_parts}

@@ -1,4 +1,3 @@
-pub mod EachPiece
 mod FaultLists
 pub mod Laws
 pub mod OneValue

@@ -1,33 +1,28 @@
--- The words that proofs of this crate share, from std, from the libraries and from its own definitions.
+-- Words shared by the proofs of this crate, from std, from the libraries and from its own definitions.
 pub use Rattle.std.proofs.Common.{Bool, Equal, Less, List, None, Option, Ordering, Result, Some, [], add-one, ap}
 pub use Rattle.std.proofs.Common.{append-nil, append_assoc, ap₂, arith, cond, drop, drop-cons, false, get_or, inl, inr}
-pub use Rattle.std.proofs.Common.{is_eq, length, map, max, nat_cmp, not, pos, refl, rules, subst, suc, sym, to_z-of_z}
-pub use Rattle.std.proofs.Common.{true, true≢false, zero, ℕ, ℤ, ◌++◌, ◌+◌, ◌<◌, ◌∙◌, ◌∷◌, ◌≡◌, ◌≤◌, ◌⊎◌}
+pub use Rattle.std.proofs.Common.{is_eq, length, map, max, nat_cmp, not, pos, refl, rules, subst, suc, sym, true}
+pub use Rattle.std.proofs.Common.{true≢false, zero, ℕ, ℤ, ◌++◌, ◌+◌, ◌<◌, ◌∙◌, ◌∷◌, ◌≡◌, ◌≤◌, ◌⊎◌}
 pub use Rattle.std.proofs.Output.{has_written_of_eq}
 pub use Rattle.std.proofs.lemmas.Bool.{and_from, and_parts, lt-ltb, ltb-true}
-pub use Rattle.std.proofs.lemmas.Bool.Decides.{Decides-int_eq}
 pub use Rattle.std.proofs.lemmas.Cmp.{nat_list_cmp_total}
 pub use Rattle.std.proofs.lemmas.Iterator.Adapters.{YieldsList-from_vec, option_map_id}
-pub use Rattle.std.proofs.lemmas.List.{drop_all}
 pub use Rattle.std.proofs.lemmas.List.Folds.{list_all-append}
 pub use Rattle.std.proofs.lemmas.List.Sums.{prefix_len-le-length}
-pub use Rattle.std.proofs.lemmas.Result.{IfOk-weaker, on_ok_weaker}
+pub use Rattle.std.proofs.lemmas.Result.{IfOk-weaker}
 pub use Rattle.std.proofs.lemmas.Str.{encode_ascii}
 pub use Rattle.std.specs.Char.{encode_utf8}
 pub use Rattle.std.specs.Cmp.Lexicographic.{slice_cmp}
 pub use Rattle.std.specs.FinMap.{entries}
-pub use Rattle.std.specs.Int.{w64}
 pub use Rattle.std.specs.List.{AllByRecursion, list_all, list_any}
 pub use Rattle.std.specs.List.Sorted.{IsPermutation}
 pub use Rattle.std.specs.Map.{keys_of}
 pub use Rattle.std.specs.Ordering.{is_lt, match_ordering}
-pub use Rattle.std.specs.Prelude.{FitsSigned, IfNone, MatchOption, codes, filter, flat_map, if◌then◌else◌, is_none}
-pub use Rattle.std.specs.Prelude.{is_some, option_and_then, option_map, slice_get, ◌&&◌, ◌^◌}
+pub use Rattle.std.specs.Prelude.{IfNone, MatchOption, codes, flat_map, if◌then◌else◌, is_none, is_some}
+pub use Rattle.std.specs.Prelude.{option_and_then, option_map, slice_get, ◌&&◌, ◌^◌}
 pub use Rattle.std.specs.Vec.Iter.{into_iter_items}
 pub use mathlib.Core.Path.{fun_ext}
 pub use Rattle.json.specs.Print.{escape}
-pub use Rattle.json.specs.Token.{Token, begin_object, end_object, key}
-pub use Rattle.serde_json.proofs.Texts.{print-outline}
 pub use Rattle.serde_json.proofs.Views.{get_member-put, view-Array, view-Object}
 pub use Rattle.serde_json.specs.Data.{Data, Items, Members, array, depth, item, items_depth, member, members_depth}
 pub use Rattle.serde_json.specs.Data.{no_items, no_members, number, object, put, string}
@@ -49,7 +44,7 @@ pub use Rattle.city_model.specs.Members.{AllAbove, AreOrdered, without, without_
 pub use Rattle.city_model.specs.Misrelated.{IsMisrelatedAt}
 pub use Rattle.city_model.specs.Relations.{IsLawful, IsRelated}
 pub use Rattle.city_model.specs.Runs.{Scripted}
-pub use Rattle.city_model.specs.Shells.{body_fault, has_open_shell, same_point, some_shape}
+pub use Rattle.city_model.specs.Shells.{body_fault, has_open_shell, some_shape}
 pub use Rattle.city_model.specs.Types.{name_of}
 pub use Rattle.city_model.specs.declared.command.Command.{Command}
 pub use Rattle.city_model.specs.declared.frame.Frame.{Frame}
@@ -58,9 +53,11 @@ pub use Rattle.city_model.specs.declared.object.Geometry.{Geometry}
 pub use Rattle.city_model.specs.declared.object.Object.{Object}
 pub use Rattle.city_model.specs.declared.object.Point.{Point}
 pub use Rattle.city_model.specs.declared.object.Shape.{Shape}
-pub use Rattle.city_tokens.proofs.Laws.{all_put, array_of-integral, as_object-integral, get-integral}
-pub use Rattle.city_tokens.proofs.Laws.{get_member-integral, get_member-put_apart, get_member-without_each}
-pub use Rattle.city_tokens.proofs.Laws.{listed_again, object_is, object_with, ordered_put}
+pub use Rattle.city_model.proofs.Puts.{all_put, ordered_put}
+pub use Rattle.city_model.specs.Nesting.{Nested, nested, shape_name}
+pub use Rattle.city_tokens.proofs.Laws.{array_of-integral, as_object-integral, get-integral, get_member-integral}
+pub use Rattle.city_tokens.proofs.Laws.{get_member-put_apart, get_member-without_each, listed_again, object_is}
+pub use Rattle.city_tokens.proofs.Laws.{object_with}
 pub use Rattle.city_tokens.proofs.Options.{and_then_some, if_some, map_grown, map_some}
 pub use Rattle.city_tokens.specs.document.Cities.{IsAdmitted, IsTextOfCity, city_of, entries_in, entries_of}
 pub use Rattle.city_tokens.specs.document.Cities.{is_city_json, objects_of, points_in}
@@ -71,43 +68,38 @@ pub use Rattle.city_tokens.specs.object.Bodies.{body_of, object_of, type_of, wit
 pub use Rattle.city_tokens.specs.script.Commands.{command_of}
 pub use Rattle.city_tokens.specs.script.Scripts.{ScriptParts, commands_in, parts_in, parts_of, vertex_count, word_ends}
 pub use Rattle.city_tokens.specs.shape.Geometries.{geometry_of, nested_of, point_at, shape_of, without_geometry_members}
-pub use Rattle.city_tokens.specs.shape.Nesting.{GeometryType, Nested, geometry_type, nested, shape_name}
-pub use Rattle.city_tokens.specs.tree.Lists.{all_read, list_data, list_of, list_or_absent, put_list, read_items}
+pub use Rattle.city_tokens.specs.shape.GeometryTypes.{GeometryType, geometry_type}
+pub use Rattle.city_tokens.specs.tree.Lists.{all_read, list_of, list_or_absent, read_items}
 pub use Rattle.city_tokens.specs.tree.Members.{is_text, kept_if, text_at}
 pub use Rattle.city_tokens.specs.tree.Texts.{IsText}
-pub use Rattle.city_tokens.specs.tree.Triples.{integer_data, point_of, points_of, triple_data, triple_of}
-pub use Rattle.city_doc.specs.Pool.{city_points, number_of, object_points, pool_of, with_point, without_repeats}
+pub use Rattle.city_tokens.specs.tree.Triples.{point_of, points_of, triple_of}
+pub use Rattle.city_writer.specs.tree.Lists.{list_data, put_list, integer_data, triple_data}
+pub use Rattle.city_writer.specs.Pool.{city_points, object_points, pool_of}
+pub use Rattle.city_writer.specs.document.Canonical.{frame_members, numbered_tree, transform_data, tree_of}
+pub use Rattle.city_writer.specs.document.Ranges.{IsInRange}
+pub use Rattle.city_writer.specs.internal.document.KeptMembers.{IsKeptCity, are_kept_objects}
+pub use Rattle.city_writer.specs.object.Canonical.{object_data, objects_data, with_objects}
+pub use Rattle.city_writer.specs.shape.Canonical.{boundaries_data, geometry_data, nested_data, point_data}
+pub use Rattle.city_writer.specs.shape.Vertices.{is_i64_point, vertex_data, vertices_data}
+pub use Rattle.city_writer.specs.tree.Ranges.{is_i64, is_i64_triple}
 pub use Rattle.city_doc.specs.declared.fault.ReadFault.{ReadFault}
 pub use Rattle.city_doc.specs.declared.fault.ReadFault.TheVariants.{BadGeometry, BadRing, BadVertex, NotCityJson}
 pub use Rattle.city_doc.specs.declared.fault.ReadFault.TheVariants.{NotWhole, OpenShell, Relations, UnknownType}
 pub use Rattle.city_doc.specs.declared.fault.ReadFault.TheVariants.{Unsupported}
-pub use Rattle.city_doc.specs.document.Canonical.{frame_members, numbered_tree, transform_data, tree_of}
 pub use Rattle.city_doc.specs.document.CityFaults.{IsBadlyRelatedAt, is_bad_ringed, lenient_map_of, lenient_object_of}
 pub use Rattle.city_doc.specs.document.CityFaults.{or_empty}
 pub use Rattle.city_doc.specs.document.Faults.{IsFirst, StandsAmong, StandsIn, is_unsupported, members_of, objects_in}
 pub use Rattle.city_doc.specs.document.Faults.{vertices_in}
 pub use Rattle.city_doc.specs.document.Least.{Has}
-pub use Rattle.city_doc.specs.document.Ranges.{IsInRange}
 pub use Rattle.city_doc.specs.document.Top.{all_objects, are_all_objects, are_objects, are_vertices, has_triple}
 pub use Rattle.city_doc.specs.document.Top.{is_transform, wrong_member}
-pub use Rattle.city_doc.specs.internal.Pool.{with_points}
 pub use Rattle.city_doc.specs.internal.document.Forms.{AreReadable, HasForm}
-pub use Rattle.city_doc.specs.internal.document.KeptMembers.{IsKeptCity, are_kept_objects}
 pub use Rattle.city_doc.specs.internal.document.LenientCities.{IsReadOf, first_body, lenient_entries_of}
 pub use Rattle.city_doc.specs.internal.document.Searches.{first_with}
 pub use Rattle.city_doc.specs.internal.script.Forms.{parts_views}
-pub use Rattle.city_doc.specs.internal.script.Searches.{bad_script, first_at, first_command, first_in, index_if, index_in}
-pub use Rattle.city_doc.specs.internal.tree.PartTokens.{closing_items, closing_members, listed, tokens_of_members}
-pub use Rattle.city_doc.specs.internal.tree.PartTokens.{tokens_of_own}
-pub use Rattle.city_doc.specs.internal.tree.Parted.{members_before, members_from}
-pub use Rattle.city_doc.specs.internal.tree.ReadsBack.{ItemsReadBack, MembersReadBack, ReadsBack}
-pub use Rattle.city_doc.specs.object.Canonical.{object_data, objects_data, with_objects}
+pub use Rattle.city_doc.specs.internal.script.Searches.{bad_script, first_at, first_command, first_in, index_if}
+pub use Rattle.city_doc.specs.internal.script.Searches.{index_in}
 pub use Rattle.city_doc.specs.object.Faults.{first_unsupported, has_bad_list, has_bad_vertex, is_bad_geometry}
 pub use Rattle.city_doc.specs.object.Faults.{is_unknown_type}
-pub use Rattle.city_doc.specs.report.Replies.{reply_data}
 pub use Rattle.city_doc.specs.script.CommandFaults.{is_bad_command, names_bad_vertex}
-pub use Rattle.city_doc.specs.shape.Canonical.{boundaries_data, geometry_data, nested_data, point_data}
 pub use Rattle.city_doc.specs.shape.Forms.{all_items, are_geometries, is_geometry, is_list_of, is_nested, is_position}
-pub use Rattle.city_doc.specs.shape.Vertices.{is_i64_point, vertex_data, vertices_data}
-pub use Rattle.city_doc.specs.tree.Ranges.{is_i64, is_i64_triple}
-pub use Rattle.city_doc.specs.tree.Tokens.{tokens_of}

@@ -1,8 +1,7 @@
--- What the proofs of several functions of src/document/ use.
+-- Lemmas for several functions of src/document/.
 pub mod AllFaults
 mod ArrangedCities
 pub mod CanonicalCities
-pub mod CityInPieces
 mod CityNests
 pub mod EntriesRead
 mod ExampleFaults
@@ -19,9 +18,6 @@ pub mod NoFault
 mod Objects
 mod OneFirst
 mod Order
-pub mod OwnMembers
-pub mod PutMembers
-pub mod PiecesWritten
 mod ReadableObjects
 mod RelatedCities
 pub mod Right

@@ -1,2 +1,2 @@
--- What the proofs of src/fault/ use.
+-- Lemmas for src/fault/.
 mod Escapes

@@ -1,6 +1,5 @@
--- What the proofs of several functions of src/object/ use.
+-- Lemmas for several functions of src/object/.
 pub mod FaultlessBodies
 pub mod LenientObjects
 pub mod ObjectsRead
 pub mod ReadBodies
-pub mod WrittenObjects

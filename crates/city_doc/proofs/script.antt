@@ -1,4 +1,4 @@
--- What the proofs of several functions of src/script/ use.
+-- Lemmas for several functions of src/script/.
 mod AllFaults
 pub mod CommandLists
 mod CommandMeanings

@@ -1,2 +1,2 @@
--- What the proofs of several functions of src/shape/ use.
-pub mod Bounded
+-- Lemmas for several functions of src/shape/.
+pub mod PointsRead

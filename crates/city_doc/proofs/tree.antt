@@ -1,9 +1,4 @@
--- What the proofs of several functions of src/tree/ use.
-pub mod Among
-pub mod Appended
-pub mod CompactJson
-pub mod Integers
+-- Lemmas for several functions of src/tree/.
 pub mod ListsRead
-pub mod ReadBack
+pub mod PutLists
 pub mod ReadLists
-pub mod WrittenItems

@@ -1,4 +1,4 @@
--- How the faults of texts are told: by number, name and what they name, texts as JSON texts and numbers in decimal.
+-- The texts of faults: number, name and the things named, texts as JSON texts and numbers in decimal.
 use Rattle.std.specs.Prelude.{ℕ, List, ◌++◌, codes}
 use Rattle.std.specs.Fmt.{decimal}
 use Rattle.json.specs.Print.{quoted}

@@ -1,11 +1,7 @@
 pub mod FaultLists
 pub mod FaultTexts
-pub mod Outputs
-pub mod Pool
 pub mod document
 pub mod internal
 pub mod object
-pub mod report
 pub mod script
 pub mod shape
-pub mod tree

@@ -1,10 +1,8 @@
 -- Definitions of documents.
 pub mod Accepted
 pub mod AllFaults
-pub mod Canonical
 pub mod CanonicalTexts
 pub mod CityFaults
 pub mod Faults
 pub mod Least
-pub mod Ranges
 pub mod Top

@@ -1,10 +1,5 @@
--- What only private clauses and proofs use: nothing here has to be believed.
-pub mod KnownNumbers
-pub mod Pieces
-pub mod Pool
-pub mod Reports
+-- Words for private clauses and proofs alone: nothing here has to be believed.
 pub mod document
-pub mod object
 pub mod script
 pub mod shape
 pub mod tree

@@ -1,3 +1,2 @@
--- Definitions of city objects and their trees.
-pub mod Canonical
+-- Definitions of the trees of city objects.
 pub mod Faults

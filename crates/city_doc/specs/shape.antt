@@ -1,4 +1,2 @@
--- Definitions of geometries and their trees.
-pub mod Canonical
+-- Definitions of the trees of geometries.
 pub mod Forms
-pub mod Vertices

@@ -1,4 +1,4 @@
-//! Documents: the city that one stands for, which of its faults is the first, and its canonical text.
+//! Documents: their cities, their faults, and the canonical text of a city.
 
 pub mod all_faults;
 pub mod arranged;
@@ -6,9 +6,7 @@ pub mod build;
 pub mod city_faults;
 pub mod each_fault;
 pub mod faults;
-pub mod in_pieces;
 pub mod indexed;
 pub mod read;
-pub mod text;
 pub mod top;
 pub mod write;

@@ -1,4 +1,4 @@
-//! Why a text is refused, and how that is told: by number, name and what the fault names, texts as JSON texts.
+//! Why a text is refused. A fault shows by its number, its name and the things it names, texts as JSON texts.
 ghost use Rattle.std.specs.Prelude.{◌≡◌, [], ◌∷◌, IfOk};
 
 mod quoted;
@@ -10,7 +10,7 @@ use std::alloc::Global;
 use std::error::Error;
 use std::fmt::{self, Display, Formatter, Write};
 
-/// Why a document is refused: the first fault of this list that stands in it, at the least id.
+/// Why a document is refused: its first fault in this list, at the least id.
 /// It shows as `model: 5 UnknownType "b12"`.
 #[derive(Debug, Drop)]
 pub enum ReadFault {
@@ -22,17 +22,17 @@ pub enum ReadFault {
     NotJson,
     /// A number isn't a whole number of 64 bits.
     NotWhole,
-    /// This member isn't that of a CityJSON 2.0 document.
+    /// This member isn't as CityJSON 2.0 has it.
     NotCityJson(Text),
     /// This object has no type, or an unknown one.
     UnknownType(Id),
-    /// This object has something of this name, which isn't supported.
+    /// This object has something unsupported, of this name.
     Unsupported(Id, Text),
     /// This object has a malformed geometry.
     BadGeometry(Id),
-    /// This object names a vertex that isn't there.
+    /// This object names a missing vertex.
     BadVertex(Id),
-    /// This object has a ring that is too short or has equal neighbours.
+    /// This object has a ring with too few points or with equal neighbours.
     BadRing(Id),
     /// The parents and children of this object don't agree.
     Relations(Id),
@@ -40,8 +40,8 @@ pub enum ReadFault {
     OpenShell(Id),
 }
 
-/// Why a text of scripts is refused: the first fault of this list that stands in it, at the first
-/// script and then the first command. It shows as `scripts: 7 BadCommand 0 3`.
+/// Why a text of scripts is refused: its first fault in this list, at the first script and then the
+/// first command. It shows as `scripts: 7 BadCommand 0 3`.
 #[derive(Debug, Drop)]
 pub enum ScriptFault {
     /// Memory ran out; this has no place in the order.
@@ -60,7 +60,7 @@ pub enum ScriptFault {
     TooMany,
     /// In this script, this command is malformed.
     BadCommand(usize, usize),
-    /// In this script, this command names a vertex that isn't there.
+    /// In this script, this command names a missing vertex.
     BadVertex(usize, usize),
 }
 

@@ -1,6 +1,5 @@
-//! City objects: what is read of their trees, what is wrong with these, and how objects are written.
+//! City objects from their trees, and the faults of these.
 
 pub mod body;
 pub mod faults;
 pub mod ids;
-pub mod text;

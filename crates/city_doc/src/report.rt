@@ -1,6 +1,34 @@
-//! The report of a run: its lines, with their ends and replies.
+//! Writes the report of a run, in pieces if it is long.
+ghost use Rattle.std.specs.Prelude.{◌≡◌, IfOk};
+ghost use Rattle.city_writer.specs.report.JsonLines.{AreJsonLines};
+ghost use Rattle.city_writer.specs.report.Reports.{report_text};
 
-pub mod end;
-pub mod in_pieces;
-pub mod reply;
-pub mod write;
+use crate::pieces::piece_len;
+use city_model::OutOfMemory;
+use city_model::end::End;
+use city_tokens::Pieces;
+use city_writer::{report_in_pieces, seeded_report};
+use std::alloc::Global;
+use std::thread::Threads;
+
+/// How many bytes of text an end counts as when a report is written in pieces.
+const END_BYTES: usize = 128;
+
+/// The report of `seeded_report`, written in pieces by so many threads. A report too short for two pieces is written at
+/// once.
+pub fn seeded_report_by<R: Threads + Sync>(
+    rt: &R,
+    alloc: Global,
+    seed: u64,
+    ends: &[End],
+    pieces: Pieces,
+) -> Result<Vec<u8>, OutOfMemory>
+    ensures text { IfOk result (λ b. b.items ≡ report_text ends.now) }
+    ensures lines { IfOk result (λ b. AreJsonLines b.items) }
+{
+    let len = piece_len(ends.len(), END_BYTES, pieces);
+    if ends.len() <= len {
+        return seeded_report(alloc, seed, ends);
+    }
+    report_in_pieces(rt, alloc, seed, ends, len)
+}

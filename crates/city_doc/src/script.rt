@@ -1,4 +1,4 @@
-//! Texts of scripts: the commands that one stands for, which of its faults is the first, and all of them.
+//! Texts of scripts: their commands, and their faults.
 
 pub mod all_faults;
 pub mod command;

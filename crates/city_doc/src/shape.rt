@@ -1,7 +1,6 @@
-//! Geometries: what is read of their trees, which trees have their form, and how they are written.
+//! Geometries from their trees, and the form of these trees.
 
 pub mod form;
 pub mod geometry;
 pub mod nested;
-pub mod text;
 pub mod vertices;

@@ -12,6 +12,7 @@ pub mod Meaning
 pub mod Members
 pub mod Misrelated
 pub mod Mode
+pub mod Nesting
 pub mod Relations
 pub mod Runs
 pub mod Scripts

@@ -8,7 +8,7 @@ use Rattle.city_decimals.specs.Texts.{IsValueTo, document_to}
 use Rattle.city_decimals.proofs.CompactTexts.{text_printed, read_again}
 use Rattle.json.specs.Json.{Json}
 use Rattle.json.specs.Tree.{depth}
-use Rattle.city_doc.specs.report.JsonLines.{IsCompactJson, AreJsonLines}
+use Rattle.city_writer.specs.report.JsonLines.{IsCompactJson, AreJsonLines}
 use Rattle.city_serve.proofs.NewlineFree.{newlines, no_newline, value_free, value_shallow}
 
 -- the lines, each with its newline

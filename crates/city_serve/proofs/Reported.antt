@@ -2,8 +2,8 @@
 use Rattle.city_serve.proofs.Prelude.{◌≡◌, ◌⊎◌, ◌++◌, ◌∷◌, [], ℕ, List, inl, inr, refl, sym, ap, ◌∙◌, append-nil, append_assoc}
 use Rattle.city_serve.proofs.Prelude.{End}
 use Rattle.serde_json.specs.Written.{compact_text}
-use Rattle.city_doc.specs.report.Ends.{end_data}
-use Rattle.city_doc.specs.report.Reports.{end_line, report_text}
+use Rattle.city_writer.specs.report.Ends.{end_data}
+use Rattle.city_writer.specs.report.Reports.{end_line, report_text}
 
 report_ends_so : (ends : List End) → (report_text ends ≡ []) ⊎ ((before : List ℕ) × (report_text ends ≡ before ++ 10 ∷ []))
 unfolding report_text

@@ -11,7 +11,7 @@ use Rattle.city_model.specs.SerialEnds.{commits_in}
 use Rattle.city_crew.specs.Seen.{AreSeen}
 use Rattle.city_decimals.specs.Lines.{AreDecodedLines}
 use Rattle.city_scheduler.specs.InTurn.{AreInTurn}
-use Rattle.city_doc.specs.report.Reports.{report_text}
+use Rattle.city_writer.specs.report.Reports.{report_text}
 use Rattle.city_serve.specs.declared.fault.ServeFault.{ServeFault}
 use Rattle.city_serve.specs.declared.options.Destination.{Destination}
 use Rattle.city_serve.specs.declared.options.Options.{Options}

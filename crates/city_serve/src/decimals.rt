@@ -4,7 +4,7 @@ ghost use Rattle.city_model.specs.SerialEnds.{commits_in};
 ghost use Rattle.city_crew.specs.Seen.{AreSeen};
 ghost use Rattle.city_decimals.specs.Lines.{AreDecodedBehind};
 ghost use Rattle.city_scheduler.specs.InTurn.{AreInTurn};
-ghost use Rattle.city_doc.specs.report.JsonLines.{AreJsonLines};
+ghost use Rattle.city_writer.specs.report.JsonLines.{AreJsonLines};
 ghost use Rattle.city_serve.specs.RunOptions.{AreWithin};
 ghost use Rattle.city_serve.specs.ServedTexts.{WhereAlone};
 ghost use Rattle.city_serve.specs.Decimals.{IsGiven, IsDecimalsRun, IsFaultOfDecimalsRun};

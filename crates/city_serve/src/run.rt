@@ -9,8 +9,8 @@ ghost use Rattle.city_desk.specs.RunFaults.{IsRunFault, is_of_crew};
 ghost use Rattle.city_desk.specs.TextRuns.{IsReadFrom, IsRun};
 ghost use Rattle.city_serve.specs.RunOptions.{AreWithin};
 ghost use Rattle.city_serve.specs.ServedTexts.{IsFaultOfRun, WhereAlone};
-ghost use Rattle.city_doc.specs.Outputs.{IsJsonOutput};
-ghost use Rattle.city_doc.specs.report.Reports.{report_text};
+ghost use Rattle.city_writer.specs.Outputs.{IsJsonOutput};
+ghost use Rattle.city_writer.specs.report.Reports.{report_text};
 ghost use Rattle.city_serve.specs.Decimals.{written_by, faults_by};
 ghost use Rattle.city_serve.specs.Destinations.{IsCutAt};
 

@@ -8,7 +8,8 @@ use Rattle.city_tokens.proofs.Prelude.{IsObjectSoFar, Object, Vertex, IsVertex}
 use Rattle.std.proofs.lemmas.Bool.{or_parts}
 use Rattle.serde_json.proofs.Views.{get_member-put}
 use Rattle.city_tokens.specs.internal.Standing.{IsSlot}
-use Rattle.city_tokens.proofs.tree.Puts.{get_member-put_apart, without-put_own, all_above_lower, put_first, ordered_put}
+use Rattle.city_tokens.proofs.tree.Puts.{get_member-put_apart, without-put_own}
+use Rattle.city_model.proofs.Puts.{all_above_lower, put_first, ordered_put}
 use Rattle.city_model.specs.Kept.{object_members, geometry_members}
 use Rattle.city_model.specs.declared.object_type.ObjectType.{ObjectType}
 use Rattle.city_tokens.specs.internal.Geometries.{IsKind, AreBoundaries, IsGeometrySoFar}

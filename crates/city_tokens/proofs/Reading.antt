@@ -14,7 +14,7 @@ use Rattle.city_tokens.proofs.Conversions.{converted_some, converted-array, conv
 use Rattle.city_tokens.proofs.Conversions.{member_read, members_over}
 use Rattle.city_tokens.proofs.tree.IntegralParts.{put-integral}
 use Rattle.city_tokens.specs.internal.Taken.{IsRestOfArray, IsRestOfObject}
-use Rattle.city_tokens.specs.shape.Nesting.{Nested}
+use Rattle.city_model.specs.Nesting.{Nested}
 use Rattle.city_tokens.specs.internal.Positions.{IsNested}
 
 -- one value

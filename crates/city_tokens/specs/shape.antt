@@ -1,3 +1,3 @@
 -- Definitions of geometries.
 pub mod Geometries
-pub mod Nesting
+pub mod GeometryTypes

@@ -1,4 +1,4 @@
--- The list of all faults of a text, the first fault, and which texts are accepted.
+-- The list of all faults of a text, the first fault, and the accepted texts.
 use Rattle.city_doc.proofs.Prelude.{◌≡◌, inl, inr, ℕ, ◌<◌, ◌≤◌, List, ◌∷◌, Bool, true, false, true≢false, Option}
 use Rattle.city_doc.proofs.Prelude.{Some, None, [], Less, nat_cmp, refl, sym, ap, subst, ◌∙◌, arith, length, slice_cmp}
 use Rattle.city_doc.proofs.Prelude.{nat_list_cmp_total, option_and_then, is_some, slice_get, Data, Members}
@@ -80,7 +80,7 @@ pub not_whole_alone : (text : List ℕ) → HasOtherNumber text → AreFaultsOf 
 not_whole_alone text h =
     of_text text h.0 _ h.1 (one_alone (IsFaultOfTree h.0) NotWhole h.2 (only_fraction h.0 h.2))
 
--- a text that stands for a lawful city has none
+-- a text of a lawful city has none
 none_of_lawful : (text : List ℕ) (c : CityValue) → IsAdmitted text c → AreFaultsOf text []
 none_of_lawful text c h = of_text text h.0 [] h.1 (none_there (IsFaultOfTree h.0) none)
   where
@@ -94,7 +94,7 @@ none_of_some text (Some c) h some = none_of_lawful text c h
 
 -- ---- the first of them
 
--- what stands among the objects at the least id is told, or a fault of a lower rank is
+-- a fault of the objects at the least id is told, or one of a lower rank is
 told_by : (points : List Point) (ms : Members) (f : ReadFault) → StandsAmong points ms f
     → (g : ReadFault) × (rank_of g ≤ rank_of f) × StandsAt points ms g
 told_by points ms (UnknownType id) h = (UnknownType id, search (arith), h.0)
@@ -153,7 +153,7 @@ high_parts d NotWhole h lt = absurd (omega (arith, lt))
 high_parts d (NotCityJson name) h lt = absurd (omega (arith, lt))
 high_parts d f h lt = (h.0, h.1)
 
--- the first that is told is the first that stands, at the least id
+-- the first fault told is the first that stands, at the least id
 is_first : (d : Data) (f : ReadFault) → IsFaultOfTree d f → ((g : ReadFault) → IsFaultOfTree d g → IsBefore g f → ⊥)
     → IsFirst (StandsIn d) f
 is_first d NotWhole h least = (h, none_lower d NotWhole least (high_parts d NotWhole h))
@@ -205,7 +205,7 @@ is_first d (OpenShell id) h least = (
 )
 is_first d f h least = absurd h.2
 
--- the first of all faults of a text is the one that a reader answers
+-- the first of all faults of a text is the reader's answer
 pub first_of_all : (text : List ℕ) (f : ReadFault) (fs : List ReadFault) → AreFaultsOf text (f ∷ fs)
     → DocumentFault text f
 first_of_all text f fs h = by (h.stand f (inl refl))
@@ -226,9 +226,9 @@ first_of_list text [] h f is = absurd (cc)
 first_of_list text (g ∷ fs) h f is =
     let same : g ≡ f = cc in subst (DocumentFault text) same (first_of_all text g fs h)
 
--- ---- which texts are accepted
+-- ---- the accepted texts
 
--- where something stands in a tree, something is told
+-- if a fault stands in a tree, one is told
 some_told : (text : List ℕ) (d : Data) (f : ReadFault) → HasTree text d → StandsIn d f
     → (g : ReadFault) × IsFaultOf text g
 some_told text d f tree h = by (is_integral d) (wrong_member d) refl refl

@@ -1,4 +1,4 @@
--- Relations don't rest on the order in which relatives are listed.
+-- Relations don't depend on the order of a list of relatives.
 use Rattle.city_doc.proofs.Prelude.{◌≡◌, ◌⊎◌, inl, inr, ℕ, List, ◌∷◌, ◌++◌, true, false, Option, Some, None, [], refl}
 use Rattle.city_doc.proofs.Prelude.{sym, ap, subst, ◌∙◌, arith, entries, AllByRecursion, IsPermutation, keys_of, Object}
 use Rattle.city_doc.proofs.Prelude.{CityMap, Entries, Objects, object_at, found_in, same_id, has_id, IsMisrelatedAt}
@@ -46,7 +46,7 @@ arranged_back o p h = grind (arith, IsPermutation-sym)
 same_orphan : (o p : Object) → IsArranged o p → is_orphan p ≡ is_orphan o
 same_orphan o p h = let same = length_permutation o.parents p.parents h.parents in grind arith
 
--- of what may stand at an id
+-- of an id and its object, if there is one
 abbrev pub IsArrangedThere : Option Object → Option Object → Type 0
 IsArrangedThere None None = Unit {0}
 IsArrangedThere (Some o) (Some p) = IsArranged o p
@@ -122,7 +122,7 @@ arranged_maps m n h q =
     (subst (λ (f : CityMap). IsArrangedThere (found_in (entries m) q) (f q)) (sym (at_entries n))
     (found_arranged (entries m) (entries n) q h))
 
--- the entries are those that are arranged in `done`, and then those that are left
+-- the entries are the arranged ones in `done`, and then the rest
 abbrev pub IsArranging : Entries → Entries → Entries → Type 0
 IsArranging all [] left = all ≡ left
 IsArranging [] (f ∷ done) left = ⊥

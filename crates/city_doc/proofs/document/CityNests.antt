@@ -1,4 +1,4 @@
--- A city that a text stands for is written so that it nests no deeper than what is read, or than boundaries do.
+-- The text written for a city of a text nests no deeper than a text that is read, or than boundaries.
 use Rattle.city_doc.proofs.Prelude.{◌≡◌, ℕ, zero, suc, ◌<◌, ◌≤◌, max, List, ◌∷◌, map, Option, Some, arith, ℤ, Bool, []}
 use Rattle.city_doc.proofs.Prelude.{refl, subst, sym, Data, string, Items, no_items, item, Members, no_members, member}
 use Rattle.city_doc.proofs.Prelude.{put, depth, array, items_depth, members_depth, get, get_member, as_object}
@@ -58,7 +58,7 @@ list_depth : {A : Type 0} (f : A → Data) (n : ℕ) → ((x : A) → depth (f x
 list_depth f n each [] = omega arith
 list_depth f n each (x ∷ xs) = omega (arith, each x, list_depth f n each xs)
 
--- a list that is read nests no deeper where what is read of each item doesn't
+-- a list nests no deeper when it is read and written, if its items nest no deeper
 module _ {A : Type 0} (read : Data → Option A) (f : A → Data) (n : ℕ) (each : (d : Data) (x : A) → read d ≡ Some x
     → depth (f x) ≤ max n (depth d)) where
   items_within : (ds : Items) (xs : List A) → read_items read ds ≡ Some xs
@@ -152,7 +152,7 @@ city_within pool d c h =
     let f = frame_within d c.0 s.frame in
     omega (arith, put_depth, list_depth vertex_data 1 (λ p. triple_depth (p.x ∷ p.y ∷ p.z ∷ [])) pool)
 
--- the canonical tree of a city that was read may be read
+-- the canonical tree of a city of a text may be read
 pub written_within : (text : List ℕ) (c : CityValue) → IsTextOfCity text c → depth (tree_of c) ≤ max_depth
 written_within text c (d, (utf, is), stands) =
     omega (arith, city_within (pool_of c) d c stands, depth-read text d is)

@@ -1,4 +1,4 @@
--- Two objects and all that is wrong with them: the worked case of the order of faults.
+-- Two objects and all their faults: the worked case of the order of faults.
 use Rattle.city_doc.proofs.Prelude.{◌∷◌, [], refl, arith, inl, inr, codes, object, string, put, Data}
 use Rattle.city_doc.proofs.Prelude.{Members, no_members, member, AreOrdered, UnknownType, BadGeometry}
 use Rattle.city_doc.proofs.Prelude.{Relations, lenient_map_of}

@@ -1,4 +1,4 @@
--- Each search finds the faults of one rank that stand.
+-- Each search finds the faults of one rank.
 use Rattle.city_doc.proofs.Prelude.{◌≡◌, ◌⊎◌, inl, inr, ℕ, ◌<◌, List, ◌++◌, [], Bool, true, false, true≢false, Option}
 use Rattle.city_doc.proofs.Prelude.{Some, None, refl}
 use Rattle.city_doc.proofs.Prelude.{sym, ap, subst, ◌∙◌, arith, option_and_then, option_map, length, Data, Members}
@@ -26,7 +26,7 @@ where_some b g f h = grind arith
 where_true : (b : Bool) (f : ReadFault) → b ≡ true → only_where b f ≡ Some f
 where_true b f h = rw h refl
 
--- what holds of each fault of a kind whose object passes the test, holds of what is found
+-- a property of each fault of a kind, if its object passes the test, is one of the faults found
 of_kind : (P : List ℕ → Data → ReadFault → Type 0) (test : List ℕ → Data → Bool) (kind : List ℕ → ReadFault)
     → ((id : List ℕ) (d : Data) → test id d ≡ true → P id d (kind id)) → (id : List ℕ) (d : Data) (f : ReadFault)
     → only_where (test id d) (kind id) ≡ Some f → P id d f
@@ -38,7 +38,7 @@ module _ (points : List Point) (ms : Members) (o : AreOrdered ms) where
   abbrev HasShape : ℕ → List ℕ → Data → ReadFault → Type 0
   HasShape n id d f = (rank_of f ≡ n) × (id_of f ≡ id)
 
-  -- it stands where the object is there
+  -- it stands if the object is there
   abbrev StandsThere : List ℕ → Data → ReadFault → Type 0
   StandsThere id d f = get_member id ms ≡ Some d → StandsAt points ms f
 
@@ -87,7 +87,7 @@ module _ (points : List Point) (ms : Members) (o : AreOrdered ms) where
     found = found_bad_vertex;
   }
 
-  -- ---- of what isn't supported
+  -- ---- of unsupported things
 
   name_found : (id : List ℕ) (o : Option (List ℕ)) (f : ReadFault) → option_map (λ name. Unsupported id name) o ≡ Some f
       → (name : List ℕ) × (o ≡ Some name) × (Unsupported id name ≡ f)
@@ -117,7 +117,7 @@ module _ (points : List Point) (ms : Members) (o : AreOrdered ms) where
     found = found_unsupported;
   }
 
-  -- ---- of objects that can be built
+  -- ---- of objects, if they can be built
 
   abbrev built : CityMap
   built = lenient_map_of points ms
@@ -224,7 +224,7 @@ module _ (points : List Point) (ms : Members) (o : AreOrdered ms) where
   rank_below (OpenShell id) = omega arith
   rank_below f = omega arith
 
-  -- what all searches tell, one after another
+  -- the faults of all searches, one after another
   abbrev pub all_told : CityMap → List ReadFault
   all_told m =
       ((((((told unknown_type ms ++ told unsupported ms) ++ told bad_geometry ms)

@@ -1,35 +1,14 @@
--- The members of the top that were written give the frame again.
-use Rattle.city_doc.proofs.Prelude.{◌≡◌, true, Some, None, arith, refl, and_parts, Data, Members, put, object}
-use Rattle.city_doc.proofs.Prelude.{get_member, get_member-put, Frame, top_members, transform_members, kept_at_top}
-use Rattle.city_doc.proofs.Prelude.{is_empty_object_or_absent, lacks_each, kept_at_transform, members_integral}
+-- The written members of the top give the frame again.
+use Rattle.city_doc.proofs.Prelude.{◌≡◌, true, Some, refl, and_parts, Data, put, object}
+use Rattle.city_doc.proofs.Prelude.{get_member-put, Frame, top_members, transform_members, kept_at_top}
+use Rattle.city_doc.proofs.Prelude.{lacks_each, kept_at_transform, members_integral}
 use Rattle.city_doc.proofs.Prelude.{frame_members, is_i64_triple, get_member-put_apart, frame_of}
-use Rattle.std.proofs.Common.{codes, ◌&&◌}
+use Rattle.std.proofs.Common.{codes}
 use Rattle.city_doc.proofs.document.KeptMembers.{kept_all, left_put, left_lacking}
-use Rattle.city_tokens.proofs.Laws.{each_lacking}
 use Rattle.city_doc.proofs.tree.ListsRead.{triple_read}
+use Rattle.city_writer.proofs.Laws.{top_members_lacking}
 
-pub record LacksTransformMembers (ms : Members) : Type 0 where
-  pub no_scale : get_member (codes "scale") ms ≡ None
-  pub no_translate : get_member (codes "translate") ms ≡ None
-
-pub transform_members_lacking : (ms : Members) → kept_at_transform ms ≡ true → LacksTransformMembers ms
-transform_members_lacking ms h = grind arith
-
-pub record LacksTopMembers (ms : Members) : Type 0 where
-  pub no_objects : get_member (codes "CityObjects") ms ≡ None
-  pub no_transform : get_member (codes "transform") ms ≡ None
-  pub no_type : get_member (codes "type") ms ≡ None
-  pub no_version : get_member (codes "version") ms ≡ None
-  pub no_vertices : get_member (codes "vertices") ms ≡ None
-
-pub top_members_lacking : (ms : Members) → kept_at_top ms ≡ true → LacksTopMembers ms
-top_members_lacking ms h =
-    let empty = is_empty_object_or_absent (get_member (codes "extensions") ms) in
-    let both = and_parts (members_integral ms && lacks_each top_members ms) empty h in
-    let all = each_lacking top_members ms (and_parts (members_integral ms) (lacks_each top_members ms) both.0).1 in
-    assumption
-
--- the frame of the members that it gave, among others
+-- the frame of its own members, among others
 pub frame_read : (f : Frame) (vertices objects : Data) → is_i64_triple f.scale ≡ true → is_i64_triple f.translate ≡ true
     → kept_at_top f.extra ≡ true → kept_at_transform f.more ≡ true
     → frame_of (object (put (codes "CityObjects") objects (put (codes "vertices") vertices (frame_members f)))) ≡ Some f

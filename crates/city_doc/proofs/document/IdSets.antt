@@ -1,4 +1,4 @@
--- A list's ids that are put into a set one after another.
+-- A list's ids, put into a set one after another.
 use Rattle.city_doc.proofs.Prelude.{◌≡◌, ℕ, List, ◌∷◌, Bool, true, false, [], not, cond, refl, arith, list_all, ◌&&◌}
 use Rattle.city_doc.proofs.Prelude.{has_id, same_id, same_id_back}
 use Rattle.std.specs.Prelude.{◌||◌}
@@ -9,7 +9,7 @@ use Rattle.city_doc.specs.internal.document.IdSets.{IsSetOf}
 abbrev none_in : List (List ℕ) → List (List ℕ) → Bool
 none_in keys ids = list_all (λ x. not (has_id keys x)) ids
 
--- the keys are the ids of the list but those that are left
+-- the keys are the ids of the list but the rest
 pub record IsFilling (all keys left : List (List ℕ)) (once : Bool) : Type 0 where
   pub same : (q : List ℕ) → (has_id keys q || has_id left q) ≡ has_id all q
   pub distinct : (once && (are_distinct left && none_in keys left)) ≡ are_distinct all

@@ -7,7 +7,7 @@ use Rattle.city_doc.proofs.Prelude.{is_integral, items_integral, members_integra
 use Rattle.city_doc.proofs.Prelude.{point_data, nested_data, geometry_data, object_data, with_objects, transform_data}
 use Rattle.city_doc.proofs.Prelude.{numbered_tree, are_kept_objects, IsKeptCity, Nested, nested, IsInRange, vertex_data}
 use Rattle.city_doc.proofs.Prelude.{is_i64_point, is_i64, is_i64_triple}
-use Rattle.city_doc.specs.internal.document.KeptMembers.{is_kept_geometry, is_kept_object}
+use Rattle.city_writer.specs.internal.document.KeptMembers.{is_kept_geometry, is_kept_object}
 use Rattle.city_tokens.proofs.Laws.{put-integral}
 use Rattle.city_doc.proofs.tree.ListsRead.{all_pass, integer_read}
 

@@ -1,4 +1,4 @@
--- The members that are left of a tree of whole numbers may be kept at their place.
+-- The remaining members of a tree of whole numbers may be kept at their place.
 use Rattle.city_doc.proofs.Prelude.{◌≡◌, ℕ, List, Bool, true, false, Some, refl, ◌∙◌, arith, ◌∷◌, [], ap, not, cond}
 use Rattle.city_doc.proofs.Prelude.{◌&&◌, and_from, Members, Data, member, string, no_members, put, get_member}
 use Rattle.city_doc.proofs.Prelude.{members_integral, lacks_each, object_members, top_members, kept_at_top}
@@ -6,7 +6,8 @@ use Rattle.city_doc.proofs.Prelude.{kept_at_object, has_location, is_empty_objec
 use Rattle.city_doc.proofs.Prelude.{kept_if, without_object_members, without_top_members, get_member-without_each}
 use Rattle.city_doc.proofs.Prelude.{has_id, put_list, same_id_back, same_id_true}
 use Rattle.std.proofs.Common.{codes}
-use Rattle.city_tokens.proofs.Laws.{lacks_each-without_each, members_integral-without_each, without-put_list}
+use Rattle.city_tokens.proofs.Laws.{lacks_each-without_each, members_integral-without_each}
+use Rattle.city_doc.proofs.tree.PutLists.{without-put_list}
 
 pub kept_all : (test : Members → Bool) (ms : Members) → test ms ≡ true → kept_if test ms ≡ Some ms
 kept_all test ms h = rw h refl
@@ -14,7 +15,7 @@ kept_all test ms h = rw h refl
 pub kept_passes : (test : Members → Bool) (ms kept : Members) → kept_if test ms ≡ Some kept → test ms ≡ true
 kept_passes test ms kept h = grind arith
 
--- what is left without some members is whole, and lacks each of these
+-- members without some names are whole, and lack each of these
 pub left_whole : (names : List (List ℕ)) (ms : Members) → members_integral ms ≡ true
     → (members_integral (without_each names ms) && lacks_each names (without_each names ms)) ≡ true
 left_whole names ms h =
@@ -60,7 +61,7 @@ pub left_put_list : {A : Type 0} (names : List (List ℕ)) (k : List ℕ) (f : A
     → has_id names k ≡ true → without_each names (put_list k f xs ms) ≡ without_each names ms
 left_put_list names k f xs ms there = grind (arith, left_put)
 
--- members that lack each are left as they are
+-- members that lack each name stay as they are
 pub left_lacking : (names : List (List ℕ)) (ms : Members) → lacks_each names ms ≡ true → without_each names ms ≡ ms
 left_lacking [] ms h = refl
 left_lacking (n ∷ names) ms h =

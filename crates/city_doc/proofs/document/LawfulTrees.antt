@@ -1,4 +1,4 @@
--- A tree of whole numbers that stands for a lawful city has no fault, from its top to its objects.
+-- A tree of whole numbers of a lawful city has no fault, from its top to its objects.
 use Rattle.city_doc.proofs.Prelude.{◌≡◌, true≢false, ◌⊎◌, inl, inr, ℕ, List, Bool, true, Option, Some, None, Result}
 use Rattle.city_doc.proofs.Prelude.{refl, sym, ap, subst, ◌∙◌, arith, false, option_and_then, is_some, Data, Members}
 use Rattle.city_doc.proofs.Prelude.{no_members, member, get, get_member, as_object, Point, kept_at_top}
@@ -144,7 +144,7 @@ module _ (d : Data) (c : CityValue) (s : StandsFor d c) (lawful : IsLawful (city
   stands_not (OpenShell id) integral h = none_there (OpenShell id) h.0
   stands_not f integral h = h
 
--- a text that is refused, but for want of memory, stands for no lawful city
+-- a text refused with a fault other than `OutOfMemory` stands for no lawful city
 pub refused : (text : List ℕ) (f : ReadFault) → DocumentFault text f
     → (f ≡ OutOfMemory) ⊎ ((c : CityValue) → IsAdmitted text c → ⊥)
 refused text f (inl h) = inl h

@@ -1,4 +1,4 @@
--- The least id that has one thing or another, and the least of badly related objects.
+-- The least id with one of two properties, and the least of badly related objects.
 use Rattle.city_doc.proofs.Prelude.{◌≡◌, ◌⊎◌, inl, inr, ℕ, List, Bool, Option, Some, None, nat_cmp, refl, sym, subst}
 use Rattle.city_doc.proofs.Prelude.{◌∙◌, arith, MatchOption, IfNone, option_map, if◌then◌else◌, is_lt, slice_cmp}
 use Rattle.city_doc.proofs.Prelude.{nat_list_cmp_total, entries, fun_ext, Members, Point, CityMap, Objects, object_at}
@@ -9,7 +9,7 @@ use Rattle.city_doc.specs.internal.document.LenientCities.{lesser}
 use Rattle.city_doc.proofs.document.LenientEntries.{found-lenient}
 use Rattle.city_doc.proofs.document.Searches.{first_is_least, none_is_none}
 
--- the least id that has it, or none has it
+-- the least id with it, or no id has it
 abbrev pub IsLeastIfAny : (List ℕ → Type 0) → Option (List ℕ) → Type 0
 IsLeastIfAny P o = MatchOption o ((id : List ℕ) → P id → ⊥) (λ id. IsLeast P id)
 
@@ -31,7 +31,7 @@ least_list : (objects : Members) (o : Option (List ℕ)) → AreOrdered objects 
 least_list objects None ordered is = λ id. none_is_none has_bad_list objects id ordered (sym is)
 least_list objects (Some a) ordered is = first_is_least has_bad_list objects a ordered (sym is)
 
--- where all relations agree nothing is misrelated
+-- if all relations agree, nothing is misrelated
 pub none_misrelated : (m : CityMap) → IsRelated m → (id : List ℕ) → IsMisrelatedAt m id → ⊥
 none_misrelated m related id h = let r = related id h.0 h.1 in grind arith
 
@@ -72,7 +72,7 @@ module _ {R : Type 0} (id_of : R → List ℕ) where
 pub lesser-none : (a b : Option (List ℕ)) → lesser a b ≡ None → (a ≡ None) × (b ≡ None)
 lesser-none a b h = grind arith
 
--- where the relations of the objects agree, and there is no bad list, no object is badly related
+-- if the relations of the objects agree, and there is no bad list, no object is badly related
 pub none_badly_related : (points : List Point) (objects : Members) (city : Objects) (bad : Option (List ℕ))
     → IsReadOf points objects (entries city) bad → bad ≡ None → IsRelated (object_at city) → (id : List ℕ)
     → IsBadlyRelatedAt points objects id → ⊥

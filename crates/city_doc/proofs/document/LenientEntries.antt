@@ -1,4 +1,4 @@
--- The entries that are read of a map of objects, and the objects that they are read of.
+-- The entries read from a map of objects, and these objects.
 use Rattle.city_doc.proofs.Prelude.{◌≡◌, ℕ, List, ◌∷◌, Bool, false, Option, Some, None, [], arith, if◌then◌else◌, Data}
 use Rattle.city_doc.proofs.Prelude.{Members, no_members, member, Body, Object, Point, Entries, found_in, body_of}
 use Rattle.city_doc.proofs.Prelude.{object_of, lenient_object_of, lenient_map_of, entries_of, lenient_entries_of}
@@ -25,7 +25,7 @@ pub none_first : (b : Bool) (id : List ℕ) (rest : Option (List ℕ)) → (if b
     → (b ≡ false) × (rest ≡ None)
 none_first b id rest h = grind arith
 
--- where a search finds nothing, no object has it
+-- if a search finds nothing, no object has it
 pub first_body-none : (test : Body → Bool) (es : Entries) → first_body test es ≡ None → (id : List ℕ) (o : Object)
     → found_in es id ≡ Some o → test o.body ≡ false
 first_body-none test [] none id o h = grind arith

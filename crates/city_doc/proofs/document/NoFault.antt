@@ -1,4 +1,4 @@
--- No fault stands in a tree of whole numbers that stands for a lawful city.
+-- A tree of whole numbers of a lawful city has no fault.
 use Rattle.city_doc.proofs.Prelude.{◌≡◌, inl, inr, ℕ, List, Bool, false, true≢false, Some, None, true, Option, Ordering}
 use Rattle.city_doc.proofs.Prelude.{◌∷◌, sym, ap, subst, ◌∙◌, arith, is_eq, nat_cmp, cond, is_none, codes}
 use Rattle.city_doc.proofs.Prelude.{if◌then◌else◌, is_some, option_map, fun_ext, Data, Members, no_members, member}
@@ -15,7 +15,7 @@ use Rattle.city_doc.proofs.document.LenientEntries.{found-lenient}
 use Rattle.city_doc.proofs.document.Right.{some_of}
 use Rattle.city_doc.specs.document.CityFaults as faults
 
--- what a tree is that an object was read of
+-- the tree of an object
 pub record IsReadAs (points : List Point) (d : Data) (o : Object) : Type 0 where
   pub body : body_of points d ≡ Some o.body
   pub parents : ids_at (codes "parents") d ≡ Some o.parents
@@ -52,7 +52,7 @@ lenient : (points : List Point) (d : Data) (o : Object) → object_of points d �
     → faults.lenient_object_of points d ≡ Some o
 lenient points d o h = grind arith
 
--- entries that are read are read where bad lists count as empty, too
+-- entries are read even if bad lists count as empty
 pub lenient_entries : (points : List Point) (ms : Members) (es : Entries) → entries_of points ms ≡ Some es
     → lenient_entries_of points ms ≡ Some es
 lenient_entries points no_members es h = h
@@ -66,7 +66,7 @@ all_sound short same unclosed h = grind arith
 -- of a lawful city's objects
 module _ (points : List Point) (ms : Members) (es : Entries) (read : entries_of points ms ≡ Some es)
     (lawful : IsLawful (found_in es)) where
-  -- a test of trees that no object passes that is read
+  -- a test that no tree of a readable object passes
   pub no_object : (test : Data → Bool) → ((d : Data) (b : Body) → body_of points d ≡ Some b → test d ≡ false)
       → (id : List ℕ) → Has test ms id → ⊥
   no_object test out id h =

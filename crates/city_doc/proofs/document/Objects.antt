@@ -1,24 +1,12 @@
--- A loop that reads the members of a map in turn into a map in the order of their bytes.
-use Rattle.city_doc.proofs.Prelude.{◌≡◌, List, ◌∷◌, ◌++◌, map, Some, None, Ordering, Less, [], nat_cmp, refl, sym, ap}
+-- The loop from the members of a map into a map in the order of their bytes.
+use Rattle.city_doc.proofs.Prelude.{◌≡◌, List, ◌∷◌, ◌++◌, map, Some, None, Less, [], nat_cmp, refl, sym}
 use Rattle.city_doc.proofs.Prelude.{subst, append-nil, AllByRecursion, keys_of, slice_cmp, option_map_id, Members, view}
 use Rattle.city_doc.proofs.Prelude.{members_view, Entries, Object, Point, lenient_object_of, lenient_entries_of}
 use Rattle.city_doc.proofs.Prelude.{map_grown}
 use Rattle.std.proofs.Common.{option_map, String, Global, string_bytes, string_cmp}
 use Rattle.std.specs.List.Sorted.{IsStrictlySortedBy}
-use Rattle.std.specs.Cmp.{IsTotalOrder}
 use Rattle.serde_json.proofs.Views.{Entry}
-
-module _ {K X : Type 0} {R : K → K → Ordering} (total : IsTotalOrder R) where
-  -- a key in the middle is above the first
-  pub middle : (es : List (K × X)) (first k : K) (more : List K)
-      → AllByRecursion (λ y. R first y ≡ Less) (keys_of es ++ k ∷ more) → R first k ≡ Less
-  middle [] first k more h = h.0
-  middle (e ∷ es) first k more h = middle es first k more h.1
-
-pub keys_of_push : {K X : Type 0} (es : List (K × X)) (k : K) (v : X) (more : List K)
-    → keys_of es ++ k ∷ more ≡ keys_of (es ++ (k, v) ∷ []) ++ more
-keys_of_push [] k v more = refl
-keys_of_push (e ∷ es) k v more = ap (λ ks. e.0 ∷ ks) (keys_of_push es k v more)
+use Rattle.city_writer.proofs.Laws.{keys_of_push}
 
 all_bytes : (k : String Global) (ks : List (String Global)) → AllByRecursion (λ y. string_cmp k y ≡ Less) ks
     → AllByRecursion (λ y. slice_cmp nat_cmp (string_bytes k) y ≡ Less) (map string_bytes ks)
@@ -32,7 +20,7 @@ unfolding IsStrictlySortedBy
 sorted_bytes [] h = tt
 sorted_bytes (k ∷ ks) h = (all_bytes k ks h.0, sorted_bytes ks h.1)
 
--- the objects of `all` are those that are done, and then those of the rest
+-- the objects of `all` are the done ones, and then the rest
 pub record IsReading (points : List Point) (all : Members) (done : Entries) (rest : List Entry) : Type 0 where
   pub read : lenient_entries_of points all ≡ option_map (λ es. done ++ es)
       (lenient_entries_of points (members_view rest))

@@ -1,4 +1,4 @@
--- There is one first fault: what a reader answers to a text is the first of all its faults, unless memory runs out.
+-- There is one first fault: the reader's answer is the first of all faults of a text, unless memory runs out.
 use Rattle.city_doc.proofs.Prelude.{◌≡◌, ◌⊎◌, inl, inr, ℕ, ◌<◌, List, ◌∷◌, Some, [], Ordering, Less, Equal}
 use Rattle.std.specs.declared.cmp.Ordering.TheVariants.{Greater}
 use Rattle.city_doc.proofs.Prelude.{nat_cmp, is_eq, refl, sym, ap, ap₂, subst, ◌∙◌, arith, slice_cmp, slice_get}
@@ -69,7 +69,7 @@ same_answer text f g (inr (inr (inr h))) (inr (inr (inr k))) =
     let same : h.0 ≡ k.0 = one_tree text h.0 k.0 h.1.1 k.1.1 in
     inr (inr (same_first k.0 f g (subst (λ d. IsFirst (StandsIn d) f) same h.2) k.2))
 
--- what a reader answers is the first of all faults
+-- the reader's answer is the first of all faults
 pub answered_first : (text : List ℕ) (fs : List ReadFault) → AreFaultsOf text fs → (f : ReadFault)
     → DocumentFault text f → (f ≡ OutOfMemory) ⊎ (slice_get fs 0 ≡ Some f)
 answered_first text [] h f k = inl (accepted_of_none text [] h refl f k)

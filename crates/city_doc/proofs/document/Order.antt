@@ -54,7 +54,7 @@ module _ (points : List Point) (ms : Members) (o : AreOrdered ms) where
       first_bad_vertex id formed found =
           (first_is_least (has_bad_vertex (length points)) ms id o found, before_vertices formed)
 
-  -- of objects that can be read
+  -- of readable objects
   module _ (h : AreReadable (length points) ms) where
     before_rings : NoneBelow 9
     before_rings (BadVertex id) lt is = none_is_none (has_bad_vertex (length points)) ms id o h.placed is.0
@@ -92,7 +92,7 @@ in_among d NotWhole integral right h = absurd (true≢false (sym integral ∙ h)
 in_among d (NotCityJson name) integral right h = grind arith
 in_among d f integral right h = h
 
--- the first that stands among the objects is the first in the tree
+-- the first fault of the objects is the first of the tree
 pub first_in : (d : Data) (f : ReadFault) → is_integral d ≡ true → wrong_member d ≡ None
     → IsFirst (StandsAmong (vertices_in d) (objects_in d)) f → IsFirst (StandsIn d) f
 first_in d f integral right first = (among_in d f first.0, λ g lt h. first.1 g lt (in_among d g integral right h))
@@ -104,7 +104,7 @@ fault_there : (d : Data) (o : Option ReadFault) → is_integral d ≡ true → w
 fault_there d None integral right h = record { right = right; objects = h }
 fault_there d (Some f) integral right h = first_in d f integral right h
 
--- what is found among the objects is what stands in the tree
+-- a fault found among the objects is one of the tree
 pub fault_in : (d : Data) (points : List Point) (ms : Members) (o : Option ReadFault) → vertices_in d ≡ points
     → objects_in d ≡ ms → is_integral d ≡ true → wrong_member d ≡ None
     → MatchOption o (AreReadable (length points) ms) (λ f. IsFirst (StandsAmong points ms) f)

@@ -1,4 +1,4 @@
--- The objects that can be built, listed by their ids.
+-- The readable objects, listed by their ids.
 use Rattle.city_doc.proofs.Prelude.{◌≡◌, ℕ, List, Option, Some, None, Less, nat_cmp}
 use Rattle.city_doc.proofs.Prelude.{refl, arith, slice_cmp, AllByRecursion, keys_of, Members}
 use Rattle.city_doc.proofs.Prelude.{no_members, member, get_member, AreOrdered, AllAbove, Point, Object, Entries}

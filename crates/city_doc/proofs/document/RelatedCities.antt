@@ -1,11 +1,11 @@
--- Cities read from their tokens, of which only the relations are left to be judged.
+-- Cities read from their tokens. Only their relations are still unjudged.
 use Rattle.city_doc.proofs.Prelude.{◌≡◌, true, subst, sym, List, ℕ, Option, None, Some, Data, CityValue, object_at}
 use Rattle.city_doc.proofs.Prelude.{IsRelated, IsAdmitted, is_integral, city_of}
 use Rattle.std.specs.Prelude.{IfSome}
 use Rattle.city_model.specs.internal.Faultless.{IsFaultless}
 use Rattle.city_tokens.specs.tree.Texts.{HasTree}
 
--- a text stands for a city without a faulty body, and is admitted where the relations agree
+-- a text stands for a city without a faulty body, and is admitted if the relations agree
 pub admitted : (text : List ℕ) (city : CityValue) → (d : Data) × HasTree text d × (is_integral d ≡ true)
     × (city_of d ≡ Some city) × IsFaultless (object_at city.1) → (o : Option CityValue)
     → IfSome o (λ c. (c ≡ city) × IsRelated (object_at c.1)) → IfSome o (IsAdmitted text)

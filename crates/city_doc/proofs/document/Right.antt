@@ -1,4 +1,4 @@
--- What holds of a tree whose members are all as a document has them.
+-- A tree with right members alone.
 use Rattle.city_doc.proofs.Prelude.{◌≡◌, ℕ, List, ◌∷◌, Bool, true, true≢false, Option, Some, None, refl, sym, [], arith}
 use Rattle.city_doc.proofs.Prelude.{ap, option_and_then, codes, is_some, Data, Items, no_items, item, Members, get, at}
 use Rattle.city_doc.proofs.Prelude.{get_member, as_object, Point, is_empty_object_or_absent, read_items, is_city_json}

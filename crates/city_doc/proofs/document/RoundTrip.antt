@@ -1,13 +1,13 @@
--- The canonical tree of a city stands for that city.
+-- The canonical tree of a city stands for the city.
 use Rattle.city_doc.proofs.Prelude.{◌≡◌, true, Some, ap, ◌∙◌, List, arith, option_and_then, entries, Data, put}
 use Rattle.city_doc.proofs.Prelude.{as_object, get_member-put, CityValue, entries_ascend, is_city_json, points_in}
 use Rattle.city_doc.proofs.Prelude.{entries_of, entries_in, city_of, tree_of, frame_members, objects_data, IsKeptCity}
 use Rattle.city_doc.proofs.Prelude.{city_points, pool_of, IsInRange, vertices_data, vertex_data, is_i64_point}
 use Rattle.city_doc.proofs.Prelude.{get_member-put_apart, listed_again, list_all, Point, point_of, points_of}
 use Rattle.std.proofs.Common.{codes}
-use Rattle.city_doc.proofs.document.EntriesRead.{written_in_turn, entries_read}
+use Rattle.city_writer.proofs.Laws.{written_in_turn, points_in_pool}
+use Rattle.city_doc.proofs.document.EntriesRead.{entries_read}
 use Rattle.city_doc.proofs.document.FramesRead.{frame_read}
-use Rattle.city_doc.proofs.pool.NumberedPoints.{points_in_pool}
 use Rattle.city_doc.proofs.tree.ListsRead.{list_read, integer_read}
 
 vertex_read : (p : Point) → is_i64_point p ≡ true → point_of (vertex_data p) ≡ Some p
@@ -33,7 +33,7 @@ module _ (c : CityValue) (kept : IsKeptCity c) (numbers : IsInRange (pool_of c) 
       ∙ ap (entries_of (pool_of c)) (written_in_turn (pool_of c) (entries c.1) (entries_ascend c.1))
       ∙ entries_read (pool_of c) (entries c.1) numbers.fewer kept.objects (points_in_pool (city_points c))
 
-  -- what is written stands for the city
+  -- the canonical tree stands for the city
   pub city_read : city_of (tree_of c) ≡ Some c
   city_read =
       let json : is_city_json (tree_of c) ≡ true = simp (get_member-put, get_member-put_apart) in

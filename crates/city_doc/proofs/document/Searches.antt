@@ -1,11 +1,11 @@
--- The first id that a search finds is the least that has it.
+-- The first id found by a search is the least.
 use Rattle.city_doc.proofs.Prelude.{◌≡◌, ℕ, List, Bool, false, Some, None, Less, Equal, nat_cmp, is_eq, refl, ap, arith}
 use Rattle.city_doc.proofs.Prelude.{slice_cmp, nat_list_cmp_total, Data, Members, no_members, member, get_member}
 use Rattle.city_doc.proofs.Prelude.{AreOrdered, AllAbove, same_id_true, Has, first_with}
 use Rattle.std.proofs.lemmas.Cmp.{tied_itself}
 use Rattle.city_doc.specs.document.Least.{IsLeastWith}
 
--- an id below those of the members isn't there
+-- an id below the ids of the members isn't there
 not_there : (j k : List ℕ) (ms : Members) → slice_cmp nat_cmp j k ≡ Less → AllAbove k ms → get_member j ms ≡ None
 not_there j k no_members lt h = refl
 not_there j k (member l d ms) lt h =
@@ -36,7 +36,7 @@ none_below : (k j : List ℕ) (d e : Data) (ms : Members) → AllAbove k ms → 
 none_below k j d e ms h lt is = let gone = not_there j k ms lt h in grind arith
 
 module _ (test : Data → Bool) where
-  -- what isn't at the first id is further on
+  -- if it isn't at the first id, it is further on
   later : (k j : List ℕ) (d : Data) (ms : Members) → test d ≡ false → AllAbove k ms → Has test (member k d ms) j
       → Has test ms j
   later k j d ms out h has = grind (arith, none_below, same_key)
@@ -48,7 +48,7 @@ module _ (test : Data → Bool) where
       let rest = first_is_least ms id o.1 in
       grind (arith, here, there, none_below, later)
 
-  -- where nothing is found, no object has it
+  -- if nothing is found, no object has it
   pub none_is_none : (ms : Members) (j : List ℕ) → AreOrdered ms → first_with test ms ≡ None → Has test ms j → ⊥
   none_is_none no_members j o none has = grind arith
   none_is_none (member k d ms) j o none has = let rest = none_is_none ms j o.1 in grind (arith, later)

@@ -1,4 +1,4 @@
--- What is told by going through the objects in their order: what is found at each of them, once, in order.
+-- Faults told by a walk through the objects in their order: the faults found at each, once, in order.
 use Rattle.city_doc.proofs.Prelude.{◌≡◌, ◌⊎◌, inl, inr, ℕ, suc, ◌<◌, List, ◌++◌, Option, Some, None, Ordering}
 use Rattle.std.specs.declared.cmp.Ordering.TheVariants.{Greater}
 use Rattle.city_doc.proofs.Prelude.{Less, Equal, nat_cmp, is_eq, refl, sym, ap, subst, ◌∙◌, arith, slice_cmp}
@@ -11,7 +11,7 @@ use Rattle.city_doc.specs.internal.document.Told.{told, with_found}
 use Rattle.city_doc.proofs.FaultLists.{all_listed, those_alike, those_or}
 use Rattle.city_doc.proofs.document.Searches.{here, there, found_above}
 
--- ---- what is found at the objects
+-- ---- the faults found at the objects
 
 module _ (find : List ℕ → Data → Option ReadFault) where
   -- it is found at an object
@@ -84,7 +84,7 @@ module _ (find : List ℕ → Data → Option ReadFault) where
 lower_or_same : (k n : ℕ) → k < suc n → (k < n) ⊎ (k ≡ n)
 lower_or_same k n h = grind arith
 
--- faults of lower ranks, and then those of one rank that are told
+-- faults of lower ranks, and then the ones told of one rank
 module _ (points : List Point) (ms : Members) (o : AreOrdered ms) where
   abbrev pub StandsBelow : ℕ → ReadFault → Type 0
   StandsBelow n f = StandsAt points ms f × (rank_of f < n)

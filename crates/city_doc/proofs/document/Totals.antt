@@ -1,4 +1,4 @@
--- A tree of whole numbers that has the form of a document has a city.
+-- A tree of whole numbers with the form of a document has a city.
 use Rattle.city_doc.proofs.Prelude.{◌≡◌, ℕ, List, true, Option, Some, None, refl, sym, ap, subst, ◌∙◌, arith, length}
 use Rattle.city_doc.proofs.Prelude.{Bool, false, MatchOption, option_and_then, codes, is_some, and_parts, entries, Data}
 use Rattle.city_doc.proofs.Prelude.{object, Members, no_members, member, get_member, as_object, Frame, Point, Entries}
@@ -20,7 +20,7 @@ use Rattle.city_doc.proofs.object.ReadBodies.{body_of-some}
 use Rattle.city_doc.proofs.document.Right.{is_right, has_points, objects_at, city_joined, some_of}
 use Rattle.city_doc.proofs.object.FaultlessBodies.{known, supported, formed, placed}
 
--- a test that no tree of a body passes finds nothing
+-- a test finds nothing if no tree of a body passes it
 none_with : (test : Data → Bool) (points : List Point)
     → ((d : Data) (b : Body) → body_of points d ≡ Some b → test d ≡ false)
     → (ms : Members) (es : Entries) → lenient_entries_of points ms ≡ Some es → first_with test ms ≡ None
@@ -31,7 +31,7 @@ are_readable : (points : List Point) (ms : Members) (es : Entries) → lenient_e
     → AreReadable (length points) ms
 are_readable points ms es h = search (none_with, known, supported, formed, placed)
 
--- what the frame and the listed objects of a tree were read of
+-- the sources of the frame and of the listed objects of a tree
 pub record IsBuilt (points : List Point) (d : Data) (c : Frame × Entries) : Type 0 where
   pub top : Members
   pub is_top : as_object d ≡ Some top
@@ -51,7 +51,7 @@ is_built points d c h =
     let frame = map_some _ (frame_of_rest (without (codes "CityObjects") top.0)) c es.2 in
     rw frame.2 (search)
 
--- a tree of which a city is built has the form of a document
+-- a tree with a city has the form of a document
 pub has_form : (d : Data) (c : Frame × Entries) → wrong_member d ≡ None → IsBuilt (vertices_in d) d c → HasForm d
 has_form d c right b = record {
   right = right;
@@ -129,14 +129,14 @@ no_city_of top integral h missing =
     city_made (vertices_in (object top)) top (objects_in (object top)) es.0 frame.0 objects.0 es.1 frame.1 in
     cc
 
--- a tree that has the form of a document has a city
+-- a tree with the form of a document has a city
 pub no_city : (d : Data) → is_integral d ≡ true → HasForm d → lenient_city_of (vertices_in d) d ≡ None → ⊥
 no_city d integral h missing =
     let top = object_with is_transform refl (codes "transform") d (is_right d h.right).transform_is in
     subst (λ x. is_integral x ≡ true → HasForm x → lenient_city_of (vertices_in x) x ≡ None → ⊥)
     (sym (object_is d top.0 top.1)) (no_city_of top.0) integral h missing
 
--- a city that is built is the tree's, where no list is bad
+-- the city built is the tree's, if no list is bad
 built_city : (d : Data) (c : Frame × Entries) → wrong_member d ≡ None → IsBuilt (vertices_in d) d c
     → first_with has_bad_list (objects_in d) ≡ None → city_of d ≡ Some (c.0, objects_of c.1)
 built_city d c right b none =
@@ -156,7 +156,7 @@ judged_as d c bad None right lists b h =
     (built_city d (listed c) right b (sym lists ∙ h.1) ∙ ap (λ objects. Some (c.0, objects)) (listed_again c.1), h.0)
 judged_as d c bad (Some f) right lists b h = λ integral. first_in d f integral right h
 
--- what is found of a city that was read of a tree is what stands in the tree
+-- a fault found in the city of a tree is one of the tree
 pub judged : (d : Data) (points : List Point) (c : CityValue) (bad : Option (List ℕ)) (fault : Option ReadFault)
     → wrong_member d ≡ None → points ≡ vertices_in d
     → lenient_city_of points d ≡ Some (listed c) → AreOrdered (objects_in d)

@@ -1,5 +1,5 @@
--- A tree that was read from a text and that has a city is a tree of whole numbers: the members that are kept are
--- tested, and what else the city is made of are positions, vertices and texts.
+-- A tree read from a text is one of whole numbers if it has a city: kept members are tested, and all else in a city are
+-- positions, vertices and texts.
 use Rattle.city_doc.proofs.Prelude.{◌≡◌, ℕ, zero, suc, ℤ, List, ◌∷◌, true, Option, Some, arith, [], refl, sym, ap}
 use Rattle.city_doc.proofs.Prelude.{subst, ◌∙◌, option_and_then, option_map, codes, is_some}
 use Rattle.city_doc.proofs.Prelude.{AllByRecursion, and_from, and_parts, Data, array, object, Items, no_items, item}
@@ -25,7 +25,7 @@ use Rattle.city_doc.proofs.document.LawfulTrees.{StandsFor, stands_for, frame_pa
 use Rattle.city_doc.proofs.document.NoFault.{read_as}
 use Rattle.city_doc.proofs.document.Searches.{here, there}
 use Rattle.city_doc.proofs.object.FaultlessBodies.{body_parts, geometry_parts}
-use Rattle.city_tokens.proofs.Laws.{all_found}
+use Rattle.city_model.proofs.Puts.{all_found}
 use Rattle.json.specs.Json as json
 
 abbrev mutual
@@ -77,14 +77,14 @@ mutual
 pub read_ordered : (text : List ℕ) (d : Data) → read text ≡ Some d → IsOrdered d
 read_ordered text d h = grind (arith, json_ordered)
 
--- members each of which is found whole are whole
+-- members are whole if each is found whole
 all_whole : (ms : Members) → AreOrdered ms → ((k : List ℕ) (d : Data) → get_member k ms ≡ Some d → is_integral d ≡ true)
     → members_integral ms ≡ true
 all_whole no_members ordered each = refl
 all_whole (member l e ms) ordered each =
     and_from _ _ (each l e (here l e ms)) (all_whole ms ordered.1 (λ k d is. each k d (there l k e d ms ordered.0 is)))
 
--- what stands at each of the names is whole
+-- the values of these names are whole
 abbrev AreWholeAt : Data → List (List ℕ) → Type 0
 AreWholeAt d names = AllByRecursion (λ n. (e : Data) → IsOrdered e → get n d ≡ Some e → is_integral e ≡ true) names
 
@@ -99,7 +99,7 @@ taken_or_left (n ∷ names) ms rest k d ordered taken left is still =
     (λ apart. taken_or_left names ms (without n rest) k d ordered taken.1 left is (get_member-without k n rest apart
     ∙ still))
 
--- an object is whole where the members of some names are, and those that are left
+-- an object is whole if the members of some names are, and the rest
 object_whole : (names : List (List ℕ)) (d : Data) (ms : Members) → as_object d ≡ Some ms → IsOrdered d
     → AreWholeAt d names → members_integral (without_each names ms) ≡ true → is_integral d ≡ true
 object_whole names d ms is ordered taken left =

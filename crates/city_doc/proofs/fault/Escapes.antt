@@ -1,4 +1,4 @@
--- What a JSON text has for the bytes of a character.
+-- The bytes of a character in a JSON text.
 use Rattle.city_doc.proofs.Prelude.{◌≡◌, ℕ, suc, ◌<◌, ◌≤◌, List, ◌∷◌, ◌++◌, length, get_or, inl, inr, [], refl, sym}
 use Rattle.city_doc.proofs.Prelude.{ap₂, subst, arith, append-nil, lt-ltb, encode_ascii, encode_utf8, escape}
 use Rattle.std.proofs.Common.{◌/◌, ◌%◌}

@@ -1,4 +1,4 @@
--- The tree that a body was read from has no fault.
+-- The tree of a body has no fault.
 use Rattle.city_doc.proofs.Prelude.{◌≡◌, List, true, false, Some, refl, ap, arith, sym, ◌∙◌, ℕ, zero, suc, ◌∷◌, Bool}
 use Rattle.city_doc.proofs.Prelude.{Option, None, [], is_some, option_and_then, option_map, Data, Members, Items}
 use Rattle.city_doc.proofs.Prelude.{no_items, item, get, as_object, get_member, Body, Point, kept_at_object}
@@ -19,7 +19,7 @@ use Rattle.std.specs.Str.{bytes_eq}
 use Rattle.std.proofs.lemmas.Option.{slice_get_within}
 use Rattle.std.proofs.lemmas.Slice.Eq.{bytes_eq-Decides}
 use Rattle.city_doc.specs.shape.Forms.{is_number, is_boundaries}
-use Rattle.city_tokens.specs.shape.Nesting.{geometry_types}
+use Rattle.city_tokens.specs.shape.GeometryTypes.{geometry_types}
 use Rattle.city_doc.proofs.document.Right.{get-object}
 
 pub record HasGeometryParts (points : List Point) (d : Data) (g : Geometry) : Type 0 where
@@ -122,7 +122,7 @@ no_location d ms is_object kept =
     ap has_location (get-object name d ms is_object ∙ sym stays)
     ∙ not-true (has_location (get_member name (without_object_members ms))) (and_parts _ _ kept).1
 
--- no body that is read has a fault that its tree shows
+-- no readable body has a fault in its tree
 pub supported : (points : List Point) (d : Data) (b : Body) → body_of points d ≡ Some b → is_unsupported d ≡ false
 supported points d b h =
     let p = body_parts points d b h in

@@ -30,7 +30,7 @@ body-unlisted points d ms is_object =
       kept_same ms,
     ) refl
 
--- of an object whose lists were taken out one after the other
+-- of an object without its lists, taken out one after the other
 module _ (points : List Point) (d : Data) (ms after left : Members) (parents children : Option Data)
     (is_object : as_object d ≡ Some ms) (has_parents : parents ≡ get_member (codes "parents") ms)
     (is_after : after ≡ without (codes "parents") ms) (has_children : children ≡ get_member (codes "children") after)

@@ -1,26 +1,19 @@
--- The tree of an object is read as that object.
-use Rattle.city_doc.proofs.Prelude.{◌≡◌, ◌<◌, List, ◌∷◌, length, Bool, true, Some, None, refl, [], arith, ◌&&◌, ◌^◌}
-use Rattle.city_doc.proofs.Prelude.{list_all, and_parts, string, Members, put, get_member, as_str, get_member-put}
+-- The tree of an object is read as the object.
+use Rattle.city_doc.proofs.Prelude.{◌≡◌, ◌<◌, List, ◌∷◌, length, Bool, true, Some, refl, [], arith, ◌&&◌, ◌^◌}
+use Rattle.city_doc.proofs.Prelude.{list_all, and_parts, string, put, as_str, get_member-put}
 use Rattle.city_doc.proofs.Prelude.{Point, Geometry, Object, object_members, geometry_members, kept_at_object}
 use Rattle.city_doc.proofs.Prelude.{lacks_each, kept_at_geometry, name_of, members_integral, geometry_of, object_of}
 use Rattle.city_doc.proofs.Prelude.{put_list, object_points, geometry_data, object_data, get_member-put_apart}
 use Rattle.std.proofs.Common.{codes}
 use Rattle.city_model.specs.Types.{type_named}
 use Rattle.city_model.proofs.TypeNames.{named}
-use Rattle.city_doc.specs.Pool.{geometry_points}
-use Rattle.city_doc.specs.internal.document.KeptMembers.{is_kept_geometry, is_kept_object}
+use Rattle.city_writer.specs.Pool.{geometry_points}
+use Rattle.city_writer.specs.internal.document.KeptMembers.{is_kept_geometry, is_kept_object}
 use Rattle.city_doc.proofs.document.KeptMembers.{kept_all, left_put, left_lacking, left_put_list}
 use Rattle.city_doc.proofs.tree.ListsRead.{put_list_read, all_pass}
-use Rattle.city_doc.proofs.pool.NumberedPoints.{are_in, parts_in, shape_read}
-use Rattle.city_tokens.proofs.Laws.{get_member-put_list_apart}
-
-pub record LacksGeometryMembers (ms : Members) : Type 0 where
-  pub no_type : get_member (codes "type") ms ≡ None
-  pub no_lod : get_member (codes "lod") ms ≡ None
-  pub no_boundaries : get_member (codes "boundaries") ms ≡ None
-
-pub geometry_members_lacking : (ms : Members) → kept_at_geometry ms ≡ true → LacksGeometryMembers ms
-geometry_members_lacking ms h = grind arith
+use Rattle.city_writer.proofs.Laws.{are_in, parts_in, object_members_lacking}
+use Rattle.city_doc.proofs.shape.PointsRead.{shape_read}
+use Rattle.city_doc.proofs.tree.PutLists.{get_member-put_list_apart}
 
 geometry_read : (pool : List Point) → length pool < 2 ^ 63 → (g : Geometry)
     → (is_kept_geometry g && are_in pool (geometry_points g)) ≡ true → geometry_of pool (geometry_data pool g) ≡ Some g
@@ -35,15 +28,6 @@ geometry_read pool small g h =
       kept_all kept_at_geometry g.extra hs.0,
       shape_read pool small g.shape hs.1,
     )
-
-pub record LacksObjectMembers (ms : Members) : Type 0 where
-  pub no_type : get_member (codes "type") ms ≡ None
-  pub no_geometry : get_member (codes "geometry") ms ≡ None
-  pub no_parents : get_member (codes "parents") ms ≡ None
-  pub no_children : get_member (codes "children") ms ≡ None
-
-pub object_members_lacking : (ms : Members) → kept_at_object ms ≡ true → LacksObjectMembers ms
-object_members_lacking ms h = grind arith
 
 both_all : {X : Type 0} (f g : X → Bool) (xs : List X) → list_all f xs ≡ true → list_all g xs ≡ true
     → list_all (λ x. f x && g x) xs ≡ true

@@ -124,8 +124,7 @@ not_located located rest h = grind arith
 known_some : (o : Option ObjectType) → is_none o ≡ false → is_some o ≡ true
 known_some o h = grind arith
 
--- a tree of whole numbers that is an object of a known type, with nothing unsupported and with positions that name
--- points
+-- a tree of whole numbers for an object of a known type, with nothing unsupported and with a point for each position
 pub record IsReadable (points : List Point) (d : Data) : Type 0 where
   pub integral : is_integral d ≡ true
   pub is_object : is_some (as_object d) ≡ true

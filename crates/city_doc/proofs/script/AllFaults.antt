@@ -1,4 +1,4 @@
--- The list of all faults of a text of scripts: of one fault, of those of its items, and of a text that can be read.
+-- The list of all faults of a text of scripts: of one fault, of the faults of its items, and of a readable text.
 use Rattle.city_doc.proofs.Prelude.{◌≡◌, inl, inr, ℕ, List, ◌∷◌, true, false, true≢false, Option, Some, None, []}
 use Rattle.city_doc.proofs.Prelude.{refl, sym, subst, ◌∙◌, is_some, Data, Scripted, is_integral}
 use Rattle.std.specs.Prelude.{IfSome}
@@ -63,7 +63,7 @@ pub not_whole_alone : (text : List ℕ) → HasOtherNumber text → AreFaultsOf 
 not_whole_alone text h =
     of_text text h.0 _ h.1 (one_alone (IsFaultOfTree h.0) NotWhole h.2 (only_fraction h.0 h.2))
 
--- a text that stands for scripts has none
+-- a text of scripts has none
 none_of_read : (text : List ℕ) (ss : List Scripted) → IsReadAs text ss → AreFaultsOf text []
 none_of_read text ss (d, tree, integral, h) =
     of_text text d [] tree (none_there (IsFaultOfTree d) (by (array_of d) refl))

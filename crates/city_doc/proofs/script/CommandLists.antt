@@ -1,4 +1,4 @@
--- Lists of the trees of commands: which of them end a script, and what is taken out of its members.
+-- Lists of the trees of commands: the end of a script, and the parts taken out of its members.
 use Rattle.city_doc.proofs.Prelude.{◌≡◌, ℕ, ◌+◌, ◌<◌, List, true, length, map, drop, get_or, Option, Some, [], ◌∷◌, suc}
 use Rattle.city_doc.proofs.Prelude.{◌∙◌, arith, refl, codes, Data, Members, get_member, without, get_member-without}
 use Rattle.city_doc.proofs.Prelude.{word_ends, commands_in, parts_in}
@@ -13,7 +13,7 @@ is_last-length : {A : Type 0} (f : A → Data) (xs : List A) (n : ℕ) → lengt
 is_last-length f [] n e = grind (arith, e)
 is_last-length f (x ∷ xs) n e = grind (arith, e)
 
--- a word that ends a script is the last tree, or the list is no script's
+-- a word that ends a script is the last tree, or no script has this list
 pub word_ends-drop : {A : Type 0} (f : A → Data) (xs : List A) (i : ℕ) (x : A) → i < length xs → x ≡ get_or xs i x
     → is_end_word (f x) ≡ true
     → word_ends (map f (drop i xs)) ≡ (i + 1 == length xs)

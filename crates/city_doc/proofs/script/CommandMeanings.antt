@@ -1,4 +1,4 @@
--- Which commands stand for any.
+-- Trees with a command.
 use Rattle.city_doc.proofs.Prelude.{◌≡◌, ℕ, List, length, true, false, Option, Some, refl, arith, true≢false, None, ap}
 use Rattle.city_doc.proofs.Prelude.{option_and_then, option_map, codes, is_none, is_some, Data, Members, get, as_object}
 use Rattle.city_doc.proofs.Prelude.{Point, Command, Body, is_integral, has_bad_vertex, is_unknown_type, is_bad_geometry}
@@ -18,7 +18,7 @@ use Rattle.city_tokens.proofs.Laws.{owns, form_owns}
 use Rattle.city_doc.proofs.document.Right.{some_of}
 use Rattle.city_doc.proofs.object.ReadBodies.{body_of-some, geometries_some}
 
--- what an object that isn't bad is
+-- the parts of an object of a right form
 pub record IsGood (d : Data) : Type 0 where
   pub is_object : is_none (as_object d) ≡ false
   pub unrelated : names_relations d ≡ false
@@ -29,7 +29,7 @@ pub record IsGood (d : Data) : Type 0 where
 pub good : (d : Data) → is_bad_object d ≡ false → IsGood d
 good d h = grind (arith, or_parts)
 
--- an object that isn't bad, and whose positions name points, has a body
+-- an object of a right form has a body, if its positions have points
 pub body_of-good : (points : List Point) (d : Data) → is_integral d ≡ true → is_bad_object d ≡ false
     → has_bad_vertex (length points) d ≡ false → (b : Body) × (body_of points d ≡ Some b)
 body_of-good points d integral h placed =
@@ -42,7 +42,7 @@ body_of-good points d integral h placed =
       placed = placed;
     })
 
--- an object that names no relations
+-- an object without relations
 unrelated_some : (points : List Point) (tree : Data) → is_integral tree ≡ true → is_bad_object tree ≡ false
     → has_bad_vertex (length points) tree ≡ false → (b : Body) × (unrelated_body points tree ≡ Some b)
 unrelated_some points tree integral fine placed =
@@ -58,7 +58,7 @@ attributes_kept d named integral own =
     let whole = as_object-integral r.0 named (get-integral (codes "attributes") d r.0 integral r.1) r.2 in
     rw whole refl
 
--- a form in which nothing is wrong, and whose positions name points
+-- a form without a fault, if its positions have points
 record IsGoodForm (count : ℕ) (f : CommandForm) : Type 0 where
   pub read : (has_bad_object (object_tree f) || has_bad_geometry (geometry_tree f)) ≡ false
   pub placed : (names_vertex_beyond count (object_tree f) || names_vertex_beyond count (geometry_tree f)) ≡ false

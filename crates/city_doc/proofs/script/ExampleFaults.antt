@@ -1,4 +1,4 @@
--- Three items and all that is wrong with them: the worked case of the order of a script's faults.
+-- Three items and all their faults: the worked case of the order of a script's faults.
 use Rattle.city_doc.proofs.Prelude.{List, ◌∷◌, [], refl, arith, inl, inr, codes, array, item, no_items, number, object}
 use Rattle.city_doc.proofs.Prelude.{string, put, Data, Members, no_members}
 use Rattle.serde_json.specs.Data.{unsigned}
@@ -28,7 +28,7 @@ put_road members = object (put (codes "put") (string (codes "g")) (put (codes "o
 abbrev far : Data
 far = put_road road
 
--- nor does that of this one, which names parents as well
+-- nor does the one of this item; it names parents as well
 abbrev related : Data
 related = put_road (put (codes "parents") (array no_items) road)
 
@@ -40,7 +40,7 @@ items =
     script (array (item far (item related (item commit no_items)))) ∷ string (codes "x")
     ∷ script (array (item (string (codes "halt")) (item commit no_items))) ∷ []
 
--- all faults of the three, each once, in order; a command that is refused isn't asked for its vertices
+-- all faults of the three, each once, in order; a bad command isn't asked for its vertices
 pub all_of_three : AreThose (StandsAt items)
     (BadScript 1 ∷ BadCommand 0 1 ∷ BadCommand 2 0 ∷ BadVertex 0 0 ∷ [])
 unfolding types.type_named

@@ -1,6 +1,7 @@
--- A text that stands for scripts has no fault.
+-- A text of scripts has no fault.
 use Rattle.city_doc.proofs.Prelude.{◌≡◌, true≢false, ℕ, List, length, Bool, true, false, Option, Some, None, refl, sym}
-use Rattle.city_doc.proofs.Prelude.{ap, ◌∙◌, arith, option_and_then, slice_get, Data, get, codes, Point, Geometry, Command}
+use Rattle.city_doc.proofs.Prelude.{ap, ◌∙◌, arith, option_and_then, slice_get, Data, get, codes, Point, Geometry}
+use Rattle.city_doc.proofs.Prelude.{Command}
 use Rattle.city_doc.proofs.Prelude.{Scripted, Body, body_of, has_bad_vertex, is_bad_geometry, is_position, all_read}
 use Rattle.city_doc.proofs.Prelude.{is_bad_command, names_bad_vertex, not}
 use Rattle.city_doc.proofs.Prelude.{command_of, ScriptParts, parts_of, vertex_count, and_parts, and_then_some, map_some}
@@ -23,7 +24,7 @@ use Rattle.city_doc.proofs.script.Meanings.{vertex_points-as_many}
 
 -- ---- commands
 
--- a command that has a meaning, of a form or a tree
+-- a command with a meaning, of a form or a tree
 pub record IsFine (bad misplaced : Bool) : Type 0 where
   pub good : bad ≡ false
   pub placed : misplaced ≡ false
@@ -41,7 +42,7 @@ object_fine points d b h = by (names_relations d) refl
           placed = placed points d b is;
         }
 
--- what gives no geometries by themselves
+-- forms without geometries of their own
 only_object : (bad misplaced : Bool) → IsFine bad misplaced → IsFine (bad || false) (misplaced || false)
 only_object bad misplaced h = record { good = rw h.good refl; placed = rw h.placed refl }
 
@@ -115,13 +116,13 @@ module _ (ds : List Data) (ps : List ScriptParts) (ss : List Scripted) (read : a
       true≢false (sym (and_parts _ _ has).1 ∙ (fine s p d n i at is there).placed)
   none_stands f h = h
 
--- an array that stands for scripts has no fault
+-- an array of scripts has no fault
 pub none_of_scripts : (d : Data) (ds : List Data) (ss : List Scripted) → scripts_of d ≡ Some ss → array_of d ≡ Some ds
     → (f : ScriptFault) → StandsAt ds f → ⊥
 none_of_scripts d ds ss h is f k =
     let ps = and_then_some scripts_of_parts (option_and_then (all_read parts_of) (array_of d)) ss h in
     none_stands ds ps.0 ss (sym (ap (option_and_then (all_read parts_of)) is) ∙ ps.1) ps.2 f k
 
--- what stands for scripts is an array
+-- only an array stands for scripts
 pub scripts_array : (d : Data) (ss : List Scripted) → scripts_of d ≡ Some ss → array_of d ≡ None → ⊥
 scripts_array d ss h none = grind (arith, h, none)

@@ -1,4 +1,4 @@
--- What a search finds: the first item where there is anything, and nothing before it.
+-- The result of a search: something at an item, and nothing before it.
 use Rattle.city_doc.proofs.Prelude.{◌≡◌, ℕ, zero, suc, ◌+◌, ◌<◌, ◌≤◌, List, [], ◌∷◌, length, map, drop, get_or, Option}
 use Rattle.city_doc.proofs.Prelude.{Some, None, refl, sym, ap, ◌∙◌, arith, add-one, drop-cons, slice_get, first_at}
 use Rattle.std.proofs.Common.{drop_of_length-le}
@@ -52,13 +52,13 @@ none_step find n x xs None is h ih j y at =
     step_from find (λ k. Unit {0}) n x xs is (λ k z all. ih h k z) j y tt at
 none_step find n x xs (Some g) is h ih j y at = absurd (grind arith)
 
--- where nothing is found, no item has anything
+-- if nothing is found, no item has anything
 pub first_at-none : {A B : Type 0} (find : ℕ → A → Option B) (n : ℕ) (xs : List A) → first_at find n xs ≡ None
     → (j : ℕ) (y : A) → slice_get xs j ≡ Some y → find (n + j) y ≡ None
 first_at-none find n [] h j y at = absurd (let no : ⊥ = cc in no)
 first_at-none find n (x ∷ xs) h j y at = none_step find n x xs (find n x) refl h (first_at-none find (n + 1) xs) j y at
 
--- the items from one on, of a list that is searched in place
+-- the items from one on, for a search in place
 from_here : {A C : Type 0} (f : C → A) (xs : List C) (i : ℕ) (x : C) → i < length xs → x ≡ get_or xs i x
     → map f (drop i xs) ≡ f x ∷ map f (drop (i + 1) xs)
 from_here f xs i x h at = ap (map f) (drop-cons xs i x h) ∙ ap (λ y. f y ∷ map f (drop (suc i) xs)) (sym at)

@@ -1,4 +1,4 @@
--- What the reader finds is the first fault of an array of scripts.
+-- The reader's answer is the first fault of an array of scripts.
 use Rattle.city_doc.proofs.Prelude.{◌≡◌, ℕ, ◌+◌, ◌<◌, List, Bool, true, false, Some, None, Option, refl, sym, ap, subst}
 use Rattle.city_doc.proofs.Prelude.{◌∙◌, inl, inr, arith, slice_get, option_map, Data, is_bad_command, names_bad_vertex}
 use Rattle.city_doc.proofs.Prelude.{ScriptParts, vertex_count, parts_of, first_at, bad_script, index_if, first_in}
@@ -12,7 +12,7 @@ use Rattle.city_doc.specs.script.Faults.{HasAt, IsBefore, IsFirstAt, PartsFault,
 use Rattle.city_doc.specs.internal.script.Searches.{unless}
 use Rattle.city_doc.proofs.script.FirstAt.{first_at-is, first_at-none}
 
-unless_some : {A B : Type 0} (o : Option A) (y z : B) → unless o y ≡ Some z → (o ≡ None) × (z ≡ y)
+pub unless_some : {A B : Type 0} (o : Option A) (y z : B) → unless o y ≡ Some z → (o ≡ None) × (z ≡ y)
 unless_some o y z h = grind arith
 
 unless_none : {A B : Type 0} (o : Option A) (y : B) → unless o y ≡ None → o ≡ None → ⊥

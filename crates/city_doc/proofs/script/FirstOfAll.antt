@@ -1,4 +1,4 @@
--- The first of all faults is what a reader answers, and which texts are accepted.
+-- The first of all faults is the reader's answer; and the accepted texts.
 use Rattle.city_doc.proofs.Prelude.{◌≡◌, ◌⊎◌, inl, inr, ℕ, ◌<◌, List, ◌∷◌, Bool, true, false, true≢false, Option, Some}
 use Rattle.city_doc.proofs.Prelude.{None, [], refl, sym, ap, subst, ◌∙◌, arith, slice_get, Data, is_integral, all_read}
 use Rattle.city_doc.proofs.Prelude.{is_bad_command, names_bad_vertex, ScriptParts, parts_of, and_parts}
@@ -92,7 +92,7 @@ module _ (ds : List Data) where
       by true bad = h.least (BadCommand k j) (s, p, d, at, is, there, bad) (inl (search (arith)))
       by false good = h.least (BadVertex k j) (s, p, d, at, is, there, rw (good, has) refl) (inr (refl, before))
 
-  -- the least is the first that a reader finds
+  -- the least is the reader's first
   first_item : (f : ScriptFault) → IsLeastOf (StandsAt ds) f → ItemsFault ds f
   first_item (BadScript n) h =
       inl (n, refl, (h.stands, λ k lt bad. h.least (BadScript k) bad (inr (refl, inl lt))))
@@ -135,7 +135,7 @@ module _ (ds : List Data) where
       )
   first_item f h = absurd h.stands
 
-  -- what a reader finds is the least
+  -- the reader's first is the least
   least_item : (f : ScriptFault) → ItemsFault ds f → IsLeastOf (StandsAt ds) f
   least_item f (inl (n, is, first)) = subst (IsLeastOf (StandsAt ds)) (sym is) (record {
     stands = first.0;
@@ -208,7 +208,7 @@ least_in_tree d f integral (inr (ds, is, fault)) =
       least = λ g k before. r.least g (at_items d ds integral is g k) before;
     }
 
--- the least of all faults of a text is what a reader may answer
+-- the reader may answer the least of all faults of a text
 first_of_all : (text : List ℕ) (f : ScriptFault) → IsLeastOf (IsFaultOf text) f → ScriptTextFault text f
 first_of_all text f h = by h.stands
   where
@@ -229,7 +229,7 @@ first_of_all text f h = by h.stands
     by (inr (inl k)) = inr (inr (inl k))
     by (inr (inr (d, tree, k))) = in_text d tree k (is_integral d) refl
 
--- what a reader answers is the least of all faults, unless memory ran out
+-- the reader's answer is the least of all faults, unless memory ran out
 answer_least : (text : List ℕ) (f : ScriptFault) → ScriptTextFault text f
     → (f ≡ OutOfMemory) ⊎ IsLeastOf (IsFaultOf text) f
 answer_least text f (inl memory) = inl memory
@@ -285,7 +285,7 @@ none_of_accepted text (f ∷ fs) h accepted =
     let r = least_told text f fs h in
     absurd (no_memory text (subst (IsFaultOf text) (accepted f (first_of_all text f r)) r.stands))
 
--- what a reader answers is the first of all faults
+-- the reader's answer is the first of all faults
 pub answered_first : (text : List ℕ) (fs : List ScriptFault) → AreFaultsOf text fs → (f : ScriptFault)
     → ScriptTextFault text f → (f ≡ OutOfMemory) ⊎ (slice_get fs 0 ≡ Some f)
 answered_first text [] h f k = inl (accepted_of_none text [] h refl f k)

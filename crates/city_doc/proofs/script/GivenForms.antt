@@ -1,5 +1,6 @@
--- What a command is, by its form and by what its tree has.
-use Rattle.city_doc.proofs.Prelude.{◌≡◌, List, Option, Some, refl, ap, ◌∙◌, sym, option_map, option_and_then, codes, Data, get}
+-- Commands, by their forms and their trees.
+use Rattle.city_doc.proofs.Prelude.{◌≡◌, List, Option, Some, refl, ap, ◌∙◌, sym, option_map, option_and_then, codes}
+use Rattle.city_doc.proofs.Prelude.{Data, get}
 use Rattle.city_doc.proofs.Prelude.{as_object, as_str, Point, Command, command_of, kept_if, list_of}
 use Rattle.city_model.specs.declared.command.Command.TheVariants.{Put, Add, Set, Unset, Reshape, Expect}
 use Rattle.city_model.specs.Kept.{kept_at_attributes}
@@ -8,7 +9,7 @@ use Rattle.city_tokens.specs.script.CommandForms.{ExpectForm, form_of}
 use Rattle.city_tokens.specs.script.Commands.{unrelated_body, geometries_of, command_of_form}
 use Rattle.city_tokens.proofs.Laws.{owns, form_owns}
 
--- the command of this form, where what it gives is looked up in a tree
+-- the command of this form, with its parts looked up in a tree
 abbrev pub given_in : List Point → Data → CommandForm → Option Command
 given_in points d (PutForm id tree) =
     option_map (Put id) (option_and_then (unrelated_body points) (get (codes "object") d))
@@ -34,7 +35,7 @@ own_given points d (ReshapeForm id tree) own = ap (λ d. option_map (Reshape id)
 own_given points d (ExpectForm id named) own = ap (λ o. option_map (Expect id) (option_and_then (kept_if kept_at_attributes) o)) (sym own)
 own_given points d f own = refl
 
--- what a tree of this form stands for
+-- the command of a tree of this form
 pub given_form : (points : List Point) (d : Data) (f : CommandForm) → form_of d ≡ Some f
     → command_of points d ≡ given_in points d f
 given_form points d f form =

@@ -1,4 +1,4 @@
--- The items of a text that all have the form of a script, and their parts.
+-- Items that all have the form of a script, and their parts.
 use Rattle.city_doc.proofs.Prelude.{◌≡◌, ℕ, zero, suc, List, [], ◌∷◌, length, Bool, Option, Some, refl, sym}
 use Rattle.city_doc.proofs.Prelude.{◌∙◌, ap, arith, slice_get, list_any, Data, all_read, ScriptParts, parts_of}
 use Rattle.std.proofs.Common.{ap₂}
@@ -13,7 +13,7 @@ read_first : {A B : Type 0} (read : A → Option B) (x : A) (xs : List A) (ys : 
     → (y : B) × (rest : List B) × (read x ≡ Some y) × (all_read read xs ≡ Some rest) × (ys ≡ y ∷ rest)
 read_first read x xs ys h = grind arith
 
--- what is read of the item at an index stands at the same index
+-- the parts of the item at an index stand at the same index
 pub all_read-at : {A B : Type 0} (read : A → Option B) (xs : List A) (ys : List B) (n : ℕ) (x : A)
     → all_read read xs ≡ Some ys → slice_get xs n ≡ Some x
     → (y : B) × (slice_get ys n ≡ Some y) × (read x ≡ Some y)
@@ -52,7 +52,7 @@ overlong_alike (d ∷ ds) ps h =
     ap₂ (λ a b. a || b) (ap is_overlong r.2) (overlong_alike ds r.1 r.3)
     ∙ ap (list_any (λ p. nat_lt max_commands (length p.commands))) (sym r.4)
 
--- there are too many of the items where there are too many of their parts
+-- there are too many items if there are too many parts
 pub too_many_alike : (ds : List Data) (ps : List ScriptParts) → all_read parts_of ds ≡ Some ps
     → are_too_many ds ≡ scripts.are_too_many ps
 too_many_alike ds ps h =

@@ -1,4 +1,4 @@
--- What scripts stand for.
+-- Meanings of scripts.
 use Rattle.city_doc.proofs.Prelude.{◌≡◌, ℕ, List, length, Bool, true, Option, Some, None, ap, ◌∙◌, false, refl, arith}
 use Rattle.city_doc.proofs.Prelude.{◌&&◌, option_and_then, codes, slice_get, list_all, and_parts, Data, Items, no_items}
 use Rattle.city_doc.proofs.Prelude.{item, Members, get_member, as_object, Point, Command, Scripted, is_integral}
@@ -70,7 +70,7 @@ module _ (ps : List ScriptParts) (h : AreFaultlessParts ps) (n : ℕ) (p : Scrip
         let cs = all_read-some (command_of points.0) p.commands (command_there points.0 hs.1 points.1) in
         ((p.name, cs.0), rw (points.1, cs.1) refl)
 
--- scripts of whole numbers in which no fault stands
+-- scripts of whole numbers without a fault
 pub scripts-there : (ds : List Data) (ps : List ScriptParts) → list_all is_integral ds ≡ true
     → all_read parts_of ds ≡ Some ps → AreFaultlessParts ps
     → option_and_then scripts_of_parts (all_read parts_of ds) ≡ None → ⊥

@@ -1,4 +1,4 @@
--- What is wrong with a reshape, whose geometry stands in its own tree.
+-- The faults of a reshape. Its geometry stands in its own tree.
 use Rattle.city_doc.proofs.Prelude.{◌≡◌, ℕ, List, Bool, Some, sym, ap, ◌∙◌, Data, is_bad_command, is_bad_geometry}
 use Rattle.city_doc.proofs.Prelude.{has_bad_vertex, names_bad_vertex}
 use Rattle.city_doc.specs.script.CommandFaults.{is_no_good_form, form_names_bad_vertex}

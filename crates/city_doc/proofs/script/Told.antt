@@ -1,4 +1,4 @@
--- What is told by going through items in their order: what is found at each of them, once, in order.
+-- Faults told by a walk through items in their order: the faults found at each, once, in order.
 use Rattle.city_doc.proofs.Prelude.{◌≡◌, ◌⊎◌, inl, inr, ℕ, zero, suc, ◌+◌, ◌<◌, List, ◌∷◌, ◌++◌, Option, Some, None, []}
 use Rattle.city_doc.proofs.Prelude.{Bool, true, false, refl, sym, ap, subst, ◌∙◌, arith, slice_get, option_map}
 use Rattle.city_doc.proofs.Prelude.{ap₂, length, map, list_any, Data, ScriptParts, parts_of, vertex_count}
@@ -22,6 +22,7 @@ use Rattle.city_doc.specs.internal.script.Told.{only_where, bad_command, bad_ver
 use Rattle.city_doc.specs.internal.script.Searches.{unless}
 use Rattle.city_doc.proofs.FaultLists.{listed_parts, listed_first, listed_last, ordered_append, those_alike, those_or}
 use Rattle.city_doc.proofs.FaultLists.{one_alone, none_there}
+use Rattle.city_doc.proofs.script.FirstFaults.{unless_some}
 
 -- ---- items with numbers
 
@@ -72,10 +73,7 @@ some_listed o f is = subst (λ o. IsListed (option_to_list o) f) (sym is) (inl r
 where_some : (b : Bool) (g f : ScriptFault) → only_where b g ≡ Some f → (b ≡ true) × (f ≡ g)
 where_some b g f h = grind arith
 
--- ---- items that aren't scripts
-
-unless_some : {A B : Type 0} (o : Option A) (y z : B) → unless o y ≡ Some z → (o ≡ None) × (z ≡ y)
-unless_some o y z h = grind arith
+-- ---- items without the form of a script
 
 unless_none : {A B : Type 0} (o : Option A) (y : B) → o ≡ None → unless o y ≡ Some y
 unless_none o y h = rw h refl
@@ -120,7 +118,7 @@ module _ (ds : List Data) where
   pub too_many_told : AreThose IsTooManyFault (too_many ds)
   too_many_told = many_told (are_too_many ds) refl
 
--- of the forms that are kept those are too many that are too many of the items
+-- a kept form has too many commands exactly if an item has
 long_step : (n : ℕ) (o : Option ScriptParts) (rest : List (ℕ × ScriptParts))
     → list_any (λ (q : ℕ × ScriptParts). has_too_many_commands q.1) (option_to_list (option_map (λ p. (n, p)) o) ++ rest)
     ≡ (is_overlong o || list_any (λ (q : ℕ × ScriptParts). has_too_many_commands q.1) rest)
@@ -163,7 +161,7 @@ each_item find n [] = refl
 each_item find n (d ∷ ds) = each_step find n (parts_of d) (numbered (n + 1) ds)
     ∙ ap (λ fs. item_told find n (parts_of d) ++ fs) (each_item find (n + 1) ds)
 
--- a test of commands, the fault of a command that passes it, and the order of these
+-- a test of commands, the fault of a command if it passes, and the order of these
 module _ (test : ℕ → Data → Bool) (kind : ℕ → ℕ → ScriptFault)
     (scripts : (j k i l : ℕ) → j < k → IsBefore (kind j i) (kind k l))
     (commands : (n i l : ℕ) → i < l → IsBefore (kind n i) (kind n l)) where

@@ -1,4 +1,4 @@
--- A list that was written is read again.
+-- A written list is read again.
 use Rattle.city_doc.proofs.Prelude.{◌≡◌, ℕ, List, ◌∷◌, map, Bool, true, Option, Some, None, refl, arith, [], ℤ}
 use Rattle.city_doc.proofs.Prelude.{list_all, Data, Members, get_member, as_i64, of_integer, items_of, get_member-put}
 use Rattle.city_doc.proofs.Prelude.{read_items, list_of, list_or_absent, list_data, put_list, triple_of, triple_data}

@@ -1,9 +1,9 @@
--- Lists that are read from the items of an array.
+-- Lists read from the items of an array.
 use Rattle.city_doc.proofs.Prelude.{◌≡◌, List, ◌∷◌, ◌++◌, Option, Some, arith, [], Data, Items, item, read_items}
 use Rattle.city_doc.proofs.Prelude.{all_read, map_grown}
 use Rattle.std.proofs.Common.{option_map}
 
--- one more item of what is left has been read
+-- one more item of the rest has been read
 pub read_items-step : {X : Type 0} (read : Data → Option X) (all : Option (List X)) (done next : List X)
     (left more : Items) (d : Data) (x : X)
     → all ≡ option_map (λ xs. done ++ xs) (read_items read left) → left ≡ item d more → read d ≡ Some x

@@ -1,4 +1,4 @@
--- All faults of a document's text, each at the id that it names, and their order.
+-- All faults of a document's text, each at its id, and their order.
 use Rattle.std.specs.Prelude.{◌≡◌, ◌⊎◌, ◌<◌, ◌&&◌, not, ℕ, List, [], Bool, true, false, Some, None, length}
 use Rattle.std.specs.declared.cmp.Ordering.TheVariants.{Less}
 use Rattle.std.specs.Ordering.{nat_cmp}
@@ -19,13 +19,13 @@ use Rattle.city_doc.specs.document.Top.{wrong_member}
 use Rattle.city_doc.specs.object.Faults.{is_unknown_type, is_bad_geometry, has_bad_vertex}
 use Rattle.city_tokens.specs.tree.Texts.{IsTooLong, IsNoJson, HasTree}
 
--- ---- which faults stand
+-- ---- when a fault stands
 
 -- the geometry isn't bad, and a position in it is negative, or isn't less than the count
 abbrev pub is_misplaced : ℕ → Data → Bool
 is_misplaced count d = not (is_bad_geometry d) && has_bad_vertex count d
 
--- the object that the fault names has it; positions name these points
+-- the object of the fault has it; positions index these points
 abbrev pub StandsAt : List Point → Members → ReadFault → Type 0
 StandsAt points objects OutOfMemory = ⊥
 StandsAt points objects TooLong = ⊥
@@ -56,7 +56,7 @@ IsFaultOf text f =
 
 -- ---- their order
 
--- the id of the object that a fault names; no bytes where it names none
+-- the id of a fault; no bytes if it has none
 abbrev pub id_of : ReadFault → List ℕ
 id_of OutOfMemory = []
 id_of TooLong = []
@@ -76,7 +76,7 @@ abbrev pub IsBefore : ReadFault → ReadFault → Type 0
 IsBefore f g =
     (rank_of f < rank_of g) ⊎ ((rank_of f ≡ rank_of g) × (slice_cmp nat_cmp (id_of f) (id_of g) ≡ Less))
 
--- those for which it holds, each once, in order
+-- all faults with the property, each once, in order
 abbrev pub AreThose : (ReadFault → Type 0) → List ReadFault → Type 0
 AreThose P faults = AreAll IsBefore P faults
 

@@ -1,4 +1,4 @@
--- What holds of the canonical text of a city, unless the text nests so deep that it isn't read.
+-- Promises of the canonical text of a city. Some need that the text doesn't nest too deep to be read.
 use Rattle.std.specs.Prelude.{◌≡◌, ◌≤◌, ℕ, List}
 use Rattle.json.specs.Lex.{tokens}
 use Rattle.serde_json.specs.Data.{depth}
@@ -6,16 +6,16 @@ use Rattle.serde_json.specs.Read.{max_depth}
 use Rattle.city_model.specs.CityMap.{object_at, CityValue}
 use Rattle.city_model.specs.Relations.{IsLawful}
 use Rattle.city_doc.specs.document.Accepted.{IsAccepted}
-use Rattle.city_doc.specs.document.Canonical.{tree_of, city_text}
-use Rattle.city_doc.specs.document.Ranges.{IsInRange}
+use Rattle.city_writer.specs.document.Canonical.{tree_of, city_text}
+use Rattle.city_writer.specs.document.Ranges.{IsInRange}
 use Rattle.city_tokens.specs.document.Cities.{IsTextOfCity}
 use Rattle.city_tokens.specs.tree.Texts.{IsReadable}
-use Rattle.city_doc.specs.tree.Tokens.{tokens_of}
-use Rattle.city_doc.specs.Pool.{pool_of}
+use Rattle.city_writer.specs.tree.Tokens.{tokens_of}
+use Rattle.city_writer.specs.Pool.{pool_of}
 
--- the text stands for the city; any city that it stands for is written as it; if the city is lawful and the
--- text isn't too long, the text is accepted; where some text stands for the city, this one does; its tokens
--- are those of the city's tree, and the tree's numbers are in range
+-- the text stands for the city; any city of the text is written as this text; if the city is lawful and the text
+-- isn't too long, the text is accepted; if some text stands for the city, this one does; its tokens are those of
+-- the city's tree, and the tree's numbers are in range
 pub record IsCanonicalText (text : List ℕ) (city : CityValue) : Type 0 where
   pub read_again : depth (tree_of city) ≤ max_depth → IsTextOfCity text city
   pub canonical : depth (tree_of city) ≤ max_depth

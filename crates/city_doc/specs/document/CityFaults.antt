@@ -1,5 +1,4 @@
--- What is wrong with objects whose positions are replaced by points: rings, relations and shells
--- (CityJSON 2.0, sections 2 and 3).
+-- Faults of objects with points in place of positions: rings, relations and shells (CityJSON 2.0, sections 2 and 3).
 use Rattle.std.specs.Prelude.{◌⊎◌, ◌||◌, ℕ, List, [], Bool, false, Option, Some, None, option_and_then}
 use Rattle.std.specs.Prelude.{option_map, codes}
 use Rattle.serde_json.specs.Data.{Data, Members}
@@ -40,7 +39,7 @@ abbrev pub or_empty : {A : Type 0} → Option (List A) → List A
 or_empty None = []
 or_empty (Some xs) = xs
 
--- the object of a tree, where a list that isn't an array of texts counts as empty
+-- the object of a tree; a list counts as empty unless it is an array of texts
 abbrev pub lenient_object_of : List Point → Data → Option Object
 lenient_object_of points d =
     option_map (λ body. record {
@@ -49,7 +48,7 @@ lenient_object_of points d =
       children = or_empty (ids_at (codes "children") d);
     }) (body_of points d)
 
--- what each id stands for, by these objects
+-- the objects by their ids
 abbrev pub lenient_map_of : List Point → Members → CityMap
 lenient_map_of points objects id = option_and_then (lenient_object_of points) (get_member id objects)
 

@@ -1,4 +1,4 @@
--- How a document is refused: each of its faults, and which comes first.
+-- The faults of a document, and the first of them.
 use Rattle.std.specs.Prelude.{◌≡◌, ◌⊎◌, ◌<◌, ℕ, List, Bool, false, Option, Some, None, option_and_then, codes}
 use Rattle.std.specs.Prelude.{is_some, length}
 use Rattle.serde_json.specs.Data.{Data, Members, no_members}
@@ -32,11 +32,11 @@ vertices_in d = or_empty (points_in d)
 abbrev pub is_unsupported : Data → Bool
 is_unsupported d = is_some (unsupported_name d)
 
--- the name of what isn't supported in the object of this id
+-- the name of the first unsupported thing in the object of this id
 abbrev pub unsupported_at : Members → List ℕ → Option (List ℕ)
 unsupported_at objects id = option_and_then unsupported_name (get_member id objects)
 
--- the fault stands in the objects, whose positions name these points, and it names the least id that has it
+-- the fault stands in the objects, at the least id with it; positions index these points
 abbrev pub StandsAmong : List Point → Members → ReadFault → Type 0
 StandsAmong points objects OutOfMemory = ⊥
 StandsAmong points objects TooLong = ⊥
@@ -73,15 +73,15 @@ rank_of (BadRing id) = 9
 rank_of (Relations id) = 10
 rank_of (OpenShell id) = 11
 
--- this one stands, and none that comes before it in the order
+-- this one stands, and none before it in the order
 abbrev pub IsFirst : (ReadFault → Type 0) → ReadFault → Type 0
 IsFirst stands f = stands f × ((g : ReadFault) → rank_of g < rank_of f → stands g → ⊥)
 
--- the text has a tree, and the fault is the first that stands in it
+-- the text has a tree, and the fault is the first of the tree
 abbrev pub IsFirstInTree : List ℕ → ReadFault → Type 0
 IsFirstInTree text f = (d : Data) × HasTree text d × IsFirst (StandsIn d) f
 
--- memory ran out, or the fault is the first that stands in the text
+-- memory ran out, or the fault is the first of the text
 abbrev pub DocumentFault : List ℕ → ReadFault → Type 0
 DocumentFault text f =
     (f ≡ OutOfMemory)

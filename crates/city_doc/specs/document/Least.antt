@@ -1,4 +1,4 @@
--- The least id of an object that has something.
+-- The least id of an object with a property.
 use Rattle.std.specs.Prelude.{◌≡◌, ℕ, List, Bool, true, Some}
 use Rattle.serde_json.specs.Data.{Data, Members}
 use Rattle.serde_json.specs.Find.{get_member}

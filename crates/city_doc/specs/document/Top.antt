@@ -1,4 +1,4 @@
--- The top of a document: which of its members is wrong (CityJSON 2.0, sections 2 and 4).
+-- The top of a document: its first wrong member (CityJSON 2.0, sections 2 and 4).
 use Rattle.std.specs.Prelude.{◌&&◌, ℕ, List, [], ◌∷◌, Bool, true, false, Option, Some, None, option_and_then, codes}
 use Rattle.std.specs.Prelude.{is_some, if◌then◌else◌}
 use Rattle.serde_json.specs.Data.{Data, Members, no_members, member}
@@ -30,7 +30,7 @@ abbrev pub are_vertices : Option Data → Bool
 are_vertices None = false
 are_vertices (Some d) = are_triples d
 
--- the members that are judged, in their order, and whether each is as a document has it
+-- the judged members, in their order, and whether each is right
 abbrev pub judged : Data → List (List ℕ × Bool)
 judged d =
     (codes "type", is_text (codes "CityJSON") (get (codes "type") d))
@@ -44,6 +44,6 @@ abbrev pub first_wrong : List (List ℕ × Bool) → Option (List ℕ)
 first_wrong [] = None
 first_wrong (m ∷ ms) = if m.1 then first_wrong ms else Some m.0
 
--- the first member that isn't as a document has it
+-- the first wrong member
 abbrev pub wrong_member : Data → Option (List ℕ)
 wrong_member d = first_wrong (judged d)

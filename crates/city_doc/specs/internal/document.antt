@@ -2,8 +2,6 @@
 pub mod Arranged
 pub mod Forms
 pub mod IdSets
-pub mod KeptMembers
 pub mod LenientCities
-pub mod Pieces
 pub mod Searches
 pub mod Told

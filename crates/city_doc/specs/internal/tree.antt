@@ -1,7 +1,2 @@
--- Words for how JSON trees are read and written.
-pub mod Appended
-pub mod OwnMembers
-pub mod PartTokens
-pub mod Parted
-pub mod ReadsBack
+-- Words for how JSON trees are read.
 pub mod TextFaults

@@ -1,4 +1,4 @@
--- What is wrong with the tree of one object.
+-- The faults of the tree of one object.
 use Rattle.std.specs.Prelude.{◌||◌, not, ℕ, List, [], ◌∷◌, Bool, Option, Some, None, option_and_then, codes}
 use Rattle.std.specs.Prelude.{is_none, if◌then◌else◌}
 use Rattle.std.specs.Option.{option_or}
@@ -15,9 +15,9 @@ use Rattle.city_doc.specs.shape.Forms.{is_number, is_position, are_geometries}
 abbrev pub is_unknown_type : Data → Bool
 is_unknown_type d = is_none (type_of d)
 
--- ---- what isn't supported
+-- ---- unsupported things
 
--- types of geometry that aren't read
+-- unsupported types of geometry
 abbrev pub unsupported_types : List (List ℕ)
 unsupported_types =
     codes "MultiPoint" ∷ codes "MultiLineString" ∷ codes "GeometryInstance" ∷ []
@@ -25,7 +25,7 @@ unsupported_types =
 abbrev pub only_if : {A : Type 0} → (A → Bool) → A → Option A
 only_if test x = if test x then Some x else None
 
--- the type of a geometry, where it isn't supported
+-- the type of a geometry, if it is unsupported
 abbrev pub unsupported_type : Data → Option (List ℕ)
 unsupported_type d =
     option_and_then (only_if (λ kind. list_any (bytes_eq kind) unsupported_types))
@@ -35,7 +35,7 @@ abbrev pub first_unsupported : Items → Option (List ℕ)
 first_unsupported no_items = None
 first_unsupported (item d ds) = option_or (unsupported_type d) (first_unsupported ds)
 
--- an address with a location, or the first geometry whose type isn't supported
+-- an address with a location, or the first geometry of an unsupported type
 abbrev pub unsupported_name : Data → Option (List ℕ)
 unsupported_name d =
     if has_location (get (codes "address") d) then Some (codes "location")
@@ -47,7 +47,7 @@ unsupported_name d =
 abbrev pub is_bad_geometry : Data → Bool
 is_bad_geometry d = not (are_geometries is_number (get (codes "geometry") d))
 
--- of geometries that aren't bad: a position that is negative, or isn't less than the count
+-- of geometries of a right form: a position that is negative, or isn't less than the count
 abbrev pub has_bad_vertex : ℕ → Data → Bool
 has_bad_vertex count d = not (are_geometries (is_position count) (get (codes "geometry") d))
 

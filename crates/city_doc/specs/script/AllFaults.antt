@@ -1,4 +1,4 @@
--- All faults of a text of scripts, each at the script and the command that it names, and their order.
+-- All faults of a text of scripts, each at its script and its command, and their order.
 use Rattle.std.specs.Prelude.{◌≡◌, ◌⊎◌, ◌<◌, ◌&&◌, ◌||◌, not, ℕ, List, Bool, true, false, Option, Some, None}
 use Rattle.std.specs.Prelude.{nat_lt, length, slice_get}
 use Rattle.std.specs.List.{list_any}
@@ -15,14 +15,14 @@ use Rattle.city_tokens.specs.script.Scripts.{ScriptParts, parts_of, vertex_count
 use Rattle.city_tokens.specs.tree.Lists.{array_of}
 use Rattle.city_tokens.specs.tree.Texts.{IsTooLong, IsNoJson, HasTree}
 
--- ---- which faults stand
+-- ---- when a fault stands
 
 -- the parts are those of a script, and it has too many commands
 abbrev pub is_overlong : Option ScriptParts → Bool
 is_overlong None = false
 is_overlong (Some p) = nat_lt max_commands (length p.commands)
 
--- there are too many items, or too many commands in an item that has the form of a script
+-- there are too many items, or too many commands in an item with the form of a script
 abbrev pub are_too_many : List Data → Bool
 are_too_many ds = nat_lt max_scripts (length ds) || list_any (λ d. is_overlong (parts_of d)) ds
 
@@ -32,11 +32,11 @@ HasAt test ds n i =
     (s : Data) × (p : ScriptParts) × (d : Data) × (slice_get ds n ≡ Some s) × (parts_of s ≡ Some p)
     × (slice_get p.commands i ≡ Some d) × (test (vertex_count p.vertices) d ≡ true)
 
--- the command is none that is refused, and a position in it is negative, or isn't less than the count
+-- the command isn't bad, and a position in it is negative, or isn't less than the count
 abbrev pub is_misplaced : ℕ → Data → Bool
 is_misplaced count d = not (is_bad_command d) && names_bad_vertex count d
 
--- the item or the command that the fault names has it; of too many scripts or commands, all the items have it
+-- the item or the command of the fault has it; too many scripts or commands are a fault of all items
 abbrev pub StandsAt : List Data → ScriptFault → Type 0
 StandsAt ds OutOfMemory = ⊥
 StandsAt ds TooLong = ⊥
@@ -75,14 +75,14 @@ rank_of TooMany = 6
 rank_of (BadCommand n i) = 7
 rank_of (BadVertex n i) = 8
 
--- the script that a fault names; the first where it names none
+-- the script of a fault; the first if it names none
 abbrev pub script_in : ScriptFault → ℕ
 script_in (BadScript n) = n
 script_in (BadCommand n i) = n
 script_in (BadVertex n i) = n
 script_in f = 0
 
--- the command that a fault names; the first where it names none
+-- the command of a fault; the first if it names none
 abbrev pub command_in : ScriptFault → ℕ
 command_in (BadCommand n i) = i
 command_in (BadVertex n i) = i
@@ -96,7 +96,7 @@ IsBefore f g =
 
 -- ---- lists of them
 
--- those for which it holds, each once, in order
+-- all faults with the property, each once, in order
 abbrev pub AreThose : (ScriptFault → Type 0) → List ScriptFault → Type 0
 AreThose P faults = AreAll IsBefore P faults
 
@@ -104,8 +104,8 @@ AreThose P faults = AreAll IsBefore P faults
 abbrev pub AreFaultsOf : List ℕ → List ScriptFault → Type 0
 AreFaultsOf text faults = AreThose (IsFaultOf text) faults
 
--- ---- which texts are read wherever there is memory
+-- ---- the texts that are read, given enough memory
 
--- `OutOfMemory` is the only fault that the text may have
+-- the text has no fault but `OutOfMemory`
 abbrev pub IsAccepted : List ℕ → Type 0
 IsAccepted text = (f : ScriptFault) → ScriptTextFault text f → f ≡ OutOfMemory

@@ -1,4 +1,4 @@
--- Which commands are refused.
+-- The faults of commands.
 use Rattle.std.specs.Prelude.{◌||◌, ℕ, Bool, true, false, Option, Some, None, is_none, is_some}
 use Rattle.serde_json.specs.Data.{Data}
 use Rattle.serde_json.specs.Find.{as_object}
@@ -12,7 +12,7 @@ use Rattle.city_tokens.specs.script.Commands.{names_relations}
 abbrev pub is_unreadable : Data → Bool
 is_unreadable d = is_unknown_type d || is_some (unsupported_name d) || is_bad_geometry d
 
--- what is given isn't an object, names parents or children, or can't be read
+-- the given tree isn't an object, names parents or children, or can't be read
 abbrev pub is_bad_object : Data → Bool
 is_bad_object d = is_none (as_object d) || names_relations d || is_unreadable d
 
@@ -35,7 +35,7 @@ is_bad_command d = is_no_good_form (form_of d)
 
 -- ---- positions
 
--- the tree has a position that none of so many vertices has
+-- the tree has a position without a vertex, among so many
 abbrev pub names_vertex_beyond : ℕ → Option Data → Bool
 names_vertex_beyond count None = false
 names_vertex_beyond count (Some tree) = has_bad_vertex count tree

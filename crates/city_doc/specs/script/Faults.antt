@@ -1,4 +1,4 @@
--- How a text of scripts is refused: each of its faults, and which comes first.
+-- The faults of a text of scripts, and the first of them.
 use Rattle.std.specs.Prelude.{◌≡◌, ◌⊎◌, ◌<◌, ℕ, List, Bool, true, false, Some, None, slice_get}
 use Rattle.serde_json.specs.Data.{Data}
 use Rattle.city_model.specs.Integral.{is_integral}
@@ -58,7 +58,7 @@ ItemsFault ds f =
     ((n : ℕ) × (f ≡ ScriptFault.BadScript n) × IsFirstBadScript ds n)
     ⊎ ((ps : List ScriptParts) × (all_read parts_of ds ≡ Some ps) × PartsFault ps f)
 
--- the first fault of a tree all of whose numbers are whole
+-- the first fault of a tree of whole numbers
 abbrev pub TreeFault : Data → ScriptFault → Type 0
 TreeFault d f =
     ((f ≡ ScriptFault.NotScripts) × (array_of d ≡ None))

@@ -4,9 +4,9 @@ use Rattle.std.specs.Prelude.{option_and_then, codes, is_some}
 use Rattle.serde_json.specs.Data.{Data, Items, no_items, item}
 use Rattle.serde_json.specs.Find.{get, as_array, as_number, as_i64}
 use Rattle.city_tokens.specs.tree.Members.{text_at}
-use Rattle.city_tokens.specs.shape.Nesting.{GeometryType, geometry_type}
+use Rattle.city_tokens.specs.shape.GeometryTypes.{GeometryType, geometry_type}
 
--- ---- what stands in a ring
+-- ---- the values in a ring
 
 abbrev pub is_number : Data → Bool
 is_number d = is_some (as_number d)
@@ -15,7 +15,7 @@ abbrev pub natural : ℤ → Option ℕ
 natural (pos n) = Some n
 natural (negsuc n) = None
 
--- the position in a list that a whole number names, where it isn't negative
+-- the position of a whole number, unless it is negative
 abbrev pub position_of : Data → Option ℕ
 position_of d = option_and_then natural (option_and_then as_i64 (as_number d))
 
@@ -23,7 +23,7 @@ abbrev pub is_below : ℕ → Option ℕ → Bool
 is_below count None = false
 is_below count (Some n) = nat_lt n count
 
--- a position that names one of so many vertices
+-- a position with a vertex, among so many
 abbrev pub is_position : ℕ → Data → Bool
 is_position count d = is_below count (position_of d)
 
@@ -37,11 +37,11 @@ abbrev pub are_items : (Data → Bool) → Option Items → Bool
 are_items test None = false
 are_items test (Some ds) = all_items test ds
 
--- an array each of whose items passes the test
+-- an array of items that pass the test
 abbrev pub is_list_of : (Data → Bool) → Data → Bool
 is_list_of test d = are_items test (as_array d)
 
--- arrays of arrays, down to what stands in rings
+-- arrays of arrays, down to the values in rings
 abbrev pub is_nested : (Data → Bool) → ℕ → Data → Bool
 is_nested leaf zero = leaf
 is_nested leaf (suc n) = is_list_of (is_nested leaf n)
@@ -60,7 +60,7 @@ abbrev pub are_boundaries_of : (Data → Bool) → Option (List ℕ) → Option 
 are_boundaries_of leaf (Some kind) (Some d) = is_boundaries leaf kind d
 are_boundaries_of leaf _ _ = false
 
--- an object with a type and a level of detail that are texts, and the boundaries of its type
+-- an object with texts for its type and its level of detail, and with the boundaries of its type
 abbrev pub is_geometry : (Data → Bool) → Data → Bool
 is_geometry leaf d =
     is_some (text_at (codes "lod") d)

@@ -29,9 +29,9 @@ use city_model::object::Point;
 use serde_json::{Map, Value};
 use std::alloc::Global;
 
-/// All faults of a document: each fault of `ReadFault`'s list at each object that has it, in the order
-/// of the list, and of the ids in byte order. There are none where `read_city` reads the text,
-/// wherever there is memory; else the first is the one that it answers.
+/// All faults of a document: each fault of `ReadFault`'s list at each of its objects, in the order of
+/// the list, and of the ids in byte order. There are none if `read_city` reads the text, given enough
+/// memory; else the first is the answer of `read_city`.
 ///
 /// A text with `TooLong`, `NotJson`, `NotWhole` or `NotCityJson` has that fault alone: nothing else is
 /// looked at. An object with `BadGeometry` doesn't have `BadVertex` as well. An object with one of the
@@ -62,7 +62,7 @@ fn all_faults(alloc: Global, bytes: &[u8]) -> Result<Vec<ReadFault>, OutOfMemory
     }
 }
 
-/// The fault of a text that has no tree of whole numbers.
+/// The fault of a text without a tree of whole numbers.
 fn text_faults(alloc: Global, fault: TextFault) -> Result<Vec<ReadFault>, OutOfMemory>
     ensures { IfOk result (λ faults. (text : List ℕ) → IsRefused text fault → AreFaultsOf text faults.items) }
 {
@@ -91,7 +91,7 @@ fn tree_faults(alloc: Global, tree: &Value) -> Result<Vec<ReadFault>, OutOfMemor
     Ok(faults)
 }
 
-/// The faults of objects whose positions name these points.
+/// The faults of objects. Their positions index these points.
 fn object_faults(
     alloc: Global,
     points: &[Point],
@@ -111,7 +111,7 @@ fn object_faults(
     Ok(faults)
 }
 
-/// The objects that can be built, by their ids; a list that isn't an array of texts counts as empty.
+/// The objects, by their ids, but for those that can't be built. A list counts as empty unless it is an array of texts.
 fn readable_objects(
     alloc: Global,
     points: &[Point],

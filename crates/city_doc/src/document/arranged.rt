@@ -1,4 +1,4 @@
-//! Judges the relations of a city that was read, in whatever order its objects list their relatives.
+//! Judges the relations of a city, in whatever order its objects list their relatives.
 ghost use Rattle.std.specs.Prelude.{◌≡◌, ◌<◌, length, IfOk, IfSome, IfNone};
 ghost use Rattle.std.specs.FinMap.{entries};
 ghost use Rattle.std.specs.List.Sorted.{IsPermutation};
@@ -45,7 +45,7 @@ fn are_quick(city: &City) -> bool {
     true
 }
 
-/// Where an id is that equals the one before it.
+/// The index of an id equal to the one before it.
 fn repeated_at(ids: &[Id]) -> Option<usize>
     ensures { IfSome result (λ i. i < length ids.now) }
 {
@@ -57,8 +57,7 @@ fn repeated_at(ids: &[Id]) -> Option<usize>
     None
 }
 
-/// A copy of the ids in byte order, except that a repeated one stands first, where
-/// it is soon found.
+/// A copy of the ids in byte order, but a repeated one stands first, to be found soon.
 fn arranged_ids(alloc: Global, ids: Ids<'_>) -> Result<SharedIds, OutOfMemory>
     ensures { IfOk result (λ list. IsPermutation (ids_left ids.entry) list) }
 {
@@ -115,7 +114,7 @@ fn arranged_city(alloc: Global, city: &City) -> Result<City, OutOfMemory>
     Ok(City::from_parts(frame, objects))
 }
 
-/// The least id of an object that isn't in order or is an orphan.
+/// The least id of a misrelated object or an orphan.
 fn searched(alloc: Global, city: &City) -> Result<Option<Id>, OutOfMemory>
     ensures least { IfOk result (λ o. IfSome o (λ id. IsLeast (IsMisrelatedAt (object_at city.now.1)) id)) }
     ensures none { IfOk result (λ o. IfNone o (IsRelated (object_at city.now.1))) }
@@ -126,10 +125,10 @@ fn searched(alloc: Global, city: &City) -> Result<Option<Id>, OutOfMemory>
     }
 }
 
-/// The least id of an object that isn't in order or is an orphan; none where all relations agree.
+/// The least id of a misrelated object or an orphan; none if all relations agree.
 ///
-/// Where a long list isn't in byte order, a copy of the relations is searched in which each list is
-/// arranged for it: else a list of n ids would take n² / 2 comparisons.
+/// If a long list isn't in byte order, it searches a copy of the relations with arranged lists. Otherwise a list
+/// of n ids would take n² / 2 comparisons.
 pub fn least_misrelated(alloc: Global, city: &City) -> Result<Option<Id>, OutOfMemory>
     ensures least { IfOk result (λ o. IfSome o (λ id. IsLeast (IsMisrelatedAt (object_at city.now.1)) id)) }
     ensures none { IfOk result (λ o. IfNone o (IsRelated (object_at city.now.1))) }

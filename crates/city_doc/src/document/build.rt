@@ -1,4 +1,4 @@
-//! Builds the city that the tree of a document stands for.
+//! Builds the city of a document from its tree.
 ghost use Rattle.std.specs.Prelude.{◌≡◌, IfOk, option_map, option_and_then};
 ghost use Rattle.serde_json.specs.Find.{get_member, as_object};
 ghost use Rattle.serde_json.specs.View.{view, members_view};
@@ -19,7 +19,7 @@ use serde_json::{Map, Value};
 use std::alloc::Global;
 use std::collections::BTreeMap;
 
-/// The object of a tree, which is consumed; a list that isn't an array of texts counts as empty.
+/// The object of a tree; consumes the tree. A list counts as empty unless it is an array of texts.
 pub fn lenient_object_of(
     alloc: Global,
     points: &[Point],
@@ -73,7 +73,7 @@ fn take_object(members: &mut Map<String, Value>, name: &str) -> Option<Map<Strin
     into_object(take(members, name)?)
 }
 
-/// The city of a tree, which is consumed; a list of ids that isn't an array of texts counts as empty.
+/// The city of a tree; consumes the tree. A list of ids counts as empty unless it is an array of texts.
 pub fn lenient_city_of(
     alloc: Global,
     points: &[Point],

@@ -1,4 +1,4 @@
-//! Judges a city that was read: its rings, its relations and its shells.
+//! Judges the rings, the relations and the shells of a city.
 ghost use Rattle.std.specs.Prelude.{◌≡◌, List, Bool, None, IfOk, IfSome, IfNone, MatchOption, option_map};
 ghost use Rattle.std.specs.List.{list_any};
 ghost use Rattle.std.specs.FinMap.{entries};
@@ -23,7 +23,7 @@ use city_model::object::Body;
 use city_model::text::Id;
 use std::alloc::Global;
 
-/// What may be wrong with a body.
+/// A fault of a body.
 trait BodyTest {
     ghost test: { b.Body → Bool };
 
@@ -60,7 +60,7 @@ pub fn is_bad_ringed(body: &Body) -> bool
     any_short_ring(geometry) || any_same_twice(geometry)
 }
 
-/// The first id, in byte order, of an object whose body has the fault.
+/// The first id, in byte order, of an object with the fault in its body.
 fn first_body<J: BodyTest>(alloc: Global, city: &City) -> Result<Option<&Id>, OutOfMemory>
     ensures { IfOk result (λ o. option_map (λ id. id.now) o ≡ first_body J.test (entries city.now.1)) }
 {
@@ -72,7 +72,7 @@ fn first_body<J: BodyTest>(alloc: Global, city: &City) -> Result<Option<&Id>, Ou
     Ok(None)
 }
 
-/// The lesser of two ids, in byte order, where there are any.
+/// The lesser of two ids, in byte order, if there are any.
 fn lesser<'i>(one: Option<&'i Id>, other: Option<&'i Id>) -> Option<&'i Id>
     ensures { option_map (λ id. id.now) result
         ≡ lesser (option_map (λ id. id.now) one.entry) (option_map (λ id. id.now) other.entry) }
@@ -86,7 +86,7 @@ fn lesser<'i>(one: Option<&'i Id>, other: Option<&'i Id>) -> Option<&'i Id>
     }
 }
 
-/// A copy of an id, where there is one.
+/// A copy of an id, if there is one.
 fn copied(alloc: Global, id: Option<&Id>) -> Result<Option<Id>, OutOfMemory>
     ensures { IfOk result (λ o. o ≡ option_map (λ id. id.now) id.entry) }
 {
@@ -96,8 +96,8 @@ fn copied(alloc: Global, id: Option<&Id>) -> Result<Option<Id>, OutOfMemory>
     }
 }
 
-/// The least id of an object that has a list which isn't an array of texts, or whose parents and
-/// children don't agree; the former is given.
+/// The least id of an object with a bad list, or of one at odds with its parents and children. The least id with a bad
+/// list is given.
 fn least_badly_related(
     alloc: Global,
     bad_list: Option<&Id>,
@@ -114,9 +114,8 @@ fn least_badly_related(
     Ok(least)
 }
 
-/// The first fault of a city that was read, where a list of ids that isn't an array of texts counts
-/// as empty; the least id that has such a list is given. None where the city is lawful and there is
-/// no such list.
+/// The first fault of a city. In it a list of ids counts as empty unless it is an array of texts; the least id with
+/// such a bad list is given. None if the city is lawful and has no bad list.
 pub fn city_fault(
     alloc: Global,
     bad_list: Option<&Id>,

@@ -1,4 +1,4 @@
-//! What is looked for in each object of a document, to tell all that is wrong with them.
+//! Finds all faults of the objects of a document, one kind after another.
 ghost use Rattle.std.specs.Prelude.{◌≡◌, ◌++◌, ℕ, List, Option, IfOk, OnOk, option_map};
 ghost use Rattle.serde_json.specs.Data.{Data};
 ghost use Rattle.serde_json.specs.View.{view, members_view};
@@ -23,11 +23,11 @@ use city_model::text::Id;
 use serde_json::{Map, Value};
 use std::alloc::Global;
 
-/// A fault that is looked for.
+/// A kind of fault.
 pub trait Search {
     ghost found: { Self → List ℕ → Data → Option fault.ReadFault };
 
-    /// The fault, where the object of this id has it.
+    /// The fault, if the object of this id has it.
     fn look(
         &self,
         alloc: Global,
@@ -37,7 +37,7 @@ pub trait Search {
         ensures { IfOk result (λ o. o ≡ found self.now id.now (view object.now)) };
 }
 
-/// Adds what is found at each object, in the order of the ids.
+/// Adds the faults of this kind, in the order of the ids.
 pub fn tell_each<S: Search>(
     alloc: Global,
     search: &S,
@@ -62,19 +62,19 @@ pub struct UnsupportedPart;
 
 pub struct BadGeometry;
 
-/// A position that names none of so many vertices.
+/// A position without a vertex, among so many.
 #[derive(Clone, Copy)]
 pub struct BadVertex(pub usize);
 
-/// What is wrong with a ring of one of these objects, by their bodies.
+/// A bad ring of one of these objects, by their bodies.
 #[derive(Clone, Copy)]
 pub struct BadRing<'o>(pub &'o IndexedObjects);
 
-/// What is wrong with the relations of these objects, or a list that isn't an array of texts.
+/// Relations of these objects that don't agree, or a list other than an array of texts.
 #[derive(Clone, Copy)]
 pub struct Relations<'o>(pub &'o IndexedObjects);
 
-/// What is wrong with a shell of one of these objects, by their bodies.
+/// An open shell of one of these objects, by their bodies.
 #[derive(Clone, Copy)]
 pub struct OpenShell<'o>(pub &'o IndexedObjects);
 
@@ -130,7 +130,7 @@ impl Search for BadGeometry {
     }
 }
 
-/// Whether a position names none of so many vertices; where the geometry is bad, it isn't asked.
+/// Whether a position has no vertex, among so many; false if the geometry is bad.
 fn is_misplaced(count: usize, object: &Value) -> bool
     ensures { result ≡ is_misplaced count (view object.now) }
 {

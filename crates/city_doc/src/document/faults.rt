@@ -1,4 +1,4 @@
-//! Judges the objects of a document by their trees: the first fault that stands in them.
+//! Judges the objects of a document by their trees: finds their first fault.
 ghost use Rattle.std.specs.Prelude.{◌≡◌, true, Bool, None, IfOk, OnOk, MatchOption, length, option_map, option_and_then, codes};
 ghost use Rattle.serde_json.specs.Data.{Data};
 ghost use Rattle.serde_json.specs.Find.{get, as_object};
@@ -27,7 +27,7 @@ use city_model::text::Id;
 use serde_json::{Map, Value};
 use std::alloc::Global;
 
-/// What may be wrong with an object.
+/// A fault of an object.
 trait ObjectTest {
     ghost test: { Self → Data → Bool };
 
@@ -42,11 +42,11 @@ struct UnsupportedPart;
 
 struct BadGeometry;
 
-/// A position that names none of so many vertices.
+/// A position without a vertex, among so many.
 #[derive(Clone, Copy)]
 struct BadVertex(usize);
 
-/// A list of ids that isn't an array of texts.
+/// A list of ids other than an array of texts.
 struct BadList;
 
 impl ObjectTest for UnknownType {
@@ -89,7 +89,7 @@ impl ObjectTest for BadList {
     }
 }
 
-/// The first id of an object that has the fault; the ids are in byte order.
+/// The first id of an object with the fault; the ids are in byte order.
 fn first_with<'m, J: ObjectTest>(judge: &J, objects: &'m Map<String, Value>) -> Option<&'m str>
     ensures first { option_map (λ s. s.now) result
         ≡ first_with (J.test judge.now) (members_view objects.now.entries) }
@@ -103,15 +103,15 @@ fn first_with<'m, J: ObjectTest>(judge: &J, objects: &'m Map<String, Value>) -> 
     None
 }
 
-/// What isn't supported in the object of an id.
+/// The first unsupported thing in the object of an id.
 fn unsupported_at<'v>(objects: &'v Map<String, Value>, id: &str) -> Option<&'v str>
     ensures { option_map (λ s. s.now) result ≡ unsupported_at (members_view objects.now.entries) id.now }
 {
     unsupported_name(member(objects, id)?)
 }
 
-/// The first fault among the objects that their trees alone show, where their positions name these
-/// points; none where each has a known type and geometries that can be read.
+/// The first fault of objects that their trees alone show; none if each has a known type and readable geometries.
+/// Their positions index these points.
 fn object_fault(
     alloc: Global,
     points: &[Point],
@@ -152,8 +152,7 @@ pub fn objects_in(tree: &Value) -> Option<&Map<String, Value>>
     tree.get("CityObjects").and_then(Value::as_object)
 }
 
-/// The first fault that the trees of the objects of a tree show, where its positions name these
-/// points.
+/// The first fault that the trees of a tree's objects show. Its positions index these points.
 fn first_fault(
     alloc: Global,
     points: &[Point],
@@ -171,7 +170,7 @@ fn first_fault(
     Ok(fault)
 }
 
-/// The first id, in byte order, of an object of a tree with a list that isn't an array of texts.
+/// The first id, in byte order, of an object of a tree with a list other than an array of texts.
 pub fn first_bad_list(alloc: Global, tree: &Value) -> Result<Option<Id>, OutOfMemory>
     ensures list { IfOk result (λ o. o ≡ first_with has_bad_list (objects_in (view tree.now))) }
     ensures ordered { OnOk result (AreOrdered (objects_in (view tree.now))) }
@@ -186,7 +185,7 @@ pub fn first_bad_list(alloc: Global, tree: &Value) -> Result<Option<Id>, OutOfMe
     Ok(Some(id))
 }
 
-/// The first fault of a tree of whole numbers whose top is right and of which no city can be built.
+/// The first fault of a tree of whole numbers. Its top is right, but no city can be built from it.
 fn tree_fault(alloc: Global, tree: &Value) -> Result<ReadFault, OutOfMemory>
     requires whole { is_integral (view tree.now) ≡ true }
     requires right { wrong_member (view tree.now) ≡ None }
@@ -200,8 +199,7 @@ fn tree_fault(alloc: Global, tree: &Value) -> Result<ReadFault, OutOfMemory>
     }
 }
 
-/// The first fault of a text whose top is right and of whose tree no city can
-/// be built, or `OutOfMemory`.
+/// The first fault of a text, or `OutOfMemory`. The top of its tree is right, but no city can be built from it.
 pub fn objects_fault(alloc: Global, bytes: &[u8]) -> ReadFault
     requires right { (d : Data) → HasTree bytes.now d → wrong_member d ≡ None }
     requires unbuilt { (d : Data) → HasTree bytes.now d → lenient_city_of (vertices_in d) d ≡ None }

@@ -1,7 +1,7 @@
-//! Objects whose relatives stand in sets, and whether their relations agree.
+//! Objects with sets of relatives, and whether their relations agree.
 //!
-//! City_model's own test of relations reads a whole list where it misses an id in it. That is once in a city, since it
-//! ends at the first object that is at fault. Here each object is judged, so an id that is missing is found as quickly.
+//! City_model's own test of relations scans a whole list if an id is missing from it. It does so once in a city, since
+//! it ends at the first fault. Here each object is judged, so a set finds a missing id as quickly as any other.
 ghost use Rattle.std.specs.Prelude.{◌≡◌, IfOk};
 ghost use Rattle.city_model.specs.Chunks.{ids_left};
 ghost use Rattle.city_model.specs.CityMap.{found_in, has_id, parents_of};
@@ -72,7 +72,7 @@ impl Model for IndexedObject {
 pub type IndexedObjects = BTreeMap<Id, IndexedObject>;
 
 impl IndexedObject {
-    /// The object, whose relatives are put into sets.
+    /// Puts the relatives of an object into sets.
     pub fn new(alloc: Global, object: Object) -> Result<Self, OutOfMemory>
         ensures { IfOk result (λ o. o ≡ object) }
     {

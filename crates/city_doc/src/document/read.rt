@@ -27,11 +27,11 @@ use serde_json::Value;
 use std::alloc::Global;
 use std::thread::Threads;
 
-/// Reads a document: the city that its text stands for, which is lawful.
+/// Reads a document: the lawful city of its text.
 ///
-/// Unless memory runs out, it is Ok exactly on texts that are admitted: not too long, of whole
-/// numbers, and standing for a lawful city. It refuses a text with the first fault of `ReadFault`'s
-/// list that stands in it, which names the least id in byte order where several objects have it.
+/// Unless memory runs out, it is Ok exactly on admitted texts: not too long, of whole numbers, and
+/// standing for a lawful city. It refuses any other text with its first fault in the order of
+/// `ReadFault`'s list. If several objects have that fault, it names the least id in byte order.
 /// `OutOfMemory` has no place in that order: it is answered if memory ran out for the tree, for an
 /// object or for a fault's name. The text is only borrowed, so a refusal leaves nothing behind.
 pub fn read_city(alloc: Global, bytes: &[u8]) -> Result<City, ReadFault>
@@ -64,7 +64,7 @@ pub fn read_city_by<R: Threads + Sync>(
     or_of_tree(alloc, bytes, city)
 }
 
-/// The city of a text, read from its tokens, which is lawful; none where anything is odd.
+/// The lawful city of a text, read from its tokens; none if anything is odd.
 pub fn lawful_city(alloc: Global, bytes: &[u8]) -> Option<City>
     ensures { IfSome result (λ c. IsAdmitted bytes.now c) }
 {
@@ -95,7 +95,7 @@ fn related(alloc: Global, city: City) -> Option<City>
     }
 }
 
-/// The city that was read of the text's tokens; without one the text is read from its tree, where its fault shows.
+/// The city from the text's tokens, if there is one. Otherwise reads the text from its tree, and finds its fault.
 fn or_of_tree(alloc: Global, bytes: &[u8], city: Option<City>) -> Result<City, ReadFault>
     requires { IfSome city (λ c. IsAdmitted bytes.now c) }
     ensures lawful { IfOk result (λ c. IsLawful (object_at c.1)) }
@@ -138,9 +138,8 @@ fn fault_of(alloc: Global, bytes: &[u8], fault: ReadFault) -> ReadFault
     }
 }
 
-/// The city that a tree stands for, which is lawful; None where an object can't be built. A fault is
-/// the first of a tree of whole numbers: whether they are whole isn't judged here, since a city is
-/// built of nothing else.
+/// The lawful city of a tree; None if an object can't be built. A fault is the first of a tree of whole numbers.
+/// Whether they are whole isn't judged here: a city is built from nothing else.
 fn city_of_tree(alloc: Global, tree: Value) -> Result<Option<City>, ReadFault>
     ensures built { IfOk result (λ o. IfSome o
         (λ c. (city_of (view tree) ≡ Some c) × IsLawful (object_at c.1))) }
@@ -163,7 +162,7 @@ fn city_of_tree(alloc: Global, tree: Value) -> Result<Option<City>, ReadFault>
     built(city, fault)
 }
 
-/// The city that was built, unless it has a fault.
+/// The city, unless it has a fault.
 fn built(city: City, fault: Option<ReadFault>) -> Result<Option<City>, ReadFault>
     ensures { MatchResult result (λ o. (o ≡ Some city) × (fault ≡ None)) (λ f. fault ≡ Some f) }
 {

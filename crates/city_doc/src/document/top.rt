@@ -1,4 +1,4 @@
-//! The top of a document: which of its members is wrong.
+//! The top of a document: its first wrong member.
 ghost use Rattle.std.specs.Prelude.{◌≡◌, option_map};
 ghost use Rattle.serde_json.specs.View.{view, members_view};
 ghost use Rattle.city_doc.specs.document.Top.{is_transform};
@@ -54,7 +54,7 @@ fn are_vertices(member: Option<&Value>) -> bool
     }
 }
 
-/// The first member that isn't as a document has it.
+/// The first wrong member.
 pub fn wrong_member(tree: &Value) -> Option<&'static str>
     ensures { option_map (λ s. s.now) result ≡ wrong_member (view tree.now) }
 {

@@ -6,35 +6,31 @@ ghost use Rattle.serde_json.specs.Read.{max_depth};
 ghost use Rattle.city_model.specs.CityMap.{object_at, CityValue};
 ghost use Rattle.city_model.specs.Relations.{IsLawful};
 ghost use Rattle.city_doc.specs.document.Accepted.{IsAccepted};
-ghost use Rattle.city_doc.specs.document.Canonical.{tree_of, city_text};
+ghost use Rattle.city_writer.specs.document.Canonical.{tree_of, city_text};
 ghost use Rattle.city_doc.specs.document.CanonicalTexts.{IsCanonicalText};
 ghost use Rattle.city_tokens.specs.document.Cities.{IsTextOfCity};
-ghost use Rattle.city_doc.specs.document.Ranges.{IsInRange};
-ghost use Rattle.city_doc.specs.report.JsonLines.{IsCompactJson};
+ghost use Rattle.city_writer.specs.document.Ranges.{IsInRange};
+ghost use Rattle.city_writer.specs.report.JsonLines.{IsCompactJson};
 ghost use Rattle.city_tokens.specs.tree.Texts.{IsReadable};
-ghost use Rattle.city_doc.specs.tree.Tokens.{tokens_of};
-ghost use Rattle.city_doc.specs.Pool.{pool_of};
+ghost use Rattle.city_writer.specs.tree.Tokens.{tokens_of};
+ghost use Rattle.city_writer.specs.Pool.{pool_of};
 
-use crate::document::in_pieces::append_in_pieces;
-use crate::document::text::write_members;
 use crate::pieces::piece_len;
-use crate::pool::FIXED_SEED;
 use city_model::OutOfMemory;
 use city_model::city::City;
 use city_tokens::Pieces;
-use json::Writer;
+use city_writer::{FIXED_SEED, append_in_pieces, append_text};
 use std::alloc::Global;
 use std::thread::Threads;
 
-/// How many bytes of text an object counts as where a city is written in pieces.
+/// How many bytes of text an object counts as when a city is written in pieces.
 const OBJECT_BYTES: usize = 1024;
 
 /// The canonical text of a city, without a newline.
 ///
-/// The text is JSON that stands for the same city, unless the city's kept members nest so deep that
-/// the text has more than the 127 levels that are read. Those of a city that was read don't. Any
-/// city that is read from the text is written as the same bytes again. The text of a lawful city,
-/// where it isn't too long, has no fault.
+/// The text is JSON and stands for the same city, unless kept members nest so deep that the text has more
+/// than the 127 levels of the reader. Those of a city read from a text don't. Any city read from the text is
+/// written as the same bytes again. The text of a lawful city has no fault unless it is too long.
 pub fn write_city(alloc: Global, city: &City) -> Result<Vec<u8>, OutOfMemory>
     ensures text { IfOk result (λ b. b.items ≡ city_text city.now) }
     ensures read_again { IfOk result (λ b. depth (tree_of city.now) ≤ max_depth
@@ -54,8 +50,8 @@ pub fn write_city(alloc: Global, city: &City) -> Result<Vec<u8>, OutOfMemory>
 
 /// The bytes, and after them the canonical text of a city, without a newline.
 ///
-/// The text is the one of `write_city`, and what is said of it there holds of it here. Points are hashed by the
-/// seed.
+/// The text is that of `write_city`, with the same promises. Points are hashed by the seed.
+#[tactic(auto, using(crate::proofs::document::CanonicalCities::city_canonical))]
 pub fn append_city(
     alloc: Global,
     seed: u64,
@@ -66,16 +62,15 @@ pub fn append_city(
     ensures canonical { IfOk result (λ _. IsCanonicalText (city_text city.now) city.now) }
     ensures json { IfOk result (λ _. IsCompactJson (city_text city.now)) }
 {
-    let mut out = Writer::new(bytes);
-    write_members(alloc, seed, city, &mut out)?;
-    let bytes = out.into_inner();
-    Ok(bytes)
+    let text = append_text(alloc, seed, bytes, city)?;
+    Ok(text)
 }
 
 /// The bytes, and after them the canonical text of a city, without a newline.
 ///
-/// The text is the one of `append_city`, of which so many threads write pieces. A city that is too small for two pieces
-/// is written at once.
+/// The text is that of `append_city`, written in pieces by so many threads. A city too small for two pieces is written
+/// at once.
+#[tactic(auto, using(crate::proofs::document::CanonicalCities::city_canonical))]
 pub fn append_city_by<R: Threads + Sync>(
     rt: &R,
     alloc: Global,
@@ -92,5 +87,6 @@ pub fn append_city_by<R: Threads + Sync>(
     if city.len() <= len {
         return append_city(alloc, seed, bytes, city);
     }
-    append_in_pieces(rt, alloc, seed, bytes, city, len)
+    let text = append_in_pieces(rt, alloc, seed, bytes, city, len)?;
+    Ok(text)
 }

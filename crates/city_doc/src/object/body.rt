@@ -1,4 +1,4 @@
-//! Builds the body that the tree of an object stands for.
+//! Builds the body of an object from its tree.
 ghost use Rattle.std.specs.Prelude.{◌≡◌, IfOk, codes};
 ghost use Rattle.serde_json.specs.View.{view, members_view};
 ghost use Rattle.city_model.specs.Kept.{kept_at_object};
@@ -17,7 +17,7 @@ use city_model::object::{Body, Point};
 use serde_json::{Map, Value};
 use std::alloc::Global;
 
-/// The members that are kept at an object, of those but `type` and `geometry`.
+/// The kept members of an object, from its members but `type` and `geometry`.
 fn kept(mut members: Map<String, Value>) -> Option<Extra<AtObject>>
     ensures { result ≡ kept_if kept_at_object
         (without (codes "children") (without (codes "parents") (members_view members.entries))) }
@@ -27,8 +27,8 @@ fn kept(mut members: Map<String, Value>) -> Option<Extra<AtObject>>
     Extra::new(members).ok()
 }
 
-/// The body that the tree of an object stands for where its positions name these points; None where
-/// it stands for none. The tree is consumed. It fails only when out of memory.
+/// The body of an object's tree, if it stands for one; consumes the tree. Its positions index these points. It fails
+/// only when out of memory.
 pub fn body_of(alloc: Global, points: &[Point], object: Value) -> Result<Option<Body>, OutOfMemory>
     ensures { IfOk result (λ o. o ≡ body_of points.now (view object)) }
 {

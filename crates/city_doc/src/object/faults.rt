@@ -1,4 +1,4 @@
-//! What is wrong with the tree of one object.
+//! The faults of the tree of one object.
 ghost use Rattle.std.specs.Prelude.{◌≡◌, option_map, option_and_then, codes};
 ghost use Rattle.std.specs.List.{list_any};
 ghost use Rattle.std.specs.Str.{bytes_eq};
@@ -15,7 +15,7 @@ use city_model::kept::site::has_location;
 use city_model::object_type::{ObjectType, type_named};
 use serde_json::Value;
 
-/// The type of an object, where it is a known one.
+/// The type of an object, if it is a known one.
 pub fn type_of(object: &Value) -> Option<ObjectType>
     ensures { result ≡ type_of (view object.now) }
 {
@@ -51,7 +51,7 @@ fn first_unsupported(geometries: &Vec<Value>) -> Option<&str>
     None
 }
 
-/// The items of an object's geometry, where it is an array.
+/// The items of an object's geometry, if it is an array.
 fn geometries_in(object: &Value) -> Option<&Vec<Value>>
     ensures { option_map (λ v. items_view v.now.items) result
         ≡ option_and_then as_array (get (codes "geometry") (view object.now)) }
@@ -59,8 +59,7 @@ fn geometries_in(object: &Value) -> Option<&Vec<Value>>
     object.get("geometry")?.as_array()
 }
 
-/// The first thing in an object that isn't supported: a `location` in its address, or the type of
-/// a geometry.
+/// The first unsupported thing in an object: a `location` in its address, or the type of a geometry.
 pub fn unsupported_name(object: &Value) -> Option<&str>
     ensures { option_map (λ s. s.now) result ≡ unsupported_name (view object.now) }
 {
@@ -70,7 +69,7 @@ pub fn unsupported_name(object: &Value) -> Option<&str>
     first_unsupported(geometries_in(object)?)
 }
 
-/// Whether an object has a geometry that can't be read, whatever its positions name.
+/// Whether an object has a geometry of a wrong form, whatever its positions.
 pub fn is_bad_geometry(object: &Value) -> bool
     ensures { result ≡ is_bad_geometry (view object.now) }
 {

@@ -41,7 +41,7 @@ pub fn has_bad_list(object: &Value) -> bool
     is_bad_list(object.get("parents")) || is_bad_list(object.get("children"))
 }
 
-/// The ids of a member, which is consumed.
+/// The ids of a member; consumes it.
 fn ids_of(alloc: Global, member: Option<Value>) -> Result<Option<Sequence<Id>>, OutOfMemory>
     ensures { IfOk result (λ o. o ≡ list_or_absent as_str (option_map view member)) }
 {
@@ -51,7 +51,7 @@ fn ids_of(alloc: Global, member: Option<Value>) -> Result<Option<Sequence<Id>>, 
     }
 }
 
-/// The ids of a member, which is consumed; none where it is absent or isn't an array of texts.
+/// The ids of a member; consumes it. None if it is absent or isn't an array of texts.
 pub fn ids_or_none(alloc: Global, member: Option<Value>) -> Result<SharedIds, OutOfMemory>
     ensures { IfOk result (λ ids. ids ≡ or_empty (list_or_absent as_str (option_map view member))) }
 {

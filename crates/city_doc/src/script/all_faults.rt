@@ -19,14 +19,13 @@ use city_tokens::streamed_scripts;
 use serde_json::Value;
 use std::alloc::Global;
 
-/// All faults of a text of scripts: each fault of `ScriptFault`'s list at each script or command that
-/// has it, in the order of the list, then of the scripts, then of the commands. There are none where
-/// `read_scripts` reads the text, wherever there is memory; else the first is the one that it answers.
+/// All faults of a text of scripts: each fault of `ScriptFault`'s list at each of its scripts or commands,
+/// in the order of the list, then of the scripts, then of the commands. There are none if `read_scripts`
+/// reads the text, given enough memory; else the first is the answer of `read_scripts`.
 ///
 /// A text with `TooLong`, `NotJson`, `NotWhole` or `NotScripts` has that fault alone. `TooMany` is told
-/// once. Commands are judged in the items that have the form of a script, and scripts are counted
-/// with the other items. A command with `BadCommand` doesn't have `BadVertex` as well. It fails only
-/// when out of memory.
+/// once. Commands are judged in items with the form of a script. All items count as scripts. A command with
+/// `BadCommand` doesn't have `BadVertex` as well. It fails only when out of memory.
 pub fn script_faults_of(alloc: Global, bytes: &[u8]) -> Result<Vec<ScriptFault>, OutOfMemory>
     ensures faults { IfOk result (λ faults. AreFaultsOf bytes.now faults.items) }
     ensures accepted { IfOk result (λ faults. faults.items ≡ [] → IsAccepted bytes.now) }
@@ -52,7 +51,7 @@ fn all_faults(alloc: Global, bytes: &[u8]) -> Result<Vec<ScriptFault>, OutOfMemo
     }
 }
 
-/// The fault of a text that has no tree of whole numbers.
+/// The fault of a text without a tree of whole numbers.
 fn text_faults(alloc: Global, fault: TextFault) -> Result<Vec<ScriptFault>, OutOfMemory>
     ensures { IfOk result (λ faults. (text : List ℕ) → IsRefused text fault → AreFaultsOf text faults.items) }
 {
@@ -88,7 +87,7 @@ fn item_faults(alloc: Global, items: Vec<Value>) -> Result<Vec<ScriptFault>, Out
     Ok(faults)
 }
 
-/// Adds that there are too many of so many items, or too many commands in one.
+/// Adds `TooMany` if there are too many items, or too many commands in one.
 fn tell_too_many(
     count: usize,
     forms: &[NumberedForm],

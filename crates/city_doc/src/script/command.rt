@@ -1,4 +1,4 @@
-//! Builds the command that a tree stands for.
+//! Builds a command from its tree.
 ghost use Rattle.std.specs.Prelude.{◌≡◌, IfOk, option_map, option_and_then, codes};
 ghost use Rattle.serde_json.specs.Find.{get, as_str, as_object};
 ghost use Rattle.serde_json.specs.View.{view};
@@ -23,7 +23,7 @@ use city_model::text::Id;
 use serde_json::Value;
 use std::alloc::Global;
 
-/// The body of an object that names no relations; its positions count in these points.
+/// The body of an object without relations. Its positions index these points.
 fn unrelated_body(
     alloc: Global,
     points: &[Point],
@@ -37,14 +37,14 @@ fn unrelated_body(
     body_of(alloc, points, object)
 }
 
-/// A member of a command, which is consumed.
+/// A member of a command; consumes it.
 fn given(command: Value, name: &str) -> Option<Value>
     ensures { option_map view result ≡ get name.now (view command) }
 {
     take(&mut into_object(command)?, name)
 }
 
-/// The body that a command gives.
+/// The body in a command.
 fn body_in(alloc: Global, points: &[Point], command: Value) -> Result<Option<Body>, OutOfMemory>
     ensures { IfOk result (λ o. o
         ≡ option_and_then (unrelated_body points.now) (get (codes "object") (view command))) }
@@ -55,7 +55,7 @@ fn body_in(alloc: Global, points: &[Point], command: Value) -> Result<Option<Bod
     }
 }
 
-/// The attributes that a command gives, with their values.
+/// The attributes in a command, with their values.
 fn attributes_in(command: Value) -> Option<Attributes>
     ensures { result ≡ option_and_then (kept_if kept_at_attributes)
         (option_and_then as_object (get (codes "attributes") (view command))) }
@@ -63,7 +63,7 @@ fn attributes_in(command: Value) -> Option<Attributes>
     Extra::new(into_object(given(command, "attributes")?)?).ok()
 }
 
-/// The put that a tree stands for, of which the id is known.
+/// The put of a tree, for this id.
 fn put_command(
     alloc: Global,
     points: &[Point],
@@ -135,9 +135,9 @@ fn expect_command(id: Id, command: Value) -> Option<Command>
     Some(Command::Expect(id, attributes_in(command)?))
 }
 
-/// The command that a tree stands for, where it stands for any; positions count in these points.
+/// The command of a tree, if it stands for one. Positions index these points.
 ///
-/// What is given is moved out of the tree; ids and names are copied.
+/// Bodies and attributes are moved out of the tree; ids and names are copied.
 pub fn command_of(
     alloc: Global,
     points: &[Point],

@@ -1,4 +1,4 @@
-//! Says which commands are refused.
+//! The faults of commands.
 ghost use Rattle.std.specs.Prelude.{◌≡◌};
 ghost use Rattle.serde_json.specs.View.{view};
 ghost use Rattle.city_tokens.specs.script.Commands.{names_relations};
@@ -26,11 +26,11 @@ fn is_unreadable(object: &Value) -> bool
 fn is_bad_object(object: &Value) -> bool
     ensures { result ≡ is_bad_object (view object.now) }
 {
-    // (what isn't an object has no type)
+    // (only an object has a type)
     names_relations(object) || is_unreadable(object)
 }
 
-/// Whether the tree of a command has none of the forms, or gives an object or geometries that it can't give.
+/// Whether the tree of a command has none of the forms, or gives a wrong object or wrong geometries.
 pub fn is_bad_command(command: &Value) -> bool
     ensures { result ≡ is_bad_command (view command.now) }
 {

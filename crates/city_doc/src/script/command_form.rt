@@ -10,19 +10,19 @@ use crate::tree::texts::has_other_item;
 use city_model::members::{member, members_count};
 use serde_json::{Map, Value};
 
-/// What the tree of a command says, borrowed from it.
+/// The parts of a command, borrowed from its tree.
 #[derive(Clone, Copy)]
 pub enum Form<'v> {
     Read(&'v str),
-    /// An id, and the tree of the object that is put.
+    /// An id, and the tree of the object to put.
     Put(&'v str, &'v Value),
-    /// An id, and the tree of the object that is added.
+    /// An id, and the tree of the object to add.
     Add(&'v str, &'v Value),
     /// An id, and the attributes with their values.
     Set(&'v str, &'v Map<String, Value>),
-    /// An id, and the names of the attributes, which are texts.
+    /// An id, and the names of the attributes, all texts.
     Unset(&'v str, &'v Vec<Value>),
-    /// An id, and the members of the command, among which its geometry stands.
+    /// An id, and the members of the command, its geometry among them.
     Reshape(&'v str, &'v Map<String, Value>),
     /// An id, and the attributes with their values.
     Expect(&'v str, &'v Map<String, Value>),
@@ -39,7 +39,7 @@ pub enum Form<'v> {
     Abort,
 }
 
-/// The member of a name, where it is a text.
+/// The member of a name, if it is a text.
 fn text_in<'v>(members: &'v Map<String, Value>, name: &str) -> Option<&'v str>
     ensures { option_map (λ s. s.now) result ≡ text_in name.now (members_view members.now.entries) }
 {
@@ -58,7 +58,7 @@ fn word_form(word: &str) -> Option<Form<'_>>
     }
 }
 
-/// The form of one member, which is a text.
+/// The form of one member, a text.
 fn single_form(members: &Map<String, Value>) -> Option<Form<'_>>
     ensures { option_map form_view result
         ≡ first_named of_one_text (members_view members.now.entries) }
@@ -75,7 +75,7 @@ fn single_form(members: &Map<String, Value>) -> Option<Form<'_>>
     Some(Form::Back(text_in(members, "back")?))
 }
 
-/// The form of two members, one of which is an object.
+/// The form of two members, one of them an object.
 fn object_form(members: &Map<String, Value>) -> Option<Form<'_>>
     ensures { option_map form_view result ≡ object_form (members_view members.now.entries) }
 {
@@ -86,7 +86,7 @@ fn object_form(members: &Map<String, Value>) -> Option<Form<'_>>
     Some(Form::Add(text_in(members, "add")?, object))
 }
 
-/// The form of two members, one of which names a parent.
+/// The form of two members, one of them the name of a parent.
 fn relation_form(members: &Map<String, Value>) -> Option<Form<'_>>
     ensures { option_map form_view result ≡ relation_form (members_view members.now.entries) }
 {
@@ -97,7 +97,7 @@ fn relation_form(members: &Map<String, Value>) -> Option<Form<'_>>
     Some(Form::Detach(text_in(members, "detach")?, parent))
 }
 
-/// The form of two members, one of which gives attributes with their values.
+/// The form of two members, one of them attributes with their values.
 fn values_form(members: &Map<String, Value>) -> Option<Form<'_>>
     ensures { option_map form_view result ≡ values_form (members_view members.now.entries) }
 {
@@ -146,7 +146,7 @@ fn pair_form(members: &Map<String, Value>) -> Option<Form<'_>>
     reshape_form(members)
 }
 
-/// The form of an object's members, which are just those of its command.
+/// The form of an object's members, with no member beside those of its command.
 fn members_form(members: &Map<String, Value>) -> Option<Form<'_>>
     ensures { option_map form_view result ≡ members_form (members_view members.now.entries) }
 {
@@ -159,7 +159,7 @@ fn members_form(members: &Map<String, Value>) -> Option<Form<'_>>
     }
 }
 
-/// The form of a command's tree, where it has any.
+/// The form of a command's tree, if it has one.
 pub fn form_of(command: &Value) -> Option<Form<'_>>
     ensures { option_map form_view result ≡ form_of (view command.now) }
 {

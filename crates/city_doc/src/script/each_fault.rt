@@ -1,4 +1,4 @@
-//! What is looked for in each command of a text of scripts, to tell all that is wrong with them.
+//! Finds all faults of the commands of a text of scripts, one kind after another.
 ghost use Rattle.std.specs.Prelude.{◌≡◌, ◌++◌, OnOk, map};
 ghost use Rattle.serde_json.specs.View.{view};
 ghost use Rattle.city_doc.specs.script.AllFaults.{is_misplaced};
@@ -12,16 +12,16 @@ use crate::script::numbered::NumberedForm;
 use city_model::OutOfMemory;
 use serde_json::Value;
 
-/// A fault that is looked for.
+/// A kind of fault.
 pub trait Search {
     ghost found: { Finder };
 
-    /// The fault, where this command of a script with so many vertices has it.
+    /// The fault, if this command of a script with so many vertices has it.
     fn look(vertices: usize, script: usize, number: usize, command: &Value) -> Option<ScriptFault>
         ensures { result ≡ found vertices script number (view command.now) };
 }
 
-/// Adds what is found in the commands of a script.
+/// Adds the faults of this kind in the commands of a script.
 fn tell_in<S: Search>(
     numbered: &NumberedForm,
     faults: &mut Vec<ScriptFault>,
@@ -38,7 +38,7 @@ fn tell_in<S: Search>(
     Ok(())
 }
 
-/// Adds what is found in each script, in their order.
+/// Adds the faults of this kind in all scripts, in their order.
 pub fn tell_each<S: Search>(
     forms: &[NumberedForm],
     faults: &mut Vec<ScriptFault>,
@@ -54,7 +54,7 @@ pub fn tell_each<S: Search>(
 
 pub struct BadCommand;
 
-/// A position that names none of the script's vertices, in a command that isn't refused already.
+/// A position without a vertex of the script, in a command without `BadCommand`.
 pub struct BadVertex;
 
 impl Search for BadCommand {
@@ -74,7 +74,7 @@ impl Search for BadCommand {
     }
 }
 
-/// Whether a position names none of so many vertices; a command that is refused isn't asked.
+/// Whether a position has no vertex, among so many; false if the command is bad.
 fn is_misplaced(vertices: usize, command: &Value) -> bool
     ensures { result ≡ is_misplaced vertices (view command.now) }
 {

@@ -1,4 +1,4 @@
-//! Judges a text of scripts: the first fault that stands in it.
+//! Judges a text of scripts: finds its first fault.
 ghost use Rattle.std.specs.Prelude.{◌≡◌, ◌⊎◌, ℕ, true, Bool, None, MatchOption, option_map, option_and_then, map};
 ghost use Rattle.std.specs.List.{list_all};
 ghost use Rattle.serde_json.specs.Data.{Data};
@@ -22,7 +22,7 @@ use crate::tree::values::into_array;
 use serde_json::Value;
 use std::alloc::Global;
 
-/// What may be wrong with a command.
+/// A fault of a command.
 trait CommandTest {
     ghost test: { ℕ → Data → Bool };
 
@@ -71,7 +71,7 @@ pub fn vertex_count(form: &ScriptForm) -> usize
     }
 }
 
-/// The first of a script's commands that has the fault.
+/// The first of a script's commands with the fault.
 fn first_in<J: CommandTest>(vertices: usize, commands: &[Value]) -> Option<usize>
     ensures { result ≡ first_in J.test vertices (map view commands.now) }
 {
@@ -83,7 +83,7 @@ fn first_in<J: CommandTest>(vertices: usize, commands: &[Value]) -> Option<usize
     None
 }
 
-/// The first script that has such a command, and its first such command.
+/// The first script with such a command, and its first such command.
 fn first_command<J: CommandTest>(forms: &[ScriptForm]) -> Option<(usize, usize)>
     ensures { result ≡ first_command J.test (parts_views forms.now) }
 {
@@ -112,7 +112,7 @@ pub fn parts_fault(forms: &[ScriptForm]) -> Option<ScriptFault>
     None
 }
 
-/// The first fault of an array's items that stand for no scripts.
+/// The first fault of an array's items, if they stand for no scripts.
 fn items_fault(alloc: Global, items: Vec<Value>) -> ScriptFault
     requires whole { list_all is_integral (map view items.items) ≡ true }
     requires none { option_and_then scripts_of_parts (all_read parts_of (map view items.items))
@@ -129,7 +129,7 @@ fn items_fault(alloc: Global, items: Vec<Value>) -> ScriptFault
     }
 }
 
-/// The first fault of a tree of whole numbers that stands for no scripts.
+/// The first fault of a tree of whole numbers, if it stands for no scripts.
 fn tree_fault(alloc: Global, tree: Value) -> ScriptFault
     requires whole { is_integral (view tree) ≡ true }
     requires none { scripts_of (view tree) ≡ None }
@@ -141,7 +141,7 @@ fn tree_fault(alloc: Global, tree: Value) -> ScriptFault
     }
 }
 
-/// The first fault of a text that stands for no scripts, or `OutOfMemory`.
+/// The first fault of a text, if it stands for no scripts, or `OutOfMemory`.
 pub fn first_fault(alloc: Global, bytes: &[u8]) -> ScriptFault
     requires { (d : Data) → HasTree bytes.now d → scripts_of d ≡ None }
     ensures { ScriptTextFault bytes.now result }

@@ -1,4 +1,4 @@
-//! The form of a script, whose commands aren't read yet.
+//! The form of a script, with its commands unread.
 ghost use Rattle.std.specs.Prelude.{◌≡◌, true, map};
 ghost use Rattle.serde_json.specs.View.{view};
 ghost use Rattle.city_tokens.specs.script.Scripts.{word_ends};
@@ -12,8 +12,8 @@ pub struct ScriptForm {
     pub name: Text,
     /// The trees of the commands.
     pub commands: Vec<Value>,
-    /// The tree of the script's own vertices, where it has any.
+    /// The tree of the script's own vertices, if it has any.
     pub vertices: Option<Value>,
-    /// Exactly the last command is a word that ends the script.
+    /// The last command, and no other, is a word that ends the script.
     ghost ended: { word_ends (map view commands.items) ≡ true },
 }

@@ -22,7 +22,7 @@ pub struct NumberedForm {
     pub form: ScriptForm,
 }
 
-/// The items that have the form of a script. Each of the others is added to the faults.
+/// The items with the form of a script. Adds a fault for each of the others.
 pub fn numbered_forms(
     alloc: Global,
     items: Vec<Value>,

@@ -1,4 +1,4 @@
-//! Reads the forms of scripts: their names and parts, whose commands aren't read yet.
+//! Reads the forms of scripts: their names and parts. Their commands stay unread.
 ghost use Rattle.std.specs.Prelude.{◌≡◌, ◌⊎◌, true, map, Some, IfOk, IfErr, IfSome, codes, option_map};
 ghost use Rattle.city_model.specs.Members.{without};
 ghost use Rattle.serde_json.specs.View.{view, members_view};
@@ -29,14 +29,14 @@ fn is_end_text(text: Option<&str>) -> bool
     }
 }
 
-/// Whether a tree is the word that ends a script.
+/// Whether a tree is a word that ends a script.
 fn is_end_word(tree: &Value) -> bool
     ensures { result ≡ is_end_word (view tree.now) }
 {
     is_end_text(tree.as_str())
 }
 
-/// Whether exactly the last of the trees is a word that ends a script.
+/// Whether the last of the trees, and no other, is a word that ends a script.
 fn word_ends(trees: &[Value]) -> bool
     ensures { result ≡ word_ends (map view trees.now) }
 {
@@ -67,7 +67,7 @@ fn has_script_members(members: &Map<String, Value>) -> bool
     members_count(members) == wanted && are_vertices(vertices)
 }
 
-/// Takes the name of a script out, where it is a text.
+/// Takes the name of a script out, if it is a text.
 fn take_name(members: &mut Map<String, Value>) -> Option<Text>
     ensures found { result ≡ text_in (codes "name") (members_view members.old.entries) }
     ensures left { members_view members.new.entries
@@ -76,7 +76,7 @@ fn take_name(members: &mut Map<String, Value>) -> Option<Text>
     into_text(take(members, "name")?)
 }
 
-/// Takes the commands of a script out, where exactly the last is a word that ends it.
+/// Takes the commands of a script out, if the last one, and no other, is a word that ends it.
 fn take_commands(members: &mut Map<String, Value>) -> Option<Vec<Value>>
     ensures found { option_map (λ v. map view v.items) result
         ≡ commands_in (members_view members.old.entries) }
@@ -106,7 +106,7 @@ fn parts_in(mut members: Map<String, Value>) -> Option<ScriptForm>
     })
 }
 
-/// The parts of a script, where the tree has the form of one.
+/// The parts of a script, if the tree has the form of one.
 pub fn parts_of(script: Value) -> Option<ScriptForm>
     ensures { option_map parts_view result ≡ parts_of (view script) }
 {
@@ -120,8 +120,7 @@ pub fn parts_of(script: Value) -> Option<ScriptForm>
 
 /// The forms of the scripts of an array's items.
 ///
-/// `BadScript` names the first item that isn't a script; `OutOfMemory` if memory ran
-/// out for the list.
+/// `BadScript` names the first item without that form; `OutOfMemory` if memory ran out for the list.
 pub fn forms_of(alloc: Global, items: Vec<Value>) -> Result<Sequence<ScriptForm>, ScriptFault>
     ensures forms { IfOk result (λ fs. all_read parts_of (map view items.items) ≡ Some (parts_views fs)) }
     ensures fault { IfErr result (λ f. (f ≡ ScriptFault.OutOfMemory)

@@ -30,10 +30,9 @@ use std::thread::Threads;
 
 /// Reads a text of scripts.
 ///
-/// The fault is the first of `ScriptFault`'s list that stands in the text, at the least script
-/// and then the least command; `OutOfMemory` may be answered for any text. Unless memory runs
-/// out, the answer is `Ok` exactly where the text isn't too long, its numbers are whole, and
-/// it stands for scripts.
+/// The fault is the text's first in the order of `ScriptFault`'s list, at the least script and then
+/// the least command; `OutOfMemory` may be answered for any text. Unless memory runs out, the answer
+/// is `Ok` exactly if the text isn't too long, its numbers are whole, and it stands for scripts.
 pub fn read_scripts(alloc: Global, bytes: &[u8]) -> Result<Sequence<Script>, ScriptFault>
     ensures readable { OnOk result (IsReadable bytes.now) }
     ensures fault { IfErr result (λ f. ScriptTextFault bytes.now f) }
@@ -82,7 +81,7 @@ fn read_tree(alloc: Global, bytes: &[u8]) -> Result<Sequence<Script>, ScriptFaul
     }
 }
 
-/// The scripts that a tree stands for, where it stands for any.
+/// The scripts of a tree, if it stands for any.
 fn scripts_of(alloc: Global, tree: Value) -> Result<Option<Sequence<Script>>, OutOfMemory>
     ensures { IfOk result (λ o. o ≡ scripts_of (view tree)) }
 {
@@ -95,7 +94,7 @@ fn scripts_of(alloc: Global, tree: Value) -> Result<Option<Sequence<Script>>, Ou
     scripts_of_items(alloc, items)
 }
 
-/// The scripts that an array's items stand for, where each stands for one.
+/// The scripts of an array's items, if each stands for one.
 fn scripts_of_items(
     alloc: Global,
     items: Vec<Value>,
@@ -112,7 +111,7 @@ fn scripts_of_items(
     Ok(Some(scripts))
 }
 
-/// The script that an item stands for, if it doesn't have too many commands.
+/// The script of an item, unless it has too many commands.
 fn script_of_item(alloc: Global, item: Value) -> Result<Option<Script>, OutOfMemory>
     ensures { IfOk result (λ o. o ≡ script_of_item (view item)) }
 {
@@ -125,7 +124,7 @@ fn script_of_item(alloc: Global, item: Value) -> Result<Option<Script>, OutOfMem
     script_of(alloc, form)
 }
 
-/// The script of a form, where it stands for any.
+/// The script of a form, if it stands for one.
 fn script_of(alloc: Global, form: ScriptForm) -> Result<Option<Script>, OutOfMemory>
     ensures { IfOk result (λ o. o ≡ script_of (parts_view form)) }
 {
@@ -160,7 +159,7 @@ fn vertex_points(
     }
 }
 
-/// The commands of these trees, where they stand for any; positions count in these points.
+/// The commands of these trees, if they stand for any. Positions index these points.
 fn commands_of(
     alloc: Global,
     points: &[Point],

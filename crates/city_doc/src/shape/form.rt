@@ -1,4 +1,4 @@
-//! Recognises the trees that have the form of geometries (CityJSON 2.0, section 3).
+//! Recognises trees with the form of geometries (CityJSON 2.0, section 3).
 ghost use Rattle.std.specs.Prelude.{◌≡◌, option_map};
 ghost use Rattle.serde_json.specs.View.{view};
 ghost use Rattle.city_doc.specs.shape.Forms.{is_boundaries, are_boundaries_of, is_geometry, are_geometries};
@@ -43,7 +43,7 @@ impl Formed for Geometry {
     }
 }
 
-/// Whether a member is absent, or is an array of geometries whose rings hold what the leaf admits.
+/// Whether a member is absent, or an array of geometries. The leaf says what their rings may hold.
 pub fn are_geometries<L: Leaf>(leaf: &L, member: Option<&Value>) -> bool
     ensures { result ≡ are_geometries (L.test leaf.now) (option_map (λ v. view v.now) member.entry) }
 {

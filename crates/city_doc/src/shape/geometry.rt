@@ -1,4 +1,4 @@
-//! Builds the geometries that trees stand for, each position replaced by its point.
+//! Builds geometries from their trees, with points in place of positions.
 ghost use Rattle.std.specs.Prelude.{◌≡◌, IfOk, option_map, option_and_then, codes};
 ghost use Rattle.serde_json.specs.Find.{as_str, get_member};
 ghost use Rattle.serde_json.specs.View.{view, items_view, members_view};
@@ -22,7 +22,7 @@ use city_model::text::Text;
 use serde_json::{Map, Value};
 use std::alloc::Global;
 
-/// The shape of boundaries, where they have the form of the type's.
+/// The shape of boundaries, if they have the form of the type.
 fn shape_of(
     alloc: Global,
     points: &[Point],
@@ -69,7 +69,7 @@ fn shape_in(alloc: Global, points: &[Point], geometry: &Value) -> Result<Option<
     shape_of(alloc, points, kind, boundaries)
 }
 
-/// The members that are kept at a geometry, of those but `type` and `lod`.
+/// The kept members of a geometry, from its members but `type` and `lod`.
 fn kept(mut members: Map<String, Value>) -> Option<Extra<AtGeometry>>
     ensures { result ≡ kept_if kept_at_geometry
         (without (codes "boundaries") (members_view members.entries)) }
@@ -89,7 +89,7 @@ fn take_lod(members: &mut Map<String, Value>) -> Option<Text>
     take(members, "lod").and_then(into_text)
 }
 
-/// The geometry of this shape and of the members of its tree, which are consumed.
+/// The geometry of this shape and of the members of its tree; consumes them.
 fn geometry_with(shape: Shape, mut members: Map<String, Value>) -> Option<Geometry>
     ensures { result ≡ geometry_with shape (members_view members.entries) }
 {
@@ -98,7 +98,7 @@ fn geometry_with(shape: Shape, mut members: Map<String, Value>) -> Option<Geomet
     Some(Geometry { lod, shape, extra })
 }
 
-/// The geometry of a tree, which is consumed.
+/// The geometry of a tree; consumes it.
 fn geometry_of(
     alloc: Global,
     points: &[Point],
@@ -115,7 +115,7 @@ fn geometry_of(
     Ok(geometry_with(shape, members))
 }
 
-/// The geometries of an array's items, which are consumed.
+/// The geometries of an array's items; consumes them.
 fn read_geometries(
     alloc: Global,
     points: &[Point],
@@ -133,7 +133,7 @@ fn read_geometries(
     Ok(Some(found))
 }
 
-/// The geometries of a member, which is consumed, for all copies to share; none where it is absent.
+/// The geometries of a member, shared by all copies; consumes it. None if it is absent.
 pub fn geometries_of(
     alloc: Global,
     points: &[Point],

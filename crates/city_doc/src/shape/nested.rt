@@ -1,5 +1,4 @@
-//! Lists within lists, down to positions where they are boundaries: their form, and the points that
-//! they stand for.
+//! Lists within lists, as boundaries down to positions: their form, and their points.
 ghost use Rattle.std.specs.Prelude.{◌≡◌, Bool, List, Option, IfOk};
 ghost use Rattle.serde_json.specs.Data.{Data};
 ghost use Rattle.serde_json.specs.View.{view, items_view};
@@ -14,7 +13,7 @@ use city_model::sequence::Sequence;
 use serde_json::Value;
 use std::alloc::Global;
 
-/// What is asked of a position.
+/// A test of a position.
 pub trait Leaf {
     ghost test: { Self → Data → Bool };
 
@@ -38,7 +37,7 @@ impl Leaf for AnyNumber {
     }
 }
 
-/// The position in a list that a value names, where it isn't negative.
+/// The position of a value, unless it is negative.
 fn position_of(value: &Value) -> Option<usize>
     ensures { result ≡ position_of (view value.now) }
 {
@@ -61,11 +60,11 @@ impl Leaf for PositionBelow {
     }
 }
 
-/// What the trees of a type look like.
+/// The form of the trees of a type.
 pub trait Formed {
     ghost has_form: { (Data → Bool) → Data → Bool };
 
-    /// Whether a value has the form, down to values in rings that the leaf admits.
+    /// Whether a value has the form. The leaf judges the values in rings.
     fn has_form<L: Leaf>(leaf: &L, value: &Value) -> bool
         ensures { result ≡ has_form (L.test leaf.now) (view value.now) };
 }
@@ -104,8 +103,8 @@ fn all_have_form<T: Formed, L: Leaf>(leaf: &L, items: &Vec<Value>) -> bool
 pub trait Nested: Sized {
     ghost reads: { List p.Point → Data → Option Self };
 
-    /// What a value stands for where each position names one of the points; None if it isn't nested
-    /// like this, or if a position names no point.
+    /// The value of a tree, with points in place of positions; None if it isn't nested like this, or if a position has
+    /// no point.
     fn read(alloc: Global, points: &[Point], value: &Value) -> Result<Option<Self>, OutOfMemory>
         ensures { IfOk result (λ o. o ≡ reads points.now (view value.now)) };
 }

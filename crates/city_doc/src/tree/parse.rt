@@ -11,7 +11,7 @@ use city_tokens::MAX_TEXT;
 use serde_json::Value;
 use std::alloc::Global;
 
-/// Why a text has no tree of whole numbers: the first of this list that stands in it.
+/// Why a text has no tree of whole numbers: its first fault in this list.
 #[derive(Drop)]
 pub enum TextFault {
     /// Memory ran out; this has no place in the order.
@@ -45,7 +45,7 @@ pub fn tree_of(alloc: Global, bytes: &[u8]) -> Result<Value, TextFault>
     }
 }
 
-/// The tree of a text, whose numbers are all whole.
+/// The tree of a text, with whole numbers alone.
 ///
 /// `NotWhole` is judged after the faults of `tree_of`.
 pub fn parse(alloc: Global, bytes: &[u8]) -> Result<Value, TextFault>

@@ -23,7 +23,7 @@ pub fn has_other_item(items: &Vec<Value>) -> bool
     false
 }
 
-/// The texts of an array's items, which are consumed, where each is one.
+/// The texts of an array's items, if each is one; consumes them.
 fn read_texts(alloc: Global, items: Vec<Value>) -> Result<Option<Sequence<Text>>, OutOfMemory>
     ensures { IfOk result (λ o. o ≡ read_items as_str (items_view items.items)) }
 {
@@ -37,7 +37,7 @@ fn read_texts(alloc: Global, items: Vec<Value>) -> Result<Option<Sequence<Text>>
     Ok(Some(texts))
 }
 
-/// The texts of an array, which is consumed, where each item is one.
+/// The texts of an array, if each item is one; consumes it.
 pub fn texts_of(alloc: Global, value: Value) -> Result<Option<Sequence<Text>>, OutOfMemory>
     ensures { IfOk result (λ o. o ≡ list_of as_str (view value)) }
 {

@@ -10,14 +10,14 @@ use city_model::text::Text;
 use serde_json::Value;
 use std::alloc::Global;
 
-/// The text of a member, where it is one.
+/// The text of a member, if it is one.
 pub fn text_at<'v>(object: &'v Value, name: &str) -> Option<&'v str>
     ensures { option_map (λ s. s.now) result ≡ text_at name.now (view object.now) }
 {
     object.get(name)?.as_str()
 }
 
-/// The text that a value is, which is consumed.
+/// The text of a value; consumes it.
 pub fn into_text(value: Value) -> Option<Text>
     ensures { result ≡ as_str (view value) }
 {
@@ -27,7 +27,7 @@ pub fn into_text(value: Value) -> Option<Text>
     }
 }
 
-/// The items of an array, which is consumed.
+/// The items of an array; consumes it.
 pub fn into_array(value: Value) -> Option<Vec<Value>>
     ensures items { option_map (λ v. items_view v.items) result ≡ as_array (view value) }
     ensures list { option_map (λ v. map view v.items) result ≡ array_of (view value) }

@@ -1,7 +1,7 @@
 -- Trees with members or items, and trees of whole numbers: their parts are such trees.
-use Rattle.city_tokens.proofs.Prelude.{◌≡◌, ℕ, List, Option, Some, Less, Equal, Greater, nat_cmp, Bool, true, false}
-use Rattle.city_tokens.proofs.Prelude.{true≢false, None, refl, sym, ◌∙◌, arith, [], ◌∷◌, length, map, match_ordering}
-use Rattle.city_tokens.proofs.Prelude.{slice_cmp, Data, Members, no_members, member, put, array, object, Items}
+use Rattle.city_tokens.proofs.Prelude.{◌≡◌, ℕ, List, Option, Some, Bool, true, false}
+use Rattle.city_tokens.proofs.Prelude.{true≢false, None, refl, sym, ◌∙◌, arith, [], ◌∷◌, length, map}
+use Rattle.city_tokens.proofs.Prelude.{Data, Members, put, array, object, Items}
 use Rattle.city_tokens.proofs.Prelude.{no_items, item, get_member, get, length-map, list_all, view, items_of}
 use Rattle.city_tokens.proofs.Prelude.{items_view, is_integral, items_integral, members_integral, array_of}
 use Rattle.serde_json.specs.Find.{as_array, as_object}
@@ -9,31 +9,7 @@ use Rattle.std.proofs.lemmas.Bool.{and_from, and_parts}
 use Rattle.serde_json.specs.declared.value.Value.{Value}
 use Rattle.city_tokens.specs.tree.Lists.{items_list}
 use Rattle.city_tokens.specs.script.Scripts.{count_of}
-
--- `All` is `P` of each value
-module _ (P : Data → Type 0) (All : Members → Type 0) (none : All no_members)
-    (join : (k : List ℕ) (d : Data) (ms : Members) → P d → All ms → All (member k d ms))
-    (parts : (k : List ℕ) (d : Data) (ms : Members) → All (member k d ms) → P d × All ms) where
-  -- it still holds after one more value of `P` is put in
-  pub all_put : (k : List ℕ) (d : Data) (ms : Members) → P d → All ms → All (put k d ms)
-  all_put k d no_members one h = join k d no_members one none
-  all_put k d (member l e ms) one h =
-      let hs = parts l e ms h in
-      elim (slice_cmp nat_cmp k l) as (λ o. All (match_ordering o (member k d (member l e ms)) (member l d ms)
-      (member l e (put k d ms)))) [
-        | Less ↦ join k d _ one h
-        | Equal ↦ join l d ms one hs.1
-        | Greater ↦ join l e _ hs.0 (all_put k d ms one hs.1)
-      ]
-
-  -- it holds of the value found by a look-up
-  pub all_found : (k : List ℕ) (ms : Members) (d : Data) → All ms → get_member k ms ≡ Some d → P d
-  all_found k no_members d h is = absurd (cc)
-  all_found k (member l e ms) d h is =
-      let hs = parts l e ms h in
-      let rest = get_member k ms in
-      elim (slice_cmp nat_cmp k l) as (λ o. match_ordering o rest (Some e) rest ≡ Some d → P d)
-      [ Equal ↦ λ at. let same : e ≡ d = cc in rw same at hs.0 | _ ↦ all_found k ms d hs.1 ] is
+use Rattle.city_model.proofs.Puts.{all_put, all_found}
 
 pub array_is : (d : Data) (ds : Items) → as_array d ≡ Some ds → d ≡ array ds
 array_is d ds h = grind arith

@@ -5,7 +5,7 @@ use Rattle.serde_json.specs.Data.{Data}
 use Rattle.serde_json.specs.Find.{as_number, as_i64}
 use Rattle.city_model.specs.declared.object.Point.{Point}
 use Rattle.city_tokens.specs.declared.vertices.Vertex.{Vertex}
-use Rattle.city_tokens.specs.shape.Nesting.{Nested}
+use Rattle.city_model.specs.Nesting.{Nested}
 use Rattle.city_tokens.specs.internal.Standing.{IsArrayOf}
 use Rattle.city_tokens.specs.tree.Triples.{point_of}
 

@@ -8,7 +8,8 @@ use Rattle.city_model.specs.declared.object.Shape.{Shape}
 use Rattle.city_model.specs.declared.object.Geometry.{Geometry}
 use Rattle.city_model.specs.Kept.{geometry_members, kept_at_geometry}
 use Rattle.city_model.specs.Members.{without_each}
-use Rattle.city_tokens.specs.shape.Nesting.{Nested, geometry_type}
+use Rattle.city_model.specs.Nesting.{Nested}
+use Rattle.city_tokens.specs.shape.GeometryTypes.{geometry_type}
 use Rattle.city_tokens.specs.tree.Lists.{list_of}
 use Rattle.city_tokens.specs.tree.Members.{kept_if, text_at}
 use Rattle.city_tokens.specs.tree.Steps.{◌>>=◌}

@@ -1,8 +1,7 @@
--- Lists, read from arrays and written as arrays.
-use Rattle.std.specs.Prelude.{List, [], ◌∷◌, Option, Some, None, option_map, option_and_then, ℕ, map}
-use Rattle.serde_json.specs.Data.{Data, Items, no_items, item, array, Members, put}
+-- Lists, read from arrays.
+use Rattle.std.specs.Prelude.{List, [], ◌∷◌, Option, Some, None, option_map, option_and_then}
+use Rattle.serde_json.specs.Data.{Data, Items, no_items, item}
 use Rattle.serde_json.specs.Find.{as_array}
-use Rattle.serde_json.specs.View.{items_of}
 
 abbrev pub read_items : {A : Type 0} → (Data → Option A) → Items → Option (List A)
 read_items read no_items = Some []
@@ -29,12 +28,3 @@ array_of d = option_map items_list (as_array d)
 abbrev pub all_read : {A B : Type 0} → (A → Option B) → List A → Option (List B)
 all_read read [] = Some []
 all_read read (x ∷ xs) = option_and_then (λ y. option_map (λ ys. y ∷ ys) (all_read read xs)) (read x)
-
--- an array of the items, as written
-abbrev pub list_data : {A : Type 0} → (A → Data) → List A → Data
-list_data f xs = array (items_of (map f xs))
-
--- the members with a list, unless it is empty
-abbrev pub put_list : {A : Type 0} → List ℕ → (A → Data) → List A → Members → Members
-put_list name f [] ms = ms
-put_list name f (x ∷ xs) ms = put name (list_data f (x ∷ xs)) ms

@@ -1,10 +1,10 @@
 -- Three whole numbers, as a point or as a scale has them (CityJSON 2.0, section 4).
 use Rattle.std.specs.Prelude.{◌&&◌, ℕ, ℤ, List, [], ◌∷◌, Bool, true, false, Option, Some, None, option_and_then}
 use Rattle.std.specs.Prelude.{option_map, is_some, if◌then◌else◌}
-use Rattle.serde_json.specs.Data.{Data, Items, no_items, item, number}
-use Rattle.serde_json.specs.Find.{at, as_array, as_number, as_i64, of_integer}
+use Rattle.serde_json.specs.Data.{Data, Items, no_items, item}
+use Rattle.serde_json.specs.Find.{at, as_array, as_number, as_i64}
 use Rattle.city_model.specs.declared.object.Point.{Point}
-use Rattle.city_tokens.specs.tree.Lists.{list_of, list_data}
+use Rattle.city_tokens.specs.tree.Lists.{list_of}
 
 -- the whole number at index i
 abbrev pub integral_at : ℕ → Data → Option ℤ
@@ -38,9 +38,3 @@ are_all_triples (Some ds) = all_triples ds
 -- an array of arrays of three whole numbers
 abbrev pub are_triples : Data → Bool
 are_triples d = are_all_triples (as_array d)
-
-abbrev pub integer_data : ℤ → Data
-integer_data n = number (of_integer n)
-
-abbrev pub triple_data : List ℤ → Data
-triple_data xs = list_data integer_data xs

@@ -1,6 +1,6 @@
 use Rattle.city_desk.proofs.Prelude.{subst, city_text, report_text}
 use Rattle.std.proofs.Common.{rules}
-use Rattle.city_doc.specs.report.JsonLines.{AreJsonLines}
+use Rattle.city_writer.specs.report.JsonLines.{AreJsonLines}
 use Rattle.city_desk.proofs.JsonOutputs.{json_output}
 use Rattle.city_desk.proofs.output.output_bytes_by.Goals as goal
 

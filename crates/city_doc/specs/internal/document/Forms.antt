@@ -1,4 +1,4 @@
--- A document with which nothing is wrong that is judged before there is a city.
+-- A document without a fault of those judged before there is a city.
 use Rattle.std.specs.Prelude.{◌≡◌, ℕ, None, length}
 use Rattle.serde_json.specs.Data.{Data, Members}
 use Rattle.city_doc.specs.document.Top.{wrong_member}
@@ -6,7 +6,7 @@ use Rattle.city_doc.specs.object.Faults.{is_unknown_type, is_bad_geometry, has_b
 use Rattle.city_doc.specs.internal.document.Searches.{first_with}
 use Rattle.city_doc.specs.document.Faults.{objects_in, vertices_in, is_unsupported}
 
--- no object is of an unknown type, unsupported, or has a geometry that can't be read with this many vertices
+-- each object is of a known type, supported, and has geometries that can be read with this many vertices
 pub record AreReadable (count : ℕ) (objects : Members) : Type 0 where
   pub known : first_with is_unknown_type objects ≡ None
   pub supported : first_with is_unsupported objects ≡ None

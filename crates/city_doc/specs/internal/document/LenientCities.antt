@@ -1,4 +1,4 @@
--- The city of a tree, where a list of ids that isn't an array of texts counts as empty.
+-- The city of a tree; a list of ids counts as empty unless it is an array of texts.
 use Rattle.std.specs.Prelude.{◌≡◌, ℕ, List, [], ◌∷◌, length, Bool, Option, Some, None, option_and_then, option_map}
 use Rattle.std.specs.Prelude.{codes, if◌then◌else◌}
 use Rattle.std.specs.Ordering.{nat_cmp, is_lt}
@@ -38,18 +38,18 @@ lenient_city_at points top =
 abbrev pub lenient_city_of : List Point → Data → Option (Frame × Entries)
 lenient_city_of points d = option_and_then (lenient_city_at points) (as_object d)
 
--- the first id of an object whose body has it
+-- the first id of an object with it in its body
 abbrev pub first_body : (Body → Bool) → Entries → Option (List ℕ)
 first_body test [] = None
 first_body test (e ∷ es) = if test e.1.body then Some e.0 else first_body test es
 
--- the lesser of two ids, where there are any
+-- the lesser of two ids, if there are any
 abbrev pub lesser : Option (List ℕ) → Option (List ℕ) → Option (List ℕ)
 lesser None o = o
 lesser (Some a) None = Some a
 lesser (Some a) (Some b) = if is_lt (slice_cmp nat_cmp b a) then Some b else Some a
 
--- the entries are those of the objects, which can be read, and this is the first id of a bad list
+-- the objects can be read, these are their entries, and this is the first id with a bad list
 pub record IsReadOf (points : List Point) (objects : Members) (entries : Entries)
     (bad_list : Option (List ℕ)) : Type 0 where
   pub ordered : AreOrdered objects

@@ -1,4 +1,4 @@
--- A search for an object that has something.
+-- A search for an object with a property.
 use Rattle.std.specs.Prelude.{ℕ, List, Bool, Option, Some, None, if◌then◌else◌}
 use Rattle.serde_json.specs.Data.{Data, Members, no_members, member}
 

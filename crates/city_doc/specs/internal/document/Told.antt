@@ -1,4 +1,4 @@
--- Faults that are looked for in one object after another.
+-- Searches for faults in one object after another.
 use Rattle.std.specs.Prelude.{◌||◌, ℕ, List, [], ◌∷◌, Bool, false, Option, Some, None, option_map, if◌then◌else◌}
 use Rattle.serde_json.specs.Data.{Data, Members, no_members, member}
 use Rattle.city_model.specs.declared.object.Body.{Body}
@@ -18,12 +18,12 @@ abbrev pub with_found : {A : Type 0} → Option A → List A → List A
 with_found None xs = xs
 with_found (Some x) xs = x ∷ xs
 
--- what is found at each object, in the order of the members
+-- the faults found at each object, in the order of the members
 abbrev pub told : (List ℕ → Data → Option ReadFault) → Members → List ReadFault
 told find no_members = []
 told find (member id d ms) = with_found (find id d) (told find ms)
 
--- ---- what is found at one object
+-- ---- the faults found at one object
 
 abbrev pub only_where : Bool → ReadFault → Option ReadFault
 only_where b f = if b then Some f else None
@@ -59,7 +59,7 @@ misrelated_there m id (Some o) = is_misrelated m id o
 abbrev pub relations : CityMap → List ℕ → Data → Option ReadFault
 relations m id d = only_where (has_bad_list d || misrelated_there m id (m id)) (Relations id)
 
--- ---- the objects that can be read
+-- ---- the readable objects
 
 abbrev pub with_object : List ℕ → Option Object → Entries → Entries
 with_object id None es = es

@@ -1,4 +1,4 @@
--- Scripts that can be read and have no fault.
+-- Readable scripts without a fault.
 use Rattle.std.specs.Prelude.{◌≡◌, ℕ, List, false}
 use Rattle.city_doc.specs.script.CommandFaults.{names_bad_vertex}
 use Rattle.city_doc.specs.script.Faults.{HasAt, IsBadCommand}

@@ -1,4 +1,4 @@
--- The forms of scripts and of commands that the reader holds.
+-- The reader's forms of scripts and of commands.
 use Rattle.std.specs.Prelude.{◌++◌, ℕ, List, [], map, option_map, option_to_list}
 use Rattle.serde_json.specs.Data.{Items, no_items, item, object}
 use Rattle.serde_json.specs.Find.{as_str}
@@ -13,7 +13,7 @@ use Rattle.city_tokens.specs.script.CommandForms.{ReshapeForm, ExpectForm, Delet
 use Rattle.city_tokens.specs.script.CommandForms.{MarkForm, BackForm, CommitForm, AbortForm}
 use Rattle.city_tokens.specs.script.Scripts.{ScriptParts}
 
--- the parts that a form holds
+-- the parts of a form
 abbrev pub parts_view : ScriptForm → ScriptParts
 parts_view f =
     record { name = f.name; commands = map view f.commands.items; vertices = option_map view f.vertices }
@@ -26,7 +26,7 @@ abbrev pub texts_among : Items → List (List ℕ)
 texts_among no_items = []
 texts_among (item d ds) = option_to_list (as_str d) ++ texts_among ds
 
--- what the tree says that a form was borrowed from
+-- the meaning of a form, in the words of its tree
 abbrev pub form_view : Form → CommandForm
 form_view (Read id) = ReadForm id.now
 form_view (Put id tree) = PutForm id.now (view tree.now)

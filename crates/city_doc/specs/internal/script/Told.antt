@@ -1,4 +1,4 @@
--- Faults that are looked for in one script after another.
+-- Searches for faults in one script after another.
 use Rattle.std.specs.Prelude.{◌+◌, ◌++◌, ℕ, List, [], ◌∷◌, Bool, Option, Some, None, option_map, option_to_list}
 use Rattle.std.specs.Prelude.{if◌then◌else◌, flat_map}
 use Rattle.serde_json.specs.Data.{Data}
@@ -11,7 +11,7 @@ use Rattle.city_doc.specs.internal.script.Forms.{parts_view}
 use Rattle.city_doc.specs.internal.script.Searches.{bad_script}
 use Rattle.city_tokens.specs.script.Scripts.{ScriptParts, parts_of, vertex_count}
 
--- what is found at each item, in order; the items are numbered from n on
+-- the faults found at each item, in order; the items are numbered from n on
 abbrev pub told : {A F : Type 0} → (ℕ → A → List F) → ℕ → List A → List F
 told find n [] = []
 told find n (x ∷ xs) = find n x ++ told find (n + 1) xs
@@ -21,7 +21,7 @@ told find n (x ∷ xs) = find n x ++ told find (n + 1) xs
 abbrev pub bad_script_at : ℕ → Data → List ScriptFault
 bad_script_at n d = option_to_list (bad_script n d)
 
--- the items that haven't the form of a script
+-- the items without the form of a script
 abbrev pub bad_scripts : ℕ → List Data → List ScriptFault
 bad_scripts n ds = told bad_script_at n ds
 
@@ -56,7 +56,7 @@ bad_vertex vertices n i d = only_where (is_misplaced vertices d) (BadVertex n i)
 abbrev pub command_at : Finder → ℕ → ScriptParts → ℕ → Data → List ScriptFault
 command_at find n p i d = option_to_list (find (vertex_count p.vertices) n i d)
 
--- what is found in the commands of a script
+-- the faults found in the commands of a script
 abbrev pub told_in : Finder → ℕ → ScriptParts → List ScriptFault
 told_in find n p = told (command_at find n p) 0 p.commands
 

@@ -1,4 +1,4 @@
--- The parts of a geometry, in the order in which it is built: the shape first.
+-- The parts of a geometry, in the order of its building: the shape first.
 use Rattle.std.specs.Prelude.{List, Option, option_map, option_and_then, codes}
 use Rattle.serde_json.specs.Data.{Data, Members}
 use Rattle.serde_json.specs.Find.{get, get_member, as_str}

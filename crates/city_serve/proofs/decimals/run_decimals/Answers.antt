@@ -3,7 +3,7 @@ use Rattle.std.proofs.Common.{rules}
 use Rattle.std.proofs.lemmas.List.{take-append-drop}
 use Rattle.city_decimals.proofs.OneLine.{lines_joined}
 use Rattle.city_decimals.specs.Lines.{AreDecodedBehind}
-use Rattle.city_doc.specs.report.JsonLines.{AreJsonLines}
+use Rattle.city_writer.specs.report.JsonLines.{AreJsonLines}
 use Rattle.city_serve.proofs.Given.{decimals_run}
 use Rattle.city_serve.proofs.Reported.{report_ends}
 use Rattle.city_serve.proofs.decimals.run_decimals.Goals as goal

@@ -2,7 +2,7 @@ use Rattle.city_doc.proofs.Prelude.{◌≡◌, ◌++◌, members_view}
 use Rattle.city_doc.specs.internal.document.Told.{readable_entries}
 use Rattle.city_doc.proofs.document.all_faults.readable_objects.Given as goal
 
--- what is listed, and then what is left
+-- the listed ones, and then the rest
 abbrev pub invariant-loop-id : goal.invariant-loop-id
 invariant-loop-id l =
     readable_entries l.points (members_view l.objects.entries) ≡ l.listed.items ++ readable_entries l.points

@@ -3,7 +3,7 @@ use Rattle.city_doc.proofs.Prelude.{IfNone, object_at, IsRelated}
 use Rattle.city_tokens.proofs.Options.{given}
 use Rattle.city_doc.proofs.document.read.related.Goals as goal
 
--- what is left to be judged are the relations
+-- only the relations are still unjudged
 pub returns-in-None : goal.returns-in-None
 returns-in-None c = (
   refl,

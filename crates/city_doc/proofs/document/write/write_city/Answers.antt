@@ -1,5 +1,5 @@
 use Rattle.city_doc.proofs.Prelude.{◌++◌, ◌∙◌, ap, sym, subst, rules}
-use Rattle.city_doc.specs.document.Canonical.{city_text}
+use Rattle.city_writer.specs.document.Canonical.{city_text}
 use Rattle.city_doc.specs.document.CanonicalTexts.{IsCanonicalText}
 use Rattle.city_doc.proofs.document.write.write_city.Goals as goal
 

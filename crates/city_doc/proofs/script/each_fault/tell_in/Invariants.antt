@@ -2,7 +2,7 @@ use Rattle.city_doc.proofs.Prelude.{◌≡◌, ◌++◌, map, drop, view}
 use Rattle.city_doc.specs.internal.script.Told.{told, command_at, told_in, numbered_view}
 use Rattle.city_doc.proofs.script.each_fault.tell_in.Given as goal
 
--- what is told, and then what the commands that are left have
+-- the faults told, and then those of the remaining commands
 abbrev pub invariant-loop-i : goal.invariant-loop-i
 invariant-loop-i g l =
     let p = numbered_view l.numbered in

@@ -3,7 +3,7 @@ use Rattle.std.specs.Iterator.Adapters.{enumerate_source, enumerate_count}
 use Rattle.city_doc.specs.internal.script.Told.{bad_scripts, numbered, numbered_view}
 use Rattle.city_doc.proofs.script.numbered.numbered_forms.Given as goal
 
--- what is found, and then what is left
+-- the ones found, and then the rest
 abbrev pub invariant-loop-number : goal.invariant-loop-number
 invariant-loop-number l =
     let left = map view (into_iter_items (enumerate_source l.number-iterator)) in

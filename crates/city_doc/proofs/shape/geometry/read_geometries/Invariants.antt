@@ -2,7 +2,7 @@ use Rattle.city_doc.proofs.Prelude.{◌≡◌, ◌++◌, into_iter_items, items_
 use Rattle.std.proofs.Common.{option_map}
 use Rattle.city_doc.proofs.shape.geometry.read_geometries.Given as goal
 
--- what is found, and then what is left
+-- the ones found, and then the rest
 abbrev pub invariant-loop-item : goal.invariant-loop-item
 invariant-loop-item l =
     read_items (geometry_of l.points) (items_view l.fn.items.items) ≡ option_map (λ gs. l.found ++ gs)

@@ -2,7 +2,7 @@ use Rattle.city_doc.proofs.Prelude.{◌≡◌, ◌++◌, drop, items_view, read_
 use Rattle.std.proofs.Common.{option_map}
 use Rattle.city_doc.proofs.shape.vertices.read_points.Given as goal
 
--- what is found, and then what is left
+-- the ones found, and then the rest
 abbrev pub invariant-loop-item : goal.invariant-loop-item
 invariant-loop-item l =
     read_items point_of (items_view l.items.items) ≡ option_map (λ ps. l.points ++ ps)

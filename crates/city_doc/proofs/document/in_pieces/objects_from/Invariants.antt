@@ -1,9 +1,0 @@
-use Rattle.city_doc.proofs.Prelude.{◌≡◌, drop}
-use Rattle.city_doc.proofs.document.in_pieces.objects_from.Given as goal
-
--- what has to be passed yet of what is left
-abbrev pub invariant-passed : goal.invariant-passed
-invariant-passed l = drop l.from l.left ≡ drop l.initial.from l.initial.left
-
-abbrev pub decreases-passed : goal.decreases-passed
-decreases-passed l = l.from

@@ -1,3 +1,0 @@
--- Definitions of JSON trees and their parts.
-pub mod Ranges
-pub mod Tokens

@@ -1,0 +1,3 @@
+pub mod EachPiece
+pub mod Laws
+pub mod Prelude

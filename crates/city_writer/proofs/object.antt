@@ -1,0 +1,2 @@
+-- Lemmas for several functions of src/object/.
+pub mod WrittenObjects

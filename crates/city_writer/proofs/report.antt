@@ -1,0 +1,2 @@
+-- Lemmas for several functions of src/report/.
+pub mod JoinedReports

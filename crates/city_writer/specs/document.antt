@@ -1,0 +1,4 @@
+-- Definitions of documents as they are written.
+pub mod Canonical
+pub mod Ranges
+pub mod Texts

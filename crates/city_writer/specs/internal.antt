@@ -1,0 +1,8 @@
+-- Words for private clauses and proofs alone: nothing here has to be believed.
+pub mod KnownNumbers
+pub mod Pieces
+pub mod Pool
+pub mod Reports
+pub mod document
+pub mod object
+pub mod tree

@@ -1,0 +1,3 @@
+-- Words for how documents are written.
+pub mod KeptMembers
+pub mod Pieces

@@ -1,0 +1,6 @@
+-- Words for how JSON trees are written.
+pub mod Appended
+pub mod OwnMembers
+pub mod PartTokens
+pub mod Parted
+pub mod ReadsBack

@@ -1,0 +1,2 @@
+-- Definitions of city objects as they are written.
+pub mod Canonical

@@ -1,0 +1,3 @@
+-- Definitions of geometries as they are written.
+pub mod Canonical
+pub mod Vertices

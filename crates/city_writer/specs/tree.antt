@@ -1,0 +1,4 @@
+-- Definitions of JSON trees as they are written.
+pub mod Lists
+pub mod Ranges
+pub mod Tokens

@@ -1,0 +1,5 @@
+//! Whole documents: at once, and in pieces.
+
+pub mod in_pieces;
+pub mod text;
+pub mod write;

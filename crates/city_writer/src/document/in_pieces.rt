@@ -1,0 +1,262 @@
+//! Writes a city in pieces, by several workers.
+ghost use Rattle.std.specs.Prelude.{◌≡◌, ◌++◌, ◌∷◌, [], ◌*◌, ◌<◌, ◌^◌, IfOk, IfSome, OnOk};
+ghost use Rattle.std.specs.Prelude.{codes, drop, false, is_some, take, true};
+ghost use Rattle.std.specs.Fork.{slice_chunk};
+ghost use Rattle.std.specs.FinMap.{entries};
+ghost use Rattle.std.specs.List.{IsDistinct, list_all};
+ghost use Rattle.json.specs.Token.{end_object};
+ghost use Rattle.city_model.specs.Kept.{kept_at_transform};
+ghost use Rattle.city_model.specs.Shells.{same_point};
+ghost use Rattle.city_writer.specs.document.Canonical.{city_text, transform_data};
+ghost use Rattle.city_writer.specs.document.Texts.{IsTextOf};
+ghost use Rattle.city_writer.specs.document.Ranges.{IsInRange};
+ghost use Rattle.city_writer.specs.internal.Pieces.{EachPiece, joined, joined_by_commas};
+ghost use Rattle.city_writer.specs.internal.Pool.{with_points};
+ghost use Rattle.city_writer.specs.internal.document.Pieces.{IsListed, IsWrittenIfKnown, frame_own, head_tokens};
+ghost use Rattle.city_writer.specs.internal.tree.Appended.{IsAppended};
+ghost use Rattle.city_writer.specs.internal.tree.OwnMembers.{written};
+ghost use Rattle.city_writer.specs.internal.tree.Parted.{members_from};
+ghost use Rattle.city_writer.specs.internal.tree.ReadsBack.{MembersReadBack, ReadsBack};
+ghost use Rattle.city_writer.specs.report.JsonLines.{IsCompactJson};
+ghost use Rattle.city_writer.specs.shape.Vertices.{vertices_data};
+
+use crate::document::text::write_rest;
+use crate::object::text::{add_first, write_first};
+use crate::point_numbers::PointNumbers;
+use crate::pool::VertexPool;
+use crate::tree::kept_members::KeptMembers;
+use city_model::OutOfMemory;
+use city_model::city::City;
+use city_model::frame::Frame;
+use city_model::object::{Object, Point};
+use city_model::text::Id;
+use json::Writer;
+use std::alloc::Global;
+use std::collections::btree_map::Iter;
+use std::thread::{Threads, map_indices};
+
+/// The objects behind the first `from`.
+fn objects_from(city: &City, mut from: usize) -> Iter<'_, Id, Object>
+    ensures { result ≡ drop from (entries city.now.1) }
+{
+    let mut left = city.iter();
+    'passed: while from > 0 {
+        let _ = left.next();
+        from -= 1;
+    }
+    left
+}
+
+/// The points of a piece, each once; none if memory runs out.
+fn points_of_piece(
+    alloc: Global,
+    seed: u64,
+    city: &City,
+    from: usize,
+    len: usize,
+) -> Option<Vec<Point>>
+    ensures { IfSome result (λ ps. IsListed (take len (drop from (entries city.now.1))) ps.items) }
+{
+    let mut pool = VertexPool::with_seed(alloc, seed);
+    add_first(objects_from(city, from), len, &mut pool).ok()?;
+    let mut points = Vec::new(alloc);
+    points.extend_from_slice(pool.as_slice()).ok()?;
+    Some(points)
+}
+
+/// The points of each piece, by a thread for each.
+fn points_of_pieces<R: Threads + Sync>(
+    rt: &R,
+    alloc: Global,
+    seed: u64,
+    city: &City,
+    len: usize,
+) -> Result<Vec<Option<Vec<Point>>>, OutOfMemory>
+    requires { 0 < len }
+    ensures { IfOk result (λ os. EachPiece len (entries city.now.1) os.items (λ es ps. IsListed es ps.items)) }
+{
+    let points = move |i: usize| -> Option<Vec<Point>>
+        requires { i * len < 2 ^ 64 }
+        ensures { IfSome result (λ ps. IsListed (slice_chunk (entries city.entry.now.1) len i) ps.items) }
+    { points_of_piece(alloc, seed, city, i * len, len) };
+    let pieces = map_indices(rt, alloc, city.len().div_ceil(len), &points)?;
+    Ok(pieces)
+}
+
+/// Adds points to a pool, and gives their numbers.
+fn numbers_of_points(
+    alloc: Global,
+    points: &[Point],
+    pool: &mut VertexPool,
+) -> Result<Vec<usize>, OutOfMemory>
+    ensures { OnOk result (pool.new ≡ with_points pool.old points.now) }
+{
+    let mut numbers = Vec::with_capacity(alloc, points.len())?;
+    for point in points {
+        let number = pool.add(*point)?;
+        numbers.push(number)?;
+    }
+    Ok(numbers)
+}
+
+/// Adds the points of each piece to a pool, and gives their numbers.
+fn numbers_of_pieces(
+    alloc: Global,
+    pieces: Vec<Option<Vec<Point>>>,
+    pool: &mut VertexPool,
+) -> Result<Vec<Vec<usize>>, OutOfMemory>
+    ensures pool { OnOk result (pool.new ≡ with_points pool.old (joined pieces.items (λ ps. ps.items))) }
+    ensures all { OnOk result (list_all is_some pieces.items ≡ true) }
+{
+    let mut all = Vec::new(alloc);
+    for piece in pieces {
+        let Some(points) = piece else {
+            return Err(OutOfMemory);
+        };
+        let numbers = numbers_of_points(alloc, points.as_slice(), pool)?;
+        all.push(numbers)?;
+    }
+    Ok(all)
+}
+
+/// The text of a piece, without braces. Its points have the numbers.
+fn text_of_piece(
+    alloc: Global,
+    seed: u64,
+    objects: Iter<'_, Id, Object>,
+    len: usize,
+    points: &[Point],
+    numbers: &[usize],
+) -> Result<Vec<u8>, OutOfMemory>
+    requires { IsDistinct same_point points.now }
+    ensures { IfOk result (λ text. IsWrittenIfKnown points.now (take len objects.entry) text.items) }
+{
+    let mut known = PointNumbers::known(alloc, seed, points, numbers);
+    let mut out = Writer::new(Vec::new(alloc));
+    write_first(objects, len, &mut known, &mut out)?;
+    let text = out.into_inner();
+    Ok(text)
+}
+
+/// The text of each piece, by a thread for each.
+fn texts_of_pieces<R: Threads + Sync>(
+    rt: &R,
+    alloc: Global,
+    seed: u64,
+    city: &City,
+    len: usize,
+    points: &[Point],
+    numbers: &[Vec<usize>],
+) -> Result<Vec<Option<Vec<u8>>>, OutOfMemory>
+    requires len { 0 < len }
+    requires distinct { IsDistinct same_point points.now }
+    ensures { IfOk result (λ os. EachPiece len (entries city.now.1) os.items
+        (λ es text. IsWrittenIfKnown points.now es text.items)) }
+{
+    let text = move |i: usize| -> Option<Vec<u8>>
+        requires { (i * len < 2 ^ 64) × IsDistinct same_point points.now }
+        ensures { IfSome result (λ text. IsWrittenIfKnown points.entry.now
+            (slice_chunk (entries city.entry.now.1) len i) text.items) }
+    {
+        let mine = numbers.get(i)?;
+        text_of_piece(
+            alloc,
+            seed,
+            objects_from(city, i * len),
+            len,
+            points,
+            mine.as_slice(),
+        )
+        .ok()
+    };
+    let texts = map_indices(rt, alloc, city.len().div_ceil(len), &text)?;
+    Ok(texts)
+}
+
+/// Everything before the first object.
+fn append_head(bytes: Vec<u8>, kept: &mut KeptMembers<'_>) -> Result<Vec<u8>, OutOfMemory>
+    ensures head { IfOk result (λ b. IsAppended bytes.items (head_tokens kept.old) b.items) }
+    ensures left { OnOk result (kept.new ≡ members_from (codes "CityObjects") kept.old) }
+    ensures reads { OnOk result (MembersReadBack kept.new → MembersReadBack kept.old) }
+{
+    let mut out = Writer::new(bytes);
+    out.begin_object()?;
+    kept.write_name("CityObjects", &mut out)?;
+    out.begin_object()?;
+    let bytes = out.into_inner();
+    Ok(bytes)
+}
+
+/// The texts of the pieces, with commas between them.
+fn append_pieces(mut bytes: Vec<u8>, texts: Vec<Option<Vec<u8>>>) -> Result<Vec<u8>, OutOfMemory>
+    ensures text { IfOk result (λ b. b.items
+        ≡ bytes.items ++ joined_by_commas false texts.items (λ text. text.items)) }
+    ensures all { OnOk result (list_all is_some texts.items ≡ true) }
+{
+    let mut after = false;
+    for text in texts {
+        let Some(mut text) = text else {
+            return Err(OutOfMemory);
+        };
+        if !text.is_empty() {
+            if after {
+                bytes.push(b',')?;
+            }
+            bytes.append(&mut text)?;
+            after = true;
+        }
+    }
+    Ok(bytes)
+}
+
+/// Everything behind the last object.
+fn append_rest(
+    bytes: Vec<u8>,
+    frame: &Frame,
+    kept: &mut KeptMembers<'_>,
+    points: &[Point],
+) -> Result<Vec<u8>, OutOfMemory>
+    ensures rest { IfOk result (λ b. IsAppended bytes.items
+        (written kept.old 0 (frame_own points.now frame.now) (end_object ∷ [])) b.items) }
+    ensures left { OnOk result (MembersReadBack kept.old) }
+    ensures reads { OnOk result (ReadsBack (transform_data frame.now) × ReadsBack (vertices_data points.now)) }
+    ensures kept { OnOk result (kept_at_transform frame.now.more ≡ true) }
+    ensures in_range { OnOk result (IsInRange points.now frame.now) }
+{
+    let mut out = Writer::new(bytes);
+    out.end_object()?;
+    write_rest(frame, kept, points, &mut out)?;
+    let bytes = out.into_inner();
+    Ok(bytes)
+}
+
+/// The bytes, and after them the canonical text of a city, without a newline. Each thread writes `len` objects.
+///
+/// Points are numbered first, piece by piece: a point's number depends on the points before it. Then each worker
+/// meets the points of its piece in the order of their numbering.
+pub fn append_in_pieces<R: Threads + Sync>(
+    rt: &R,
+    alloc: Global,
+    seed: u64,
+    bytes: Vec<u8>,
+    city: &City,
+    len: usize,
+) -> Result<Vec<u8>, OutOfMemory>
+    requires { 0 < len }
+    ensures text { IfOk result (λ b. b.items ≡ bytes.items ++ city_text city.now) }
+    ensures written { IfOk result (λ _. IsTextOf (city_text city.now) city.now) }
+    ensures json { IfOk result (λ _. IsCompactJson (city_text city.now)) }
+{
+    let pieces = points_of_pieces(rt, alloc, seed, city, len)?;
+    let mut pool = VertexPool::with_seed(alloc, seed);
+    let numbers = numbers_of_pieces(alloc, pieces, &mut pool)?;
+    let points = pool.as_slice();
+    let texts = texts_of_pieces(rt, alloc, seed, city, len, points, numbers.as_slice())?;
+    let frame = city.frame();
+    let members = frame.extra.map();
+    let mut kept = KeptMembers::new(members);
+    let head = append_head(bytes, &mut kept)?;
+    let objects = append_pieces(head, texts)?;
+    let all = append_rest(objects, frame, &mut kept, points)?;
+    Ok(all)
+}

@@ -1,0 +1,26 @@
+//! Writes the texts of city models and the reports of runs.
+//!
+//! Each thing has a folder. `specs/` and `proofs/` have the same folders.
+//!
+//! - `tree`: kept members, three whole numbers
+//! - `shape`: geometries, vertices
+//! - `object`: city objects
+//! - `document`: whole documents, at once or in pieces
+//! - `report`: the report of a run: ends and replies
+//! - `pool`: points, each with a number
+//! - `point_numbers`: the numbers of points, as they are met or as they were given beforehand
+#![tactic(auto)]
+
+mod document;
+mod object;
+mod point_numbers;
+mod pool;
+mod report;
+mod shape;
+mod tree;
+
+pub use document::in_pieces::append_in_pieces;
+pub use document::write::append_text;
+pub use pool::{FIXED_SEED, VertexPool};
+pub use report::in_pieces::report_in_pieces;
+pub use report::write::{seeded_report, write_report};

@@ -1,0 +1,3 @@
+//! City objects.
+
+pub mod text;

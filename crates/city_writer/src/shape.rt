@@ -1,0 +1,4 @@
+//! Geometries, each point as its number, and vertices.
+
+pub mod text;
+pub mod vertices;

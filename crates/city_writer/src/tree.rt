@@ -1,0 +1,5 @@
+//! Kept members and three whole numbers.
+
+pub mod kept_members;
+pub mod text;
+pub mod triples;

@@ -1,0 +1,142 @@
+//! Writes the kept members of an object among its own.
+ghost use Rattle.std.specs.Prelude.{◌≡◌, ◌++◌, ◌∷◌, [], MatchOption, OnOk, true};
+ghost use Rattle.json.specs.Token.{key, end_object};
+ghost use Rattle.serde_json.specs.Data.{no_members, member};
+ghost use Rattle.serde_json.specs.View.{view, members_view};
+ghost use Rattle.city_model.specs.Integral.{is_integral, members_integral};
+ghost use Rattle.city_writer.specs.internal.tree.Parted.{begins_before, members_before, members_from};
+ghost use Rattle.city_writer.specs.internal.tree.PartTokens.{tokens_of_members};
+ghost use Rattle.city_writer.specs.internal.tree.ReadsBack.{MembersReadBack};
+
+use crate::tree::text::write_value;
+use city_model::OutOfMemory;
+use json::Writer;
+use serde_json::{Map, Value};
+use std::collections::btree_map::Iter;
+use std::marker::Model;
+
+/// The unwritten kept members of an object, by their names.
+///
+/// Most objects keep one or none, so the calls are short, and are inlined.
+#[derive(Drop)]
+pub struct KeptMembers<'a> {
+    first: Option<(&'a String, &'a Value)>,
+    others: Iter<'a, String, Value>,
+}
+
+impl<'a> Model for KeptMembers<'a> {
+    ghost use Rattle.serde_json.specs.Data.{Members};
+
+    ghost Value = { Members };
+
+    ghost use Rattle.city_model.specs.internal.DataCode.{coded_members};
+
+    ghost coded = { coded_members };
+
+    ghost use Rattle.std.specs.Prelude.{◌≡◌, [], IfNone, option_map, true};
+    ghost use Rattle.std.specs.List.{cons_option};
+    ghost use Rattle.std.specs.Map.Iter.{deref_pair};
+    ghost use Rattle.serde_json.specs.View.{members_view};
+    ghost use Rattle.city_model.specs.Integral.{members_integral};
+
+    ghost view = { λ a. members_view (cons_option (option_map deref_pair a.first) a.others) };
+
+    ghost invariant = { λ a. IfNone a.first (a.others ≡ [])
+        × (members_integral (members_view (cons_option (option_map deref_pair a.first) a.others)) ≡ true) };
+}
+
+impl<'a> KeptMembers<'a> {
+    /// All members of a map of `i64` numbers. Doesn't allocate.
+    pub fn new(map: &'a Map<String, Value>) -> Self
+        requires integral { members_integral (members_view map.now.entries) ≡ true }
+        ensures { result ≡ members_view map.now.entries }
+    {
+        let mut others = map.iter();
+        let first = others.next();
+        KeptMembers { first, others }
+    }
+
+    /// Whether one is left with a name before this one.
+    #[inline(always)]
+    fn begin_before(&self, name: &str) -> bool
+        ensures { result ≡ begins_before name.now self.now }
+    {
+        match self.first {
+            None => false,
+            Some((first, _)) => first.as_str().cmp(name).is_lt(),
+        }
+    }
+
+    /// Takes the first one left.
+    #[inline(always)]
+    fn take(&mut self) -> Option<(&'a str, &'a Value)>
+        ensures { MatchOption result ((self.old ≡ no_members) × (self.new ≡ no_members))
+            (λ m. (self.old ≡ member m.0.now (view m.1.now) self.new) × (is_integral (view m.1.now) ≡ true)) }
+    {
+        let (name, member) = self.first?;
+        self.first = self.others.next();
+        Some((name.as_str(), member))
+    }
+
+    /// Takes the first one left, if its name comes before this one.
+    #[inline(always)]
+    fn take_before(&mut self, name: &str) -> Option<(&'a str, &'a Value)>
+        ensures { MatchOption result
+            ((self.new ≡ self.old) × (members_before name.now self.old ≡ no_members)
+            × (members_from name.now self.old ≡ self.old))
+            (λ m. (self.old ≡ member m.0.now (view m.1.now) self.new)
+            × (members_before name.now self.old ≡ member m.0.now (view m.1.now) (members_before name.now self.new))
+            × (members_from name.now self.old ≡ members_from name.now self.new)
+            × (is_integral (view m.1.now) ≡ true)) }
+    {
+        if self.begin_before(name) {
+            self.take()
+        } else {
+            None
+        }
+    }
+
+    /// Writes the members before a name, and leaves the others.
+    #[inline(always)]
+    pub fn write_before(&mut self, name: &str, out: &mut Writer) -> Result<(), OutOfMemory>
+        ensures before { OnOk result (out.new.before ≡ out.old.before) }
+        ensures tokens { OnOk result (out.new.tokens
+            ≡ out.old.tokens ++ tokens_of_members (members_before name.now self.old)) }
+        ensures left { OnOk result (self.new ≡ members_from name.now self.old) }
+        ensures reads { OnOk result (MembersReadBack self.new → MembersReadBack self.old) }
+    {
+        while let Some((member_name, member)) = self.take_before(name) {
+            out.key(member_name)?;
+            write_value(member, out)?;
+        }
+        Ok(())
+    }
+
+    /// Writes the members before a name, and the name.
+    #[inline(always)]
+    pub fn write_name(&mut self, name: &str, out: &mut Writer) -> Result<(), OutOfMemory>
+        ensures before { OnOk result (out.new.before ≡ out.old.before) }
+        ensures tokens { OnOk result (out.new.tokens
+            ≡ out.old.tokens ++ (tokens_of_members (members_before name.now self.old) ++ key name.now ∷ [])) }
+        ensures left { OnOk result (self.new ≡ members_from name.now self.old) }
+        ensures reads { OnOk result (MembersReadBack self.new → MembersReadBack self.old) }
+    {
+        self.write_before(name, out)?;
+        out.key(name)
+    }
+
+    /// Writes all members left, and the closing brace.
+    #[inline(always)]
+    pub fn write_last(&mut self, out: &mut Writer) -> Result<(), OutOfMemory>
+        ensures before { OnOk result (out.new.before ≡ out.old.before) }
+        ensures tokens { OnOk result (out.new.tokens
+            ≡ out.old.tokens ++ (tokens_of_members self.old ++ end_object ∷ [])) }
+        ensures reads { OnOk result (MembersReadBack self.old) }
+    {
+        while let Some((name, member)) = self.take() {
+            out.key(name)?;
+            write_value(member, out)?;
+        }
+        out.end_object()
+    }
+}
