@@ -25,5 +25,6 @@ mod viewer_thread;
 mod work;
 
 pub use city_board::{Look, MAX_VIEWERS, Note, Poster, Viewer, board};
+pub use city_scheduler::MAX_WORKERS;
 pub use gate::{Gate, OpenGate};
-pub use run::{MAX_WORKERS, run_crew, run_crew_read, run_seeded};
+pub use run::{run_crew, run_crew_read, run_seeded};

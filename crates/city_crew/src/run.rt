@@ -39,10 +39,6 @@ use std::marker::Brand;
 use std::sync::Wait;
 use std::thread::Threads;
 
-/// The most workers of a run. All turns are taken under one lock, so one worker at a time runs a
-/// command, however many there are.
-pub const MAX_WORKERS: usize = 16;
-
 /// Runs the scripts on the document's city with so many workers, while so many viewers look.
 ///
 /// Workers are 1 to `MAX_WORKERS`, viewers 0 to `MAX_VIEWERS`. The document is judged before the

@@ -1,5 +1,5 @@
 //! The verbs `crew`, `decimals`, `texts`, `replay` and `model`: runs by so many workers before so many viewers.
-ghost use Rattle.city_serve.specs.RunOptions.{AreWithin};
+ghost use Rattle.city_options.specs.RunOptions.{AreWithin};
 
 use crate::fault_lines::add_run_fault;
 use crate::replay::is_replayed;

@@ -1,5 +1,5 @@
 //! Texts served as the program serves them, which the verbs `run`, `crew`, `decimals` and `texts` are answered by.
-ghost use Rattle.city_serve.specs.RunOptions.{AreWithin};
+ghost use Rattle.city_options.specs.RunOptions.{AreWithin};
 
 use crate::fault_lines::add_fault;
 use crate::written::Written;

@@ -1,5 +1,6 @@
 pub mod DeskState
 pub mod InTurn
+pub mod Limits
 pub mod Opening
 pub mod RepliesValue
 pub mod Serial

@@ -31,3 +31,7 @@ pub use null_shelf::NullShelf;
 pub use opening_city::OpeningCity;
 pub use shelf::{ListShelf, Shelf};
 pub use turn::Turn;
+
+/// The most workers that take turns. All turns are taken under one lock, so one worker at a time runs
+/// a command, however many there are.
+pub const MAX_WORKERS: usize = 16;

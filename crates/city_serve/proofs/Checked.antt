@@ -6,7 +6,7 @@ use Rattle.std.proofs.lemmas.Option.{IfSome_then}
 use Rattle.city_serve.specs.Checks.{AreModelLines, AreScriptsLines, AreCheckLines, HasLines, OfFiles}
 use Rattle.city_serve.specs.Destinations.{Folder}
 use Rattle.city_serve.specs.Programs.{Streams, IsChecked, OfLines}
-use Rattle.city_serve.specs.declared.options.Options.{Options}
+use Rattle.city_options.specs.declared.options.Options.{Options}
 use Rattle.city_serve.specs.declared.program.Status.{Status}
 use Rattle.city_serve.specs.internal.Telling.{IsAnsweredAs, check_status}
 

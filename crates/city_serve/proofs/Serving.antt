@@ -4,8 +4,8 @@ use Rattle.city_serve.proofs.Prelude.{◌≡◌, ◌++◌, ℕ, List, Bool, true
 use Rattle.city_serve.proofs.Prelude.{Vec, Appends, End, ServeFault, AreServedBy, document_part, written_by, faults_by}
 use Rattle.std.proofs.lemmas.List.{take-append-drop}
 use Rattle.city_scheduler.specs.InTurn.{AreInTurn}
-use Rattle.city_serve.specs.declared.options.Options.{Options}
-use Rattle.city_serve.specs.RunOptions.{plain_destination}
+use Rattle.city_options.specs.declared.options.Options.{Options}
+use Rattle.city_options.specs.RunOptions.{plain_destination}
 use Rattle.city_serve.specs.Destinations.{Folder, IsCutAt, IsRunInParts, IsDelivered, IsDeliveryFault, bytes_to_writer}
 use Rattle.city_serve.specs.ServedTexts.{Written, Faults, WhereAlone, AreCutShortBy, IsTextsFaultBy}
 use Rattle.city_serve.specs.Served.{read_of, scripts_part, IsServeFaultBy}

@@ -13,10 +13,10 @@ use Rattle.city_decimals.specs.Lines.{AreDecodedLines}
 use Rattle.city_scheduler.specs.InTurn.{AreInTurn}
 use Rattle.city_writer.specs.report.Reports.{report_text}
 use Rattle.city_serve.specs.declared.fault.ServeFault.{ServeFault}
-use Rattle.city_serve.specs.declared.options.Destination.{Destination}
-use Rattle.city_serve.specs.declared.options.Options.{Options}
+use Rattle.city_options.specs.declared.options.Destination.{Destination}
+use Rattle.city_options.specs.declared.options.Options.{Options}
 use Rattle.city_serve.specs.Decimals.{written_by, faults_by}
-use Rattle.city_serve.specs.RunOptions.{file_of}
+use Rattle.city_options.specs.RunOptions.{file_of}
 use Rattle.city_serve.specs.ServedTexts.{AppendsSome, WhereAlone}
 
 -- ---- withholding

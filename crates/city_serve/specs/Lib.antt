@@ -1,10 +1,8 @@
 pub mod Checks
-pub mod CommandLines
 pub mod Decimals
 pub mod Destinations
 pub mod FaultTexts
 pub mod Programs
-pub mod RunOptions
 pub mod SeenTexts
 pub mod Served
 pub mod ServedTexts

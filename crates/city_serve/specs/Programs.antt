@@ -3,15 +3,15 @@ use Rattle.std.specs.Prelude.{◌≡◌, ◌⊎◌, ◌+◌, ⊤, ℕ, Bool, tru
 use Rattle.std.specs.Prelude.{◌||◌, Option, IfSome, Result, Ok, Err, IsErr, IfOk, option_map}
 use Rattle.std.specs.Global.{Vec}
 use Rattle.std.specs.Io.KnownBytes.{Keeps, Appends}
-use Rattle.city_serve.specs.declared.command_line.Asked.{Asked}
-use Rattle.city_serve.specs.declared.command_line.LineFault.{LineFault}
+use Rattle.city_options.specs.declared.command_line.Asked.{Asked}
+use Rattle.city_options.specs.declared.command_line.LineFault.{LineFault}
 use Rattle.city_serve.specs.declared.fault.ServeFault.{ServeFault}
 use Rattle.city_serve.specs.declared.program.Status.{Status}
 use Rattle.city_serve.specs.Checks.{AreCheckLines, HasLines, OfFiles}
-use Rattle.city_serve.specs.CommandLines.{IsName, Line, IsLineOf, AnswersNames, AnswersOptions, AsksForText, HasOptions}
-use Rattle.city_serve.specs.CommandLines.{IsShown, MeetsUnknownOption}
+use Rattle.city_options.specs.CommandLines.{IsName, Line, IsLineOf, AnswersNames, AnswersOptions, AsksForText, HasOptions}
+use Rattle.city_options.specs.CommandLines.{IsShown, MeetsUnknownOption}
 use Rattle.city_serve.specs.Destinations.{Folder, IsDelivered, IsDeliveryFault}
-use Rattle.city_serve.specs.RunOptions.{plain_options, plain_destination}
+use Rattle.city_options.specs.RunOptions.{plain_options, plain_destination}
 use Rattle.city_serve.specs.FaultTexts.{fault_text}
 use Rattle.city_serve.specs.SeenTexts.{seen_text}
 use Rattle.city_serve.specs.Served.{read_of, document_part, scripts_part, IsDeviceFault}

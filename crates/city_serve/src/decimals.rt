@@ -5,13 +5,13 @@ ghost use Rattle.city_crew.specs.Seen.{AreSeen};
 ghost use Rattle.city_decimals.specs.Lines.{AreDecodedBehind};
 ghost use Rattle.city_scheduler.specs.InTurn.{AreInTurn};
 ghost use Rattle.city_writer.specs.report.JsonLines.{AreJsonLines};
-ghost use Rattle.city_serve.specs.RunOptions.{AreWithin};
+ghost use Rattle.city_options.specs.RunOptions.{AreWithin};
 ghost use Rattle.city_serve.specs.ServedTexts.{WhereAlone};
 ghost use Rattle.city_serve.specs.Decimals.{IsGiven, IsDecimalsRun, IsFaultOfDecimalsRun};
 ghost use Rattle.city_serve.specs.Destinations.{IsCutAt};
 ghost use Rattle.city_serve.specs.internal.WholeTexts.{HasWholeNumbers};
 
-use crate::options::Options;
+use city_options::Options;
 use crate::run::run_whole;
 use crate::texts::{Stage, Text, Texts};
 use city_crew::Gate;

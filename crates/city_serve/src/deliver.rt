@@ -3,14 +3,14 @@ ghost use Rattle.std.specs.Prelude.{◌≡◌, ◌≢◌, ◌≤◌, true, lengt
 ghost use Rattle.std.specs.List.{list_any};
 ghost use Rattle.std.specs.Io.KnownBytes.{Appends};
 ghost use Rattle.city_serve.specs.declared.fault.ServeFault.{ServeFault};
-ghost use Rattle.city_serve.specs.RunOptions.{file_of};
+ghost use Rattle.city_options.specs.RunOptions.{file_of};
 ghost use Rattle.city_serve.specs.ServedTexts.{AppendsSome};
 ghost use Rattle.city_serve.specs.Destinations.{outcome_failed, has_failed, is_withheld, bytes_to_writer};
 ghost use Rattle.city_serve.specs.Destinations.{IsPlaced, IsReplaced, IsOldOrNew, HaveFailed};
 
 use crate::device::Device;
 use crate::fault::ServeFault;
-use crate::options::Destination;
+use city_options::Destination;
 use crate::output_files::OutputFiles;
 use crate::serve::write_output;
 use city_desk::Output;

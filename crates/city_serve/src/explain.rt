@@ -1,5 +1,5 @@
 //! Explains a fault behind its line: the file, the place in it, the mistake, and the repair.
-use crate::command_line::Asked;
+use city_options::command_line::Asked;
 use crate::device::Device;
 use crate::fault::ServeFault;
 use crate::files::TextFiles;

@@ -2,22 +2,20 @@
 //! command lines.
 //!
 //! - `serve`: from a reader to a writer; `serve_texts`: from two texts, borrowed or owned
-//! - `options`: the workers, the viewers, the form of numbers, and the output's destination; `run`,
-//!   `decimals`: the run itself
+//! - `run`, `decimals`: the run itself, by options
 //! - `deliver`: the output to its destination, over `output_files`, replaced whole
 //! - `device`: a reader or a writer, with a record of its failure; `files`: a text from a file;
 //!   `runtime_files`: the files of a runtime, `no_files`: none
 //! - `texts`: the two texts at work, let go once they are read
 //! - `check`: all faults of two texts, told; `explain`: the lines behind a fault's line
 //! - `fault`, `fault_line`: why nothing was served, and the line to report it; `seen_line`: a viewer's line
-//! - `command_line`: the request of a command line; `program`: how it is answered, and told
+//! - `program`: how a command line is answered, and told
 //!
 //! Made for a program that ends once its output is written: the city of a run is left to the end of the
 //! process.
 #![tactic(auto)]
 
 mod check;
-pub mod command_line;
 mod decimals;
 mod deliver;
 mod device;
@@ -26,7 +24,6 @@ mod fault;
 pub mod fault_line;
 mod files;
 mod no_files;
-mod options;
 mod output_files;
 mod program;
 mod run;
@@ -37,11 +34,11 @@ pub mod serve;
 pub mod serve_texts;
 mod texts;
 
+pub use city_options::{Destination, Options, command_line};
 pub use deliver::Delivered;
 pub use device::Device;
 pub use fault::ServeFault;
 pub use files::{TextFiles, read_file, read_text};
-pub use options::{Destination, Options};
 pub use output_files::OutputFiles;
 pub use program::{Status, refuse_line, run_program};
 pub use runtime_files::{NewFile, RuntimeFiles};

@@ -1,6 +1,6 @@
 //! Answers the words of a command line.
 ghost use Rattle.std.specs.Prelude.{◌≡◌, ◌++◌, ◌∷◌, [], ℕ, List, false, drop, map, string_bytes, IfOk, IfErr, OnOk};
-ghost use Rattle.city_serve.specs.CommandLines.{HasOptions};
+ghost use Rattle.city_options.specs.CommandLines.{HasOptions};
 ghost use Rattle.city_serve.specs.FaultTexts.{fault_text};
 ghost use Rattle.city_serve.specs.SeenTexts.{seen_text};
 ghost use Rattle.city_serve.specs.declared.program.Status.{Status};
@@ -10,7 +10,7 @@ ghost use Rattle.city_serve.specs.internal.Telling.{run_status, check_status, Is
 ghost use Rattle.city_serve.specs.internal.Telling.{IsSeenTold};
 
 use crate::check::check;
-use crate::command_line::{Asked, LineFault, asked_by};
+use city_options::command_line::{Asked, LineFault, asked_by};
 use crate::deliver::Delivered;
 use crate::device::Device;
 use crate::explain::explanation;

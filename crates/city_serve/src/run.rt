@@ -7,7 +7,7 @@ ghost use Rattle.city_crew.specs.Seen.{AreSeen};
 ghost use Rattle.city_scheduler.specs.InTurn.{AreInTurn};
 ghost use Rattle.city_desk.specs.RunFaults.{IsRunFault, is_of_crew};
 ghost use Rattle.city_desk.specs.TextRuns.{IsReadFrom, IsRun};
-ghost use Rattle.city_serve.specs.RunOptions.{AreWithin};
+ghost use Rattle.city_options.specs.RunOptions.{AreWithin};
 ghost use Rattle.city_serve.specs.ServedTexts.{IsFaultOfRun, WhereAlone};
 ghost use Rattle.city_writer.specs.Outputs.{IsJsonOutput};
 ghost use Rattle.city_writer.specs.report.Reports.{report_text};
@@ -15,7 +15,7 @@ ghost use Rattle.city_serve.specs.Decimals.{written_by, faults_by};
 ghost use Rattle.city_serve.specs.Destinations.{IsCutAt};
 
 use crate::decimals::run_decimals;
-use crate::options::Options;
+use city_options::Options;
 use crate::texts::Texts;
 use city_crew::{Gate, run_crew_read};
 use city_desk::{Output, RunFault, read_texts_by, run_read};

@@ -2,7 +2,7 @@
 ghost use Rattle.std.specs.Prelude.{◌≡◌, ◌≤◌, true, false, IfOk, IfErr, IfSome, OnOk, position, take};
 ghost use Rattle.std.specs.Io.KnownBytes.{Appends};
 ghost use Rattle.city_crew.specs.Limits.{max_workers, max_viewers};
-ghost use Rattle.city_serve.specs.RunOptions.{AreWithin};
+ghost use Rattle.city_options.specs.RunOptions.{AreWithin};
 ghost use Rattle.city_serve.specs.Served.{is_newline, max_input, read_of, document_part, scripts_part, IsDeviceFault};
 ghost use Rattle.city_serve.specs.Served.{IsServed, IsServedBy, IsServeFault, IsServeFaultBy};
 ghost use Rattle.city_serve.specs.Decimals.{written_by, faults_by};
@@ -10,7 +10,7 @@ ghost use Rattle.city_serve.specs.ServedTexts.{LosesAtMost, AppendsSome};
 
 use crate::device::Device;
 use crate::fault::ServeFault;
-use crate::options::Options;
+use city_options::Options;
 use crate::serve_texts::serve_owned;
 use city_crew::{Gate, OpenGate};
 use city_doc::{FIXED_SEED, MAX_TEXT};

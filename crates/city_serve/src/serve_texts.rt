@@ -1,7 +1,7 @@
 //! Serves a document and its scripts from two texts to a writer.
 ghost use Rattle.std.specs.Prelude.{◌≡◌, ◌≤◌, IfOk, IfErr, OnOk};
 ghost use Rattle.city_crew.specs.Limits.{max_workers, max_viewers};
-ghost use Rattle.city_serve.specs.RunOptions.{AreWithin};
+ghost use Rattle.city_options.specs.RunOptions.{AreWithin};
 ghost use Rattle.city_serve.specs.ServedTexts.{AreServed, AreServedBy, IsTextsFault, IsTextsFaultBy};
 ghost use Rattle.city_serve.specs.Decimals.{written_by, faults_by};
 ghost use Rattle.city_serve.specs.Destinations.{IsDelivered, IsDeliveryFault};
@@ -10,7 +10,7 @@ use crate::deliver::{Delivered, deliver};
 use crate::device::Device;
 use crate::fault::ServeFault;
 use crate::no_files::NoFiles;
-use crate::options::{Destination, Options};
+use city_options::{Destination, Options};
 use crate::output_files::OutputFiles;
 use crate::run::run;
 use crate::texts::Texts;

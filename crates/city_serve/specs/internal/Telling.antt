@@ -1,7 +1,7 @@
 -- The texts on standard error, step by step.
 use Rattle.std.specs.Prelude.{◌≡◌, ◌≢◌, ◌⊎◌, ℕ, Bool, true, false, List, [], ◌∷◌, ◌++◌, codes, Option}
 use Rattle.std.specs.Global.{Vec}
-use Rattle.city_serve.specs.declared.command_line.Asked.{Asked}
+use Rattle.city_options.specs.declared.command_line.Asked.{Asked}
 use Rattle.city_serve.specs.declared.fault.ServeFault.{ServeFault}
 use Rattle.city_serve.specs.declared.program.Status.{Status}
 use Rattle.city_serve.specs.FaultTexts.{fault_text}

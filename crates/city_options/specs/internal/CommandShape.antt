@@ -4,12 +4,12 @@ use Rattle.std.specs.Result.{IsOkAnd}
 use Rattle.clap.specs.Words.{App, Rule, new_rule, with_rule}
 use Rattle.clap.specs.Simple.{new_shape}
 use Rattle.clap.specs.declared.builder.action.ArgAction.TheVariants.{SetTrue}
-use Rattle.city_serve.specs.declared.command_line.Asked.{Asked}
-use Rattle.city_serve.specs.declared.command_line.LineFault.{LineFault}
-use Rattle.city_serve.specs.declared.options.Destination.{Destination}
-use Rattle.city_serve.specs.declared.options.Options.{Options}
-use Rattle.city_serve.specs.CommandLines.{IsAskedCheck, IsAskedFiles, IsAskedInput}
-use Rattle.city_serve.specs.RunOptions.{file_of}
+use Rattle.city_options.specs.declared.command_line.Asked.{Asked}
+use Rattle.city_options.specs.declared.command_line.LineFault.{LineFault}
+use Rattle.city_options.specs.declared.options.Destination.{Destination}
+use Rattle.city_options.specs.declared.options.Options.{Options}
+use Rattle.city_options.specs.CommandLines.{IsAskedCheck, IsAskedFiles, IsAskedInput}
+use Rattle.city_options.specs.RunOptions.{file_of}
 
 -- the command as clap is told of it, without its options: two names of files, and beside help a version
 abbrev pub files_command : App

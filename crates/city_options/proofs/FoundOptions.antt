@@ -1,22 +1,22 @@
 -- Clap's findings in a line of options and names: the values of options, the given flags, and the first two names, the
 -- model's and the scripts'. A third name is refused.
-use Rattle.city_serve.proofs.Prelude.{◌≡◌, ◌≢◌, ◌+◌, ℕ, Bool, true, false, cond, List, [], ◌∷◌, append-nil, inl, inr}
-use Rattle.city_serve.proofs.Prelude.{arith, Option, Some, None, is_some, refl, sym, subst, ap, ap₂, ◌∙◌, codes, fold}
-use Rattle.city_serve.proofs.Prelude.{option_and_then, option_map_or, slice_get, bytes_eq, bytes_eq-Decides}
-use Rattle.city_serve.proofs.Prelude.{false_from_ne_true, Row, Text, Walk, first_of, nothing_held, one_of, settled}
-use Rattle.city_serve.proofs.Prelude.{walk_from, with_default, built, Kinds, or_else, settle_fault, UnknownArgument}
-use Rattle.city_serve.proofs.Prelude.{cityed_command, Atomic, Check, Decimals, Explain, Flag, IsLineOf, Line, Output, Valued, Watch}
-use Rattle.city_serve.proofs.Prelude.{Workers, ends, flag_name, gives_flag, gives_name, gives_output, gives_value}
-use Rattle.city_serve.proofs.Prelude.{value_name, empty_line}
+use Rattle.city_options.proofs.Prelude.{◌≡◌, ◌≢◌, ◌+◌, ℕ, Bool, true, false, cond, List, [], ◌∷◌, append-nil, inl, inr}
+use Rattle.city_options.proofs.Prelude.{arith, Option, Some, None, is_some, refl, sym, subst, ap, ap₂, ◌∙◌, codes, fold}
+use Rattle.city_options.proofs.Prelude.{option_and_then, option_map_or, slice_get, bytes_eq, bytes_eq-Decides}
+use Rattle.city_options.proofs.Prelude.{false_from_ne_true, Row, Text, Walk, first_of, nothing_held, one_of, settled}
+use Rattle.city_options.proofs.Prelude.{walk_from, with_default, built, Kinds, or_else, settle_fault, UnknownArgument}
+use Rattle.city_options.proofs.Prelude.{cityed_command, Atomic, Check, Decimals, Explain, Flag, IsLineOf, Line, Output, Valued, Watch}
+use Rattle.city_options.proofs.Prelude.{Workers, ends, flag_name, gives_flag, gives_name, gives_output, gives_value}
+use Rattle.city_options.proofs.Prelude.{value_name, empty_line}
 use Rattle.std.specs.Prelude.{option_map}
 use Rattle.clap.specs.Walk.{arg_by_id, finished, row_text, rows_after, takes_values, walk}
 use Rattle.clap.specs.Simple.{App, entered}
 use Rattle.clap.specs.Faults.{built_fault, check_fault, defaults_fault, entered_fault, walk_fault}
-use Rattle.city_serve.specs.CommandLines.{with_flag, with_value}
-use Rattle.city_serve.proofs.GivenOptions.{Ends, Place, flag_row, is_over, line_goes, model_next, none_next, rows_in}
-use Rattle.city_serve.proofs.GivenOptions.{rules, scripts_next, stands, text_row, top}
-use Rattle.city_serve.proofs.Rows.{AreDistinct, AreRight, behind_is, defaults_right, distinct_fresh, found}
-use Rattle.city_serve.proofs.Rows.{found_behind, has_row_is, with_defaults}
+use Rattle.city_options.specs.CommandLines.{with_flag, with_value}
+use Rattle.city_options.proofs.GivenOptions.{Ends, Place, flag_row, is_over, line_goes, model_next, none_next, rows_in}
+use Rattle.city_options.proofs.GivenOptions.{rules, scripts_next, stands, text_row, top}
+use Rattle.city_options.proofs.Rows.{AreDistinct, AreRight, behind_is, defaults_right, distinct_fresh, found}
+use Rattle.city_options.proofs.Rows.{found_behind, has_row_is, with_defaults}
 
 abbrev pub app : App
 app = built cityed_command

@@ -1,8 +1,9 @@
 -- How a run is done, and where its output goes.
 use Rattle.std.specs.Prelude.{◌≤◌, ℕ, false, List, Option, None, option_map}
-use Rattle.city_crew.specs.Limits.{max_workers, max_viewers}
-use Rattle.city_serve.specs.declared.options.Options.{Options}
-use Rattle.city_serve.specs.declared.options.Destination.{Destination}
+use Rattle.city_board.specs.Limits.{max_viewers}
+use Rattle.city_scheduler.specs.Limits.{max_workers}
+use Rattle.city_options.specs.declared.options.Options.{Options}
+use Rattle.city_options.specs.declared.options.Destination.{Destination}
 
 -- a run may have such options
 abbrev pub AreWithin : Options → Type 0

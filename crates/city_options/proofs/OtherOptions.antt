@@ -1,18 +1,18 @@
 -- Clap's answer to options: help and the version are texts to show, and any other long option is refused.
-use Rattle.city_serve.proofs.Prelude.{◌≡◌, ◌⊎◌, ℕ, Bool, true, false, List, [], ◌∷◌, ◌++◌, Option, Some, None, inl, inr}
-use Rattle.city_serve.proofs.Prelude.{refl, sym, subst, ap, ◌∙◌, codes, ◌≢◌, if◌then◌else◌, IsErr, All, bytes_eq}
-use Rattle.city_serve.proofs.Prelude.{long_of, false_from_ne_true, bytes_eq-Decides, Held, Row, Text, idle}
-use Rattle.city_serve.proofs.Prelude.{nothing_held, walk_from, IsAmong, Kinds, or_else, flag_word_fault, step_fault}
-use Rattle.city_serve.proofs.Prelude.{OutOfMemory, UnknownArgument, ErrorKind, IsName, IsWantOfMemory, Atomic, Check}
-use Rattle.city_serve.proofs.Prelude.{Decimals, Explain, Output, Watch, Workers}
+use Rattle.city_options.proofs.Prelude.{◌≡◌, ◌⊎◌, ℕ, Bool, true, false, List, [], ◌∷◌, ◌++◌, Option, Some, None, inl, inr}
+use Rattle.city_options.proofs.Prelude.{refl, sym, subst, ap, ◌∙◌, codes, ◌≢◌, if◌then◌else◌, IsErr, All, bytes_eq}
+use Rattle.city_options.proofs.Prelude.{long_of, false_from_ne_true, bytes_eq-Decides, Held, Row, Text, idle}
+use Rattle.city_options.proofs.Prelude.{nothing_held, walk_from, IsAmong, Kinds, or_else, flag_word_fault, step_fault}
+use Rattle.city_options.proofs.Prelude.{OutOfMemory, UnknownArgument, ErrorKind, IsName, IsWantOfMemory, Atomic, Check}
+use Rattle.city_options.proofs.Prelude.{Decimals, Explain, Output, Watch, Workers}
 use Rattle.clap.proofs.OnLiterals.{clap_on_literals}
 use Rattle.clap.specs.Walk.{arg_by_long, walked, word_met}
 use Rattle.clap.specs.Faults.{long_fault, walk_fault, word_fault}
 use Rattle.clap.specs.declared.error.kind.ErrorKind.TheVariants.{DisplayHelp, DisplayVersion}
-use Rattle.city_serve.specs.CommandLines.{AsksForText, IsShown, IsUnknownOption, MeetsUnknownOption}
-use Rattle.city_serve.proofs.FoundOptions.{fault, line_ends, refused_all}
-use Rattle.city_serve.proofs.GivenOptions.{Ends, is_over, model_next, rules, stands, top}
-use Rattle.city_serve.proofs.LineAnswers.{Answer, names_line, not_free, only, want_is_err}
+use Rattle.city_options.specs.CommandLines.{AsksForText, IsShown, IsUnknownOption, MeetsUnknownOption}
+use Rattle.city_options.proofs.FoundOptions.{fault, line_ends, refused_all}
+use Rattle.city_options.proofs.GivenOptions.{Ends, is_over, model_next, rules, stands, top}
+use Rattle.city_options.proofs.LineAnswers.{Answer, names_line, not_free, only, want_is_err}
 
 module _ (option : Text) (unknown : IsUnknownOption option) where
   no_dashes_alone : bytes_eq option (45 ∷ 45 ∷ []) ≡ false

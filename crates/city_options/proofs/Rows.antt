@@ -1,8 +1,8 @@
 -- Clap's rows: one of a new id stands behind the others, and they are found as before.
-use Rattle.city_serve.proofs.Prelude.{◌≡◌, Bool, true, false, true≢false, cond, ◌&&◌, ◌⊎◌, inl, inr, List, [], ◌∷◌}
-use Rattle.city_serve.proofs.Prelude.{◌++◌, append-nil, append_assoc, Option, Some, None, is_some, refl, sym, subst, ap}
-use Rattle.city_serve.proofs.Prelude.{ap₂, ◌∙◌, fold, bytes_eq, false_from_ne_true, bytes_eq-Decides, Row, Rule, Text}
-use Rattle.city_serve.proofs.Prelude.{has_row, with_default, with_values, without, or_else}
+use Rattle.city_options.proofs.Prelude.{◌≡◌, Bool, true, false, true≢false, cond, ◌&&◌, ◌⊎◌, inl, inr, List, [], ◌∷◌}
+use Rattle.city_options.proofs.Prelude.{◌++◌, append-nil, append_assoc, Option, Some, None, is_some, refl, sym, subst, ap}
+use Rattle.city_options.proofs.Prelude.{ap₂, ◌∙◌, fold, bytes_eq, false_from_ne_true, bytes_eq-Decides, Row, Rule, Text}
+use Rattle.city_options.proofs.Prelude.{has_row, with_default, with_values, without, or_else}
 use Rattle.std.proofs.Common.{◌||◌}
 use Rattle.std.specs.Prelude.{find}
 use Rattle.std.proofs.lemmas.Bool.{or_parts, or_right}

@@ -1,23 +1,24 @@
 -- The program's answers to options and names, by clap's findings.
-use Rattle.city_serve.proofs.Prelude.{◌≡◌, ◌⊎◌, ℕ, Bool, true, false, true≢false, List, [], ◌∷◌, Option, Some, None}
-use Rattle.city_serve.proofs.Prelude.{inl, inr, refl, sym, subst, ap, ◌∙◌, arith, codes, IsErr, slice_get, All, Text}
-use Rattle.city_serve.proofs.Prelude.{first_of, one_of, IsAmong, Kinds, OutOfMemory, UnknownArgument, ErrorKind}
-use Rattle.city_serve.proofs.Prelude.{IsLineOf, IsName, IsWantOfMemory, ends, gives_name, Asked, Atomic, Decimals, Flag}
-use Rattle.city_serve.proofs.Prelude.{Line, Output, Valued, Watch, Workers, flag_name, value_name, empty_line}
-use Rattle.city_serve.proofs.Prelude.{Destination, Check, Explain, ap₂, ◌≢◌}
+use Rattle.city_options.proofs.Prelude.{◌≡◌, ◌⊎◌, ℕ, Bool, true, false, true≢false, List, [], ◌∷◌, Option, Some, None}
+use Rattle.city_options.proofs.Prelude.{inl, inr, refl, sym, subst, ap, ◌∙◌, arith, codes, IsErr, slice_get, All, Text}
+use Rattle.city_options.proofs.Prelude.{first_of, one_of, IsAmong, Kinds, OutOfMemory, UnknownArgument, ErrorKind}
+use Rattle.city_options.proofs.Prelude.{IsLineOf, IsName, IsWantOfMemory, ends, gives_name, Asked, Atomic, Decimals, Flag}
+use Rattle.city_options.proofs.Prelude.{Line, Output, Valued, Watch, Workers, flag_name, value_name, empty_line}
+use Rattle.city_options.proofs.Prelude.{Destination, Check, Explain, ap₂, ◌≢◌}
 use Rattle.std.proofs.Common.{suc, Result, Ok, Err}
 use Rattle.std.specs.Prelude.{◌≤◌, IfOk, MatchBool}
 use Rattle.std.specs.Result.{IsErrAnd}
-use Rattle.city_crew.specs.Limits.{max_workers, max_viewers}
-use Rattle.city_serve.specs.CommandLines.{AnswersCheck, AnswersCheckedNames, AnswersNames, AnswersOptions, AnswersRun}
-use Rattle.city_serve.specs.CommandLines.{AreLineOptions, AreOptionsOf, HasOptions, HasRunOption, IsAskedFiles}
-use Rattle.city_serve.specs.CommandLines.{IsAskedInput, IsCount, IsDestinationOf, IsSameDestination}
-use Rattle.city_serve.specs.internal.CommandShape.{AnswersCheckedPlaces, AnswersPlaces, IsOfRun}
-use Rattle.city_serve.specs.RunOptions.{AreWithin, plain_destination, plain_options}
-use Rattle.city_serve.specs.declared.command_line.LineFault.{LineFault}
-use Rattle.city_serve.specs.declared.options.Options.{Options}
-use Rattle.city_serve.proofs.FoundOptions.{Finds, Parses, fault, flag_text, line_parses, rows}
-use Rattle.city_serve.proofs.GivenOptions.{is_over, model_next}
+use Rattle.city_board.specs.Limits.{max_viewers}
+use Rattle.city_scheduler.specs.Limits.{max_workers}
+use Rattle.city_options.specs.CommandLines.{AnswersCheck, AnswersCheckedNames, AnswersNames, AnswersOptions, AnswersRun}
+use Rattle.city_options.specs.CommandLines.{AreLineOptions, AreOptionsOf, HasOptions, HasRunOption, IsAskedFiles}
+use Rattle.city_options.specs.CommandLines.{IsAskedInput, IsCount, IsDestinationOf, IsSameDestination}
+use Rattle.city_options.specs.internal.CommandShape.{AnswersCheckedPlaces, AnswersPlaces, IsOfRun}
+use Rattle.city_options.specs.RunOptions.{AreWithin, plain_destination, plain_options}
+use Rattle.city_options.specs.declared.command_line.LineFault.{LineFault}
+use Rattle.city_options.specs.declared.options.Options.{Options}
+use Rattle.city_options.proofs.FoundOptions.{Finds, Parses, fault, flag_text, line_parses, rows}
+use Rattle.city_options.proofs.GivenOptions.{is_over, model_next}
 
 abbrev pub Answer : Type 0
 Answer = Result Asked LineFault

@@ -2,16 +2,17 @@
 ghost use Rattle.std.specs.Prelude.{◌≡◌, ◌≢◌, ◌⊎◌, ◌≤◌, ◌∷◌, ℕ, Bool, true, false, List, Option, Some, None, Ok, Err};
 ghost use Rattle.std.specs.Prelude.{All, drop, map, option_map, string_bytes, IfOk, IsErr, MatchOption, MatchResult};
 ghost use Rattle.clap.specs.Words.{app_of, kind_of, rule_of};
-ghost use Rattle.city_serve.specs.RunOptions.{plain_destination, plain_options};
-ghost use Rattle.city_serve.specs.CommandLines.{IsName, Line, IsLineOf, AnswersNames, AnswersOptions, IsShown};
-ghost use Rattle.city_serve.specs.CommandLines.{AreOptionsOf, AsksForText, HasOptions, IsCount, MeetsUnknownOption};
-ghost use Rattle.city_serve.specs.internal.CommandShape.{cityed_command, files_command, flag_rule, option_rule};
-ghost use Rattle.city_serve.specs.internal.CommandShape.{output_rule, run_command, output_command};
-ghost use Rattle.city_serve.specs.internal.CommandShape.{AnswersPlaces, AnswersCheckedPlaces, IsOfRun};
+ghost use Rattle.city_options.specs.RunOptions.{plain_destination, plain_options};
+ghost use Rattle.city_options.specs.CommandLines.{IsName, Line, IsLineOf, AnswersNames, AnswersOptions, IsShown};
+ghost use Rattle.city_options.specs.CommandLines.{AreOptionsOf, AsksForText, HasOptions, IsCount, MeetsUnknownOption};
+ghost use Rattle.city_options.specs.internal.CommandShape.{cityed_command, files_command, flag_rule, option_rule};
+ghost use Rattle.city_options.specs.internal.CommandShape.{output_rule, run_command, output_command};
+ghost use Rattle.city_options.specs.internal.CommandShape.{AnswersPlaces, AnswersCheckedPlaces, IsOfRun};
 
 use crate::options::{Destination, Options};
-use city_crew::{MAX_VIEWERS, MAX_WORKERS};
+use city_board::MAX_VIEWERS;
 use city_model::OutOfMemory;
+use city_scheduler::MAX_WORKERS;
 use clap::error::ErrorKind;
 use clap::{Arg, ArgAction, Command, Error};
 use std::alloc::Global;
@@ -101,7 +102,7 @@ pub enum LineFault {
 
 impl From<OutOfMemory> for LineFault {
     ghost use Rattle.std.specs.Prelude.{◌≡◌};
-    ghost use Rattle.city_serve.specs.declared.command_line.LineFault.{LineFault};
+    ghost use Rattle.city_options.specs.declared.command_line.LineFault.{LineFault};
 
     ghost from_gives = { λ _ f. f ≡ LineFault.OutOfMemory };
 

@@ -1,12 +1,12 @@
 -- Clap's state as it goes over a line of options and names.
-use Rattle.city_serve.proofs.Prelude.{◌≡◌, ℕ, Bool, true, false, ◌&&◌, List, [], ◌∷◌, ◌++◌, Some, None, refl, sym}
-use Rattle.city_serve.proofs.Prelude.{subst, ap, ap₂, ◌∙◌, codes, arith, ◌≢◌, if◌then◌else◌, fold, option_and_then}
-use Rattle.city_serve.proofs.Prelude.{option_map_or, bytes_eq, long_of, false_from_ne_true, nat_tests, Held, Row, Rule}
-use Rattle.city_serve.proofs.Prelude.{Text, Walk, has_row, idle, settled, walk_from, with_values, without, built, Kinds}
-use Rattle.city_serve.proofs.Prelude.{or_else, flag_word_fault, settle_fault, step_fault, UnknownArgument, Atomic}
-use Rattle.city_serve.proofs.Prelude.{Check, Decimals, Explain, Flag, IsLineOf, IsName, Line, Output, Valued, Watch, Workers}
-use Rattle.city_serve.proofs.Prelude.{cityed_command, ends, flag_name, gives_flag, gives_name, gives_output}
-use Rattle.city_serve.proofs.Prelude.{gives_value, value_name}
+use Rattle.city_options.proofs.Prelude.{◌≡◌, ℕ, Bool, true, false, ◌&&◌, List, [], ◌∷◌, ◌++◌, Some, None, refl, sym}
+use Rattle.city_options.proofs.Prelude.{subst, ap, ap₂, ◌∙◌, codes, arith, ◌≢◌, if◌then◌else◌, fold, option_and_then}
+use Rattle.city_options.proofs.Prelude.{option_map_or, bytes_eq, long_of, false_from_ne_true, nat_tests, Held, Row, Rule}
+use Rattle.city_options.proofs.Prelude.{Text, Walk, has_row, idle, settled, walk_from, with_values, without, built, Kinds}
+use Rattle.city_options.proofs.Prelude.{or_else, flag_word_fault, settle_fault, step_fault, UnknownArgument, Atomic}
+use Rattle.city_options.proofs.Prelude.{Check, Decimals, Explain, Flag, IsLineOf, IsName, Line, Output, Valued, Watch, Workers}
+use Rattle.city_options.proofs.Prelude.{cityed_command, ends, flag_name, gives_flag, gives_name, gives_output}
+use Rattle.city_options.proofs.Prelude.{gives_value, value_name}
 use Rattle.std.specs.Prelude.{◌==◌}
 use Rattle.clap.specs.Lexer.{long_of_rest, short_of, short_of_rest, strip_byte}
 use Rattle.clap.proofs.OnLiterals.{clap_on_literals}
@@ -18,7 +18,7 @@ use Rattle.clap.specs.Faults.{bundle_fault, turn_fault, walk_fault}
 use Rattle.clap.specs.declared.builder.value_parser.Reading.TheVariants.{AsWritten}
 use Rattle.clap.specs.declared.error.kind.ErrorKind.TheVariants.{ArgumentConflict}
 use Rattle.clap.specs.declared.parser.matches.ValueSource.TheVariants.{CommandLine}
-use Rattle.city_serve.proofs.Rows.{AreFresh, behind, not_both, row_by, used_fresh}
+use Rattle.city_options.proofs.Rows.{AreFresh, behind, not_both, row_by, used_fresh}
 
 abbrev pub top : Shape
 top = (built cityed_command).top

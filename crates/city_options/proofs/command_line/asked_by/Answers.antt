@@ -1,18 +1,18 @@
-use Rattle.city_serve.proofs.Prelude.{◌≡◌, Bool, true, false, List, [], Option, Some, inr, ap, sym, subst, ◌∙◌, codes}
-use Rattle.city_serve.proofs.Prelude.{refl, map, drop, string_bytes, IsErr, Atomic, Check, Decimals, Explain}
-use Rattle.city_serve.proofs.Prelude.{Flag, Output, Valued, Watch, Workers, flag_name, value_name, Destination}
+use Rattle.city_options.proofs.Prelude.{◌≡◌, Bool, true, false, List, [], Option, Some, inr, ap, sym, subst, ◌∙◌, codes}
+use Rattle.city_options.proofs.Prelude.{refl, map, drop, string_bytes, IsErr, Atomic, Check, Decimals, Explain}
+use Rattle.city_options.proofs.Prelude.{Flag, Output, Valued, Watch, Workers, flag_name, value_name, Destination}
 use Rattle.std.proofs.Common.{rules}
 use Rattle.clap.specs.Words.{App, HasKind, Text, fault_of, first_of, first_value, found_of, is_simple}
 use Rattle.clap.specs.Words.{is_simple_and_free, matches_of, one_of, one_text, rows_of}
 use Rattle.clap.specs.declared.parser.matches.Found.{Found}
 use Rattle.clap.proofs.WalkLemmas.{first_value-rows, one_text-rows}
-use Rattle.city_serve.proofs.FoundOptions.{fault, flag_text, rows}
-use Rattle.city_serve.proofs.LineAnswers.{Reads, answer_within, check_found, check_within, fault_answered, flag_by}
-use Rattle.city_serve.proofs.LineAnswers.{names_answered, names_line, no_options_found, options_found, run_refused}
-use Rattle.city_serve.proofs.LineAnswers.{short_answered, short_within, value_by, want_is_err, wanting}
-use Rattle.city_serve.proofs.OtherOptions.{text_never_free, text_shown, unknown_is_mistake, unknown_never_free}
-use Rattle.city_serve.proofs.OtherOptions.{unknown_refused}
-use Rattle.city_serve.proofs.command_line.asked_by.Goals as goal
+use Rattle.city_options.proofs.FoundOptions.{fault, flag_text, rows}
+use Rattle.city_options.proofs.LineAnswers.{Reads, answer_within, check_found, check_within, fault_answered, flag_by}
+use Rattle.city_options.proofs.LineAnswers.{names_answered, names_line, no_options_found, options_found, run_refused}
+use Rattle.city_options.proofs.LineAnswers.{short_answered, short_within, value_by, want_is_err, wanting}
+use Rattle.city_options.proofs.OtherOptions.{text_never_free, text_shown, unknown_is_mistake, unknown_never_free}
+use Rattle.city_options.proofs.OtherOptions.{unknown_refused}
+use Rattle.city_options.proofs.command_line.asked_by.Goals as goal
 
 -- the getters' answers, by the rows found on the walk
 module _ (m : Found) (args : List Text) (are : rows_of m ≡ rows args) where

@@ -6,12 +6,13 @@ use Rattle.std.specs.Str.{bytes_eq}
 use Rattle.std.specs.Str.Parse.{digits_value, without_leading_plus}
 use Rattle.clap.specs.Words.{IsUnsignedIn}
 use Rattle.clap.specs.Lexer.{long_of}
-use Rattle.city_crew.specs.Limits.{max_workers, max_viewers}
-use Rattle.city_serve.specs.declared.command_line.Asked.{Asked}
-use Rattle.city_serve.specs.declared.command_line.LineFault.{LineFault}
-use Rattle.city_serve.specs.declared.options.Destination.{Destination}
-use Rattle.city_serve.specs.declared.options.Options.{Options}
-use Rattle.city_serve.specs.RunOptions.{AreWithin, file_of}
+use Rattle.city_board.specs.Limits.{max_viewers}
+use Rattle.city_scheduler.specs.Limits.{max_workers}
+use Rattle.city_options.specs.declared.command_line.Asked.{Asked}
+use Rattle.city_options.specs.declared.command_line.LineFault.{LineFault}
+use Rattle.city_options.specs.declared.options.Destination.{Destination}
+use Rattle.city_options.specs.declared.options.Options.{Options}
+use Rattle.city_options.specs.RunOptions.{AreWithin, file_of}
 
 -- the word is no option: it doesn't begin with a hyphen
 abbrev pub IsName : List ℕ → Type 0

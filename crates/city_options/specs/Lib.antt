@@ -1,0 +1,3 @@
+pub mod CommandLines
+pub mod RunOptions
+pub mod internal

@@ -1,0 +1,2 @@
+-- Definitions for private clauses and proofs only.
+pub mod CommandShape

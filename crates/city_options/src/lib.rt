@@ -1,0 +1,10 @@
+//! The options of a run, and the command line that gives them.
+//!
+//! - `options`: the workers, the viewers, the form of numbers, and the output's destination
+//! - `command_line`: the request of a command line
+#![tactic(auto)]
+
+pub mod command_line;
+mod options;
+
+pub use options::{Destination, Options};
