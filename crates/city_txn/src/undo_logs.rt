@@ -89,8 +89,7 @@ impl UndoLogs {
         ensures ok { OnOk result ((t : ℕ) → log_of self.new t ≡ (if stamp == t then entry ∷ log_of self.old t else log_of self.old t)) }
         ensures err { OnErr result ((t : ℕ) → log_of self.new t ≡ log_of self.old t) }
     {
-        push(&mut self.by_stamp, self.alloc, stamp, entry)?;
-        Ok(())
+        push(&mut self.by_stamp, self.alloc, stamp, entry)
     }
 
     /// Removes the newest entry of the transaction's log, if there is one, and

@@ -1,6 +1,6 @@
 use Rattle.city_txn.proofs.Prelude.{length, ◌<◌, ◌∙◌, arith}
 use Rattle.city_txn.proofs.StoreChanged.{one_more_ended}
-use Rattle.city_txn.proofs.ending.end_each.Goals as goal
+use Rattle.city_txn.proofs.undo.Undo.end_each.Goals as goal
 
 pub end-requires : goal.end-requires
 end-requires c h =

@@ -1,20 +1,52 @@
-//! Marks, and going back to them.
+//! Commands done on the store, in the transaction that holds their locks: plans, marks, and going back.
 ghost use Rattle.std.specs.Prelude.{◌≡◌, true, false, drop};
 ghost use Rattle.city_model.specs.Marks.{marks_from};
+ghost use Rattle.city_model.specs.Scripts.{is_end, is_mark};
 ghost use Rattle.city_model.specs.declared.command.Command.{Command};
-ghost use Rattle.city_txn.specs.internal.State.{store_own, store_written, Touches};
 ghost use Rattle.city_txn.specs.UndoLog.{log_of, written_at_mark};
-ghost use Rattle.city_txn.specs.internal.Performing.{IsPerform};
 ghost use Rattle.city_txn.specs.internal.LogTests.{has_mark, newest_undone};
+ghost use Rattle.city_txn.specs.internal.Performing.{MayPerform, IsPerform};
+ghost use Rattle.city_txn.specs.internal.State.{store_own, store_written, Touches};
 
-use crate::store::Store;
-use crate::undo_log::Entry;
+use crate::store::{Seen, Store};
+use crate::undo_logs::Entry;
 use city_model::OutOfMemory;
-use city_model::command::{Cause, Reply};
+use city_model::command::{Cause, Command, Reply};
 use city_model::copied::Copied;
+use city_model::plan::{Plan, plan_of};
 use city_model::text::Text;
 
 impl Store {
+    /// Does a command under its locks, which the stamp holds. If memory runs out, nothing is
+    /// written.
+    pub fn perform(&mut self, stamp: u64, command: &Command) -> Result<Reply, OutOfMemory>
+        requires no_end { is_end command.now ≡ false }
+        requires may { MayPerform self.old stamp command.now }
+        ensures { IsPerform stamp command.now result self.old self.new }
+    {
+        match command {
+            Command::Mark(name) => self.mark(stamp, name),
+            Command::Back(name) => self.back(stamp, name),
+            _ => self.carry_out(stamp, command),
+        }
+    }
+
+    /// Does a command other than a mark or going back.
+    fn carry_out(&mut self, stamp: u64, command: &Command) -> Result<Reply, OutOfMemory>
+        requires no_end { is_end command.now ≡ false }
+        requires no_mark { is_mark command.now ≡ false }
+        requires may { MayPerform self.old stamp command.now }
+        ensures { IsPerform stamp command.now result self.old self.new }
+    {
+        match plan_of(self.alloc(), &Seen { store: self, stamp }, command)? {
+            Plan::Refused(cause) => Ok(Reply::Refused(cause)),
+            Plan::Writes(reply, writes) => {
+                self.write_all(stamp, writes)?;
+                Ok(reply)
+            }
+        }
+    }
+
     /// Makes a mark.
     pub fn mark(&mut self, stamp: u64, name: &Text) -> Result<Reply, OutOfMemory>
         ensures { IsPerform stamp (Command.Mark name.now) result self.old self.new }

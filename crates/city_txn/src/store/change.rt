@@ -14,7 +14,7 @@ ghost use Rattle.std.specs.Option.{option_or};
 ghost use Rattle.city_txn.specs.internal.State.{store_own, store_view};
 
 use crate::store::Store;
-use crate::undo_log::OwnWrite;
+use crate::undo_logs::OwnWrite;
 use city_model::OutOfMemory;
 use city_model::change::Change;
 use city_model::copied::Copied;

@@ -1,7 +1,7 @@
 use Rattle.city_txn.proofs.Prelude.{◌≡◌, Option, None, true, false, arith, Object, UndoImage}
 use Rattle.std.proofs.Common.{not}
 use Rattle.city_txn.specs.internal.Images.{before_image}
-use Rattle.city_txn.proofs.image.UndoImage.into_before.Goals as goal
+use Rattle.city_txn.proofs.undo_image.UndoImage.into_before.Goals as goal
 
 under_a_placeholder : (x : Option Object) (i : UndoImage) → not i.unwritten ≡ false → i.deleted ≡ true
     → None ≡ before_image x i

@@ -11,7 +11,7 @@ ghost use Rattle.city_txn.specs.internal.LogTests.{is_noted};
 ghost use Rattle.city_txn.specs.internal.Performing.{plans};
 
 use crate::store::Store;
-use crate::undo_log::Entry;
+use crate::undo_logs::Entry;
 use city_model::OutOfMemory;
 use city_model::copied::Copied;
 use city_model::object::Object;
