@@ -1,5 +1,5 @@
 //! The holders of one id.
-ghost use Rattle.std.specs.Prelude.{◌≡◌, ℕ, OnOk, OnErr, None, Some, [], length, true};
+ghost use Rattle.std.specs.Prelude.{◌≡◌, OnOk, OnErr, None, Some, [], true};
 ghost use Rattle.city_locks.specs.Mode.{stronger};
 ghost use Rattle.city_locks.specs.Holders.{in_conflict, answer_among, mode_among, with_holder, without};
 

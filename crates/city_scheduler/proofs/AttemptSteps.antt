@@ -11,13 +11,13 @@ use Rattle.city_model.specs.Meaning.{Answers}
 use Rattle.city_model.proofs.Endings.{aborts}
 use Rattle.city_model.proofs.Refused.{refused_does}
 use Rattle.city_locks.specs.declared.answer.Answer.TheVariants.{Granted, Wait, Die}
-use Rattle.city_txn.specs.declared.step.Step.{Step}
+use Rattle.city_txn.specs.declared.txn_core.Step.{Step}
 use Rattle.city_txn.specs.Acting.{IsAct, step_of, with_step, EndsIn}
 use Rattle.city_txn.specs.Changing.{IsChangeOf}
 use Rattle.city_locks.specs.Asking.{IsBlocked}
 use Rattle.city_scheduler.proofs.Shelved.{if_some_to}
 use Rattle.city_model.specs.declared.command.Reply.TheVariants as replies
-use Rattle.city_txn.specs.declared.step.Step.TheVariants as steps
+use Rattle.city_txn.specs.declared.txn_core.Step.TheVariants as steps
 use Rattle.city_scheduler.specs.declared.turn.Turn.TheVariants as turns
 
 keeps_both : {stamp : ℕ} {u v w : CoreState} → KeepsOthers stamp u v → KeepsOthers stamp v w → KeepsOthers stamp u w

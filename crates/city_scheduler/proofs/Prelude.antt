@@ -23,7 +23,7 @@ pub use Rattle.city_model.specs.declared.end.Outcome.{Outcome}
 pub use Rattle.city_txn.specs.Acting.{answer_in}
 pub use Rattle.city_txn.specs.CoreState.{CoreState, IsRolledBack, KeepsOthers, StandsUnderLocks, committed, is_open}
 pub use Rattle.city_txn.specs.CoreState.{snapshot, view}
-pub use Rattle.city_txn.specs.declared.step.TxnFault.{TxnFault}
+pub use Rattle.city_txn.specs.declared.txn_core.TxnFault.{TxnFault}
 pub use Rattle.city_scheduler.specs.DeskState.{DeskState, ended_progress, is_ended, is_open_phase, phase_in, phase_of}
 pub use Rattle.city_scheduler.specs.DeskState.{progress_to, replies_of, room_of, stamp_of}
 pub use Rattle.city_scheduler.specs.InTurn.{AreInTurn}

@@ -21,7 +21,7 @@ use Rattle.city_txn.proofs.PerformDone.{went_back}
 use Rattle.city_txn.proofs.SeenWrites.{seen_same, step_seen, own_same, held_exclusively, covered_next, covered_still}
 use Rattle.city_txn.proofs.Touched.{touches_itself, touches_more}
 use Rattle.city_model.proofs.History as history
-use Rattle.city_txn.specs.declared.step.Step.TheVariants as steps
+use Rattle.city_txn.specs.declared.txn_core.Step.TheVariants as steps
 
 done_replied : (a : Answer) (r reply : Reply) → steps.Done r ≡ step_of a reply → reply ≡ r
 done_replied a r reply e = grind arith

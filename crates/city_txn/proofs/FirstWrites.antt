@@ -10,7 +10,7 @@ use Rattle.std.proofs.Common.{is_none, is_ok, OnOk, OnErr, Err, option_map}
 use Rattle.std.specs.BTreeMap.{IsOrdered}
 use Rattle.city_model.specs.CityMap.{CityMap, CityValue, changed}
 use Rattle.city_txn.specs.Placeholder.{placeholder}
-use Rattle.city_txn.specs.declared.ending.End.TheVariants.{RollBack}
+use Rattle.city_txn.specs.declared.end.End.TheVariants.{RollBack}
 use Rattle.city_txn.specs.declared.undo.Undo.{Undo}
 use Rattle.city_txn.specs.internal.FirstWrites.{first_image, image_put}
 use Rattle.city_txn.specs.internal.Images.{is_orphan_written, written_over}

@@ -24,10 +24,10 @@ pub use Rattle.city_model.specs.declared.object.Object.{Object}
 pub use Rattle.city_model.specs.internal.Plans.{AreOf}
 pub use Rattle.city_txn.specs.UndoLog.{Logs, log_of, marked}
 pub use Rattle.city_txn.specs.Writes.{Write, is_by, own_or, own_write, unless_by, write_of}
-pub use Rattle.city_txn.specs.declared.image.UndoImage.{UndoImage}
+pub use Rattle.city_txn.specs.declared.undo_image.UndoImage.{UndoImage}
 pub use Rattle.city_txn.specs.declared.store.Store.TheInside.{Inside}
-pub use Rattle.city_txn.specs.declared.undo_log.Entry.{Entry}
-pub use Rattle.city_txn.specs.declared.undo_log.Entry.TheVariants.{BeforeImage}
+pub use Rattle.city_txn.specs.declared.undo_logs.Entry.{Entry}
+pub use Rattle.city_txn.specs.declared.undo_logs.Entry.TheVariants.{BeforeImage}
 pub use Rattle.city_txn.specs.internal.Core.{IsConsistent, IsCore, IsWrittenUnder, Kept, core_state}
 pub use Rattle.city_txn.specs.internal.Ending.{left_at_end}
 pub use Rattle.city_txn.specs.internal.Images.{committed_at, write_at, writer_of}

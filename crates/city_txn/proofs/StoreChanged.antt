@@ -15,7 +15,7 @@ use Rattle.city_model.specs.CityMap.{CityMap, CityValue, Objects, changed}
 use Rattle.city_txn.specs.internal.Ending.{EndedBut, map_at_end}
 use Rattle.city_txn.specs.internal.State.{Forgets, WritesOne, is_begun}
 use Rattle.city_txn.specs.internal.UndoState.{Images, Reservations, listed_by}
-use Rattle.city_txn.specs.declared.ending.End.{End}
+use Rattle.city_txn.specs.declared.end.End.{End}
 use Rattle.city_txn.specs.declared.undo.Undo.{Undo}
 use Rattle.city_txn.specs.internal.Images.{unwritten_image, is_orphan_written}
 use Rattle.city_txn.specs.UndoLog.{OwnWrites}
@@ -23,7 +23,7 @@ use Rattle.city_txn.proofs.AtOneId.{here, image, city_is, writes_is, view_is, un
 use Rattle.city_txn.proofs.AtOneId.{plain_at, plain_by, one_of_plain}
 use Rattle.city_txn.specs.internal.InPlace.{IsPlain}
 use Rattle.city_txn.specs.Placeholder.{placeholder}
-use Rattle.city_txn.specs.declared.ending.End.TheVariants.{Commit, RollBack}
+use Rattle.city_txn.specs.declared.end.End.TheVariants.{Commit, RollBack}
 
 -- ---- a city and its images
 

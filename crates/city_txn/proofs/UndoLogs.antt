@@ -6,7 +6,7 @@ use Rattle.std.proofs.Common.{drop, reverse}
 use Rattle.std.proofs.lemmas.List.Sorted.{list_any-IsPermutation, IsPermutation-reverse}
 use Rattle.std.specs.Map.{update}
 use Rattle.city_model.specs.Marks.{marks_from}
-use Rattle.city_txn.specs.declared.undo_log.Entry.TheVariants.{Mark}
+use Rattle.city_txn.specs.declared.undo_logs.Entry.TheVariants.{Mark}
 use Rattle.city_txn.specs.UndoLog.{OwnWrites, Written, written_at_mark}
 use Rattle.city_txn.specs.internal.LogTests.{is_at_mark, newest_undone}
 

@@ -14,10 +14,10 @@ use Rattle.city_model.specs.Marks.{Snapshot}
 use Rattle.city_model.specs.Meaning.{Answers, effect, Does, is_refusal, locks_of}
 use Rattle.city_locks.specs.declared.answer.Answer.{Answer}
 use Rattle.city_locks.specs.declared.answer.Answer.TheVariants.{Granted, Wait, Die}
-use Rattle.city_txn.specs.declared.step.Step.{Step}
-use Rattle.city_txn.specs.declared.step.Step.TheVariants as steps
-use Rattle.city_txn.specs.declared.step.TxnFault.{TxnFault}
-use Rattle.city_txn.specs.declared.step.TxnFault.TheVariants.{NotOpen, OutOfMemory}
+use Rattle.city_txn.specs.declared.txn_core.Step.{Step}
+use Rattle.city_txn.specs.declared.txn_core.Step.TheVariants as steps
+use Rattle.city_txn.specs.declared.txn_core.TxnFault.{TxnFault}
+use Rattle.city_txn.specs.declared.txn_core.TxnFault.TheVariants.{NotOpen, OutOfMemory}
 use Rattle.city_txn.specs.Writes.{write_of, unless_by}
 use Rattle.city_txn.specs.UndoLog.{written_by}
 use Rattle.city_model.specs.Standing.{Lock, Answered, AllHeld}

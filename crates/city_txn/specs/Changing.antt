@@ -7,8 +7,8 @@ use Rattle.std.specs.List.Sorted.{IsStrictlySortedBy}
 use Rattle.city_model.specs.CityMap.{has_id}
 use Rattle.city_model.specs.Relations.{IsLawful}
 use Rattle.city_model.specs.Runs.{Change, after_change}
-use Rattle.city_txn.specs.declared.step.Prepared.{Prepared}
-use Rattle.city_txn.specs.declared.step.Prepared.TheVariants.{Ready, Refused}
+use Rattle.city_txn.specs.declared.txn_core.Prepared.{Prepared}
+use Rattle.city_txn.specs.declared.txn_core.Prepared.TheVariants.{Ready, Refused}
 use Rattle.city_txn.specs.Writes.{Write, write_of, is_by, own_write, made_by}
 use Rattle.city_txn.specs.CoreState.{CoreState, committed, view}
 use Rattle.city_txn.specs.Acting.{RefusesCommit}

@@ -8,8 +8,8 @@ use Rattle.city_model.specs.declared.object.Object.{Object}
 use Rattle.city_model.specs.CityMap.{CityMap, same_id, has_id}
 use Rattle.city_model.specs.Actions.{Action, Edits, Marks, GoesBack}
 use Rattle.city_model.specs.Marks.{Marked, marks_from}
-use Rattle.city_txn.specs.declared.undo_log.Entry.{Entry}
-use Rattle.city_txn.specs.declared.undo_log.Entry.TheVariants.{Mark, BeforeImage}
+use Rattle.city_txn.specs.declared.undo_logs.Entry.{Entry}
+use Rattle.city_txn.specs.declared.undo_logs.Entry.TheVariants.{Mark, BeforeImage}
 
 -- the logs by stamps, the entries of each newest last
 abbrev pub Logs : Type 0

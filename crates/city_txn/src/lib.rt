@@ -1,27 +1,22 @@
 //! The transaction core: one city as its open transactions have written it, with undo images.
 //!
-//! - `txn_core`, `step`: the core, and its answers
+//! - `txn_core`: the core, and its answers
 //! - `command_locks`: the locks of a command, how it asks for them, and the answer to expect
-//! - `store`, `slot`, `placeholder`: the one city, written in place, and each transaction's view
-//! - `perform`, `writing`, `marks`: commands done on the store
-//! - `undo`, `image`, `undo_log`: undo images, the writers, and the way back to a mark
-//! - `changing`, `ending`: the writes of a transaction, and its end
+//! - `store`: the one city as written in place, each transaction's view of it, and commands done on it
+//! - `undo`, `undo_image`: reservations, and the previous objects of written ids
+//! - `undo_logs`: the way of a transaction back to its marks
+//! - `end`: how a transaction ends
+//! - `slot`, `placeholder`: places in the city for written ids, and the object that holds an empty one
 #![tactic(auto)]
 
-mod changing;
 mod command_locks;
-mod ending;
-mod image;
-mod marks;
-mod perform;
+mod end;
 pub mod placeholder;
 mod slot;
-mod step;
 mod store;
 mod txn_core;
 mod undo;
-mod undo_log;
-mod writing;
+mod undo_image;
+mod undo_logs;
 
-pub use step::{Prepared, Step, TxnFault};
-pub use txn_core::Core;
+pub use txn_core::{Core, Prepared, Step, TxnFault};

@@ -1,5 +1,5 @@
 //! The object that holds an empty slot.
-ghost use Rattle.std.specs.Prelude.{◌≡◌};
+ghost use Rattle.std.specs.Prelude.{◌≡◌, unwrap_or};
 ghost use Rattle.city_txn.specs.Placeholder.{placeholder};
 
 use city_model::kept::extra::Extra;
@@ -28,5 +28,15 @@ pub fn placeholder(alloc: Global) -> Object
         }),
         parents: SharedIds::new(alloc),
         children: SharedIds::new(alloc),
+    }
+}
+
+/// The object, or a placeholder.
+pub(crate) fn object_or_placeholder(alloc: Global, object: Option<Object>) -> Object
+    ensures { result ≡ unwrap_or object placeholder }
+{
+    match object {
+        Some(o) => o,
+        None => placeholder(alloc),
     }
 }

@@ -1,14 +1,14 @@
-//! Slots of the city: placeholders, and objects put back.
-ghost use Rattle.std.specs.Prelude.{◌≡◌, ℕ, List, None, Some, unwrap_or, IfOk, OnOk, OnErr, is_none, is_some, true, if◌then◌else◌};
+//! Slots of the city: made, filled, and cleared.
+ghost use Rattle.std.specs.Prelude.{◌≡◌, ℕ, List, None, Some, unwrap_or, IfOk, OnOk, OnErr, is_none, if◌then◌else◌};
 ghost use Rattle.std.specs.Option.{option_or};
 ghost use Rattle.city_model.specs.CityMap.{object_at, changed};
 ghost use Rattle.city_txn.specs.internal.Ending.{left_at_end};
 ghost use Rattle.city_txn.specs.Placeholder.{placeholder};
 ghost use Rattle.city_txn.specs.internal.Slots.{HasSlot};
 
-use crate::ending::End;
-use crate::image::UndoImage;
+use crate::end::End;
 use crate::placeholder::placeholder;
+use crate::undo_image::UndoImage;
 use city_model::OutOfMemory;
 use city_model::city::City;
 use city_model::copied::Copied;
@@ -79,16 +79,6 @@ pub fn put(
             let _ = city.set(id.copy(alloc)?, object)?;
             Ok(None)
         }
-    }
-}
-
-/// The object, or a placeholder.
-pub fn object_or_placeholder(alloc: Global, object: Option<Object>) -> Object
-    ensures { result ≡ unwrap_or object placeholder }
-{
-    match object {
-        Some(o) => o,
-        None => placeholder(alloc),
     }
 }
 

@@ -8,9 +8,9 @@ ghost use Rattle.city_txn.specs.internal.State.{store_written, Touches, WritesOn
 ghost use Rattle.city_txn.specs.UndoLog.{log_of, has_before};
 ghost use Rattle.city_txn.specs.Writes.{write_of, is_by};
 
-use crate::ending::{End, end_at};
+use crate::end::End;
 use crate::undo::Undo;
-use crate::undo_log::{OwnWrite, UndoLogs};
+use crate::undo_logs::{OwnWrite, UndoLogs};
 use city_model::OutOfMemory;
 use city_model::city::City;
 use city_model::object::Object;
@@ -19,6 +19,10 @@ use city_model::plan::object_lookup::ObjectLookup;
 use city_model::text::Id;
 use std::alloc::Global;
 use std::marker::Model;
+
+mod change;
+mod commands;
+mod writes;
 
 /// One city as the open transactions have written it, with an undo image of each written id.
 ///
@@ -29,10 +33,10 @@ use std::marker::Model;
 pub struct Store {
     alloc: Global,
     city: City,
-    pub(crate) undo: Undo,
-    pub(crate) logs: UndoLogs,
+    undo: Undo,
+    logs: UndoLogs,
     /// Whether an open transaction may have written an orphan.
-    pub(crate) may_have_orphan: bool,
+    may_have_orphan: bool,
 }
 
 impl Model for Store {
@@ -199,7 +203,7 @@ impl Store {
         self.logs.close(stamp);
         let ids = self.undo.close(stamp);
         let alone = self.undo.is_idle();
-        end_at(&mut self.city, &mut self.undo, end, ids.as_slice(), alone);
+        self.undo.end_at(&mut self.city, end, ids.as_slice(), alone);
         self.may_have_orphan = has_orphan_still(self.may_have_orphan, alone);
     }
 }

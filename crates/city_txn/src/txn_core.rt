@@ -14,16 +14,51 @@ ghost use Rattle.city_txn.specs.Changing.{IsPrepared, IsChangeOf, change_in};
 ghost use Rattle.city_locks.specs.Asking.{is_wait};
 
 use crate::command_locks::{lock, would_lock};
-use crate::ending::End;
-use crate::step::{Prepared, Step, TxnFault};
+use crate::end::End;
 use crate::store::Store;
 use city_locks::{Answer, LockTable};
+use city_model::change::Change;
 use city_model::city::City;
-use city_model::command::{Cause, Command};
+use city_model::command::{Cause, Command, Reply};
 use city_model::copied::Copied;
 use city_model::orphans::least_orphan_in;
 use std::alloc::Global;
 use std::marker::Model;
+use thiserror::Error;
+
+/// The outcome of a command.
+#[derive(Drop)]
+pub enum Step {
+    /// It was done, or refused: `Reply::Refused`, which changes nothing.
+    Done(Reply),
+    /// A lock of the command is held by younger transactions only: the asker may wait for them.
+    Wait,
+    /// A lock of the command is held by an older transaction: the asker must give up.
+    Die,
+}
+
+/// Whether a transaction may commit.
+#[derive(Drop)]
+pub enum Prepared {
+    /// It may, and this is what it writes: ids in byte order, each once.
+    Ready(Change),
+    /// It may not: its view has an orphan, and this names the least.
+    Refused(Cause),
+}
+
+/// Why a call wasn't carried out; causes are judged in this order.
+#[derive(Clone, Copy, Debug, PartialEq, Eq, Error)]
+pub enum TxnFault {
+    /// No transaction of this stamp is open.
+    #[error("no transaction of the stamp {0} is open")]
+    NotOpen(u64),
+    /// A transaction of this stamp is open already.
+    #[error("a transaction of the stamp {0} is open already")]
+    StampOpen(u64),
+    /// Memory ran out.
+    #[error("out of memory")]
+    OutOfMemory,
+}
 
 /// A committed city and the open transactions on it.
 ///

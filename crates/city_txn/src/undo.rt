@@ -4,18 +4,19 @@ ghost use Rattle.std.specs.BTreeMap.{IsOrdered};
 ghost use Rattle.std.specs.Cmp.Lexicographic.{slice_cmp};
 ghost use Rattle.std.specs.Option.{option_or};
 ghost use Rattle.std.specs.Ordering.{nat_cmp};
-ghost use Rattle.city_model.specs.CityMap.{changed, object_at, same_id};
+ghost use Rattle.city_model.specs.CityMap.{changed, has_id, object_at, same_id};
 ghost use Rattle.city_txn.specs.Placeholder.{placeholder};
-ghost use Rattle.city_txn.specs.declared.ending.End.{End};
+ghost use Rattle.city_txn.specs.declared.end.End.{End};
 ghost use Rattle.city_txn.specs.internal.Ending.{left_at_end};
 ghost use Rattle.city_txn.specs.internal.FirstWrites.{image_put};
 ghost use Rattle.city_txn.specs.internal.Images.{unwritten_image, written_over, image_unwritten, put_back_at};
 ghost use Rattle.city_txn.specs.internal.Slots.{Became, HasSlot};
 ghost use Rattle.city_txn.specs.internal.UndoState.{image_at, listed_by, reservations_of};
 
-use crate::ending::End;
-use crate::image::UndoImage;
+use crate::end::End;
+use crate::placeholder::object_or_placeholder;
 use crate::slot;
+use crate::undo_image::UndoImage;
 use city_locks::by_stamp::{push, push_at};
 use city_model::OutOfMemory;
 use city_model::city::City;
@@ -102,12 +103,8 @@ impl Undo {
             then Some (reservations_of self.old.reservations.entries stamp ++ id.now ∷ [])
             else listed_by self.old.reservations.entries t) }
     {
-        let Ok(listed) = id.copy(self.alloc) else {
-            return Err(OutOfMemory);
-        };
-        let Ok(()) = self.add_image(city, stamp, id) else {
-            return Err(OutOfMemory);
-        };
+        let listed = id.copy(self.alloc)?;
+        self.add_image(city, stamp, id)?;
         let Ok(()) = push(&mut self.reservations, self.alloc, stamp, listed) else {
             self.end(city, End::RollBack, id);
             return Err(OutOfMemory);
@@ -125,9 +122,7 @@ impl Undo {
             city.old city.new self.old.images self.new.images }
         ensures reservations { self.new.reservations ≡ self.old.reservations }
     {
-        let Ok(key) = id.copy(self.alloc) else {
-            return Err(OutOfMemory);
-        };
+        let key = id.copy(self.alloc)?;
         let absent = city.get(id).is_none();
         let image = UndoImage {
             by: stamp,
@@ -135,9 +130,7 @@ impl Undo {
             deleted: absent,
             before: None,
         };
-        let Ok(_) = self.images.insert(key, image) else {
-            return Err(OutOfMemory);
-        };
+        self.images.insert(key, image)?;
         let Ok(()) = slot::make(city, self.alloc, id, absent) else {
             let _ = self.images.remove(id);
             return Err(OutOfMemory);
@@ -166,9 +159,7 @@ impl Undo {
             else listed_by self.old.reservations.entries t) }
         ensures reservations { is_some (image_at self.old.images id) ≡ true → self.new.reservations ≡ self.old.reservations }
     {
-        let Ok(is_first) = self.place(city, stamp, &id, object) else {
-            return Err(OutOfMemory);
-        };
+        let is_first = self.place(city, stamp, &id, object)?;
         if !is_first {
             return Ok(());
         }
@@ -197,14 +188,10 @@ impl Undo {
         ensures first { IfOk result (λ is_first. is_first ≡ is_none (image_at self.old.images id.now)) }
         ensures reservations { self.new.reservations ≡ self.old.reservations }
     {
-        let Ok(key) = id.copy(self.alloc) else {
-            return Err(OutOfMemory);
-        };
+        let key = id.copy(self.alloc)?;
         let deleted = object.is_none();
-        let standing = slot::object_or_placeholder(self.alloc, object);
-        let Ok(before) = slot::put(city, self.alloc, id, standing) else {
-            return Err(OutOfMemory);
-        };
+        let standing = object_or_placeholder(self.alloc, object);
+        let before = slot::put(city, self.alloc, id, standing)?;
         let image = UndoImage {
             by: stamp,
             unwritten: false,
@@ -277,7 +264,7 @@ impl Undo {
         ensures reservations { self.new.reservations ≡ self.old.reservations }
     {
         let deleted = object.is_none();
-        let standing = slot::object_or_placeholder(self.alloc, object);
+        let standing = object_or_placeholder(self.alloc, object);
         match self.images.get_mut(&id) {
             Some(image) => {
                 let old = slot::swap(city, id, standing);
@@ -331,6 +318,36 @@ impl Undo {
     {
         while let Some((id, image)) = self.images.pop_last() {
             slot::settle(city, id, end, image);
+        }
+    }
+
+    /// Ends the transaction at the ids. If it is `alone`, no other is open: all images are at its ids,
+    /// and none is looked up. Doesn't allocate.
+    pub fn end_at(&mut self, city: &mut City, end: End, ids: &[Id], alone: bool)
+        requires slots { (q : List ℕ) → is_some (image_at self.old.images q) ≡ true → HasSlot city.old q }
+        requires alone { alone ≡ true → (q : List ℕ) → is_some (image_at self.old.images q) ≡ true → has_id ids.now q ≡ true }
+        ensures became { Became (has_id ids.now)
+            (λ q. left_at_end end (object_at city.old.1 q) (image_at self.old.images q)) (λ q. None)
+            city.old city.new self.old.images self.new.images }
+        ensures reservations { self.new.reservations ≡ self.old.reservations }
+    {
+        if alone {
+            self.end_all(city, end);
+        } else {
+            self.end_each(city, end, ids);
+        }
+    }
+
+    /// Ends the transaction at the ids, one after another. Doesn't allocate.
+    fn end_each(&mut self, city: &mut City, end: End, ids: &[Id])
+        requires { (q : List ℕ) → is_some (image_at self.old.images q) ≡ true → HasSlot city.old q }
+        ensures became { Became (has_id ids.now)
+            (λ q. left_at_end end (object_at city.old.1 q) (image_at self.old.images q)) (λ q. None)
+            city.old city.new self.old.images self.new.images }
+        ensures reservations { self.new.reservations ≡ self.old.reservations }
+    {
+        for id in ids {
+            self.end(city, end, id);
         }
     }
 

@@ -1,5 +1,5 @@
 -- The invariant of a lock table.
-use Rattle.city_locks.specs.declared.table.LockTable.TheInside.{Inside}
+use Rattle.city_locks.specs.declared.lock_table.LockTable.TheInside.{Inside}
 use Rattle.city_locks.specs.Locks.{Lawful, HoldOnce}
 use Rattle.city_locks.specs.internal.Listing.{IsListed}
 

@@ -2,9 +2,9 @@
 use Rattle.std.specs.Prelude.{◌≡◌, ℕ, List, true, Option, None, Some, is_some, if◌then◌else◌}
 use Rattle.city_model.specs.declared.object.Object.{Object}
 use Rattle.city_model.specs.CityMap.{CityMap, CityValue, object_at}
-use Rattle.city_txn.specs.declared.ending.End.{End}
-use Rattle.city_txn.specs.declared.ending.End.TheVariants.{Commit, RollBack}
-use Rattle.city_txn.specs.declared.image.UndoImage.{UndoImage}
+use Rattle.city_txn.specs.declared.end.End.{End}
+use Rattle.city_txn.specs.declared.end.End.TheVariants.{Commit, RollBack}
+use Rattle.city_txn.specs.declared.undo_image.UndoImage.{UndoImage}
 use Rattle.city_txn.specs.internal.Images.{seen_under, before_image}
 use Rattle.city_txn.specs.internal.State.{State, store_committed, store_view}
 use Rattle.city_txn.specs.internal.UndoState.{Images, image_at}

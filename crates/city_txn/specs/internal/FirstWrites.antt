@@ -1,7 +1,7 @@
 -- An id reserved and written at once.
 use Rattle.std.specs.Prelude.{ℕ, Bool, false, Option, None, Some}
 use Rattle.city_model.specs.declared.object.Object.{Object}
-use Rattle.city_txn.specs.declared.image.UndoImage.{UndoImage}
+use Rattle.city_txn.specs.declared.undo_image.UndoImage.{UndoImage}
 use Rattle.city_txn.specs.internal.Images.{written_over}
 
 -- its image over x

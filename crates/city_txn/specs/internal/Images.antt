@@ -3,7 +3,7 @@ use Rattle.std.specs.Prelude.{ℕ, Bool, true, false, Option, None, Some, is_non
 use Rattle.std.specs.Prelude.{if◌then◌else◌}
 use Rattle.city_model.specs.declared.object.Object.{Object}
 use Rattle.city_model.specs.Relations.{is_orphan_there}
-use Rattle.city_txn.specs.declared.image.UndoImage.{UndoImage}
+use Rattle.city_txn.specs.declared.undo_image.UndoImage.{UndoImage}
 
 -- the object for its transaction: none if a placeholder holds the slot
 abbrev pub seen_under : Option Object → UndoImage → Option Object

@@ -4,8 +4,8 @@ use Rattle.std.specs.List.{list_any}
 use Rattle.std.specs.Map.{update}
 use Rattle.city_model.specs.CityMap.{CityMap, same_id}
 use Rattle.city_model.specs.Marks.{Snapshot}
-use Rattle.city_txn.specs.declared.undo_log.Entry.{Entry}
-use Rattle.city_txn.specs.declared.undo_log.Entry.TheVariants.{Mark, BeforeImage}
+use Rattle.city_txn.specs.declared.undo_logs.Entry.{Entry}
+use Rattle.city_txn.specs.declared.undo_logs.Entry.TheVariants.{Mark, BeforeImage}
 use Rattle.city_txn.specs.UndoLog.{OwnWrites, Written, map_with, marks_with}
 
 -- whether an entry newer than each mark keeps the write at the id, so that a new write there changes no mark

@@ -19,10 +19,10 @@ pub use Rattle.city_locks.specs.declared.answer.Answer.{Answer}
 pub use Rattle.city_locks.specs.declared.answer.Answer.TheVariants.{Granted, Wait, Die}
 pub use Rattle.city_locks.specs.Locks.{Locks, mode_of, Lawful}
 pub use Rattle.city_locks.specs.Asking.{held_in, granted_before, GainsFirst, IsBlocked, HoldsLock, Asked}
-pub use Rattle.city_txn.specs.declared.undo_log.Entry.{Entry}
-pub use Rattle.city_txn.specs.declared.step.Step.{Step}
-pub use Rattle.city_txn.specs.declared.step.TxnFault.{TxnFault}
-pub use Rattle.city_txn.specs.declared.step.TxnFault.TheVariants.{NotOpen, OutOfMemory}
+pub use Rattle.city_txn.specs.declared.undo_logs.Entry.{Entry}
+pub use Rattle.city_txn.specs.declared.txn_core.Step.{Step}
+pub use Rattle.city_txn.specs.declared.txn_core.TxnFault.{TxnFault}
+pub use Rattle.city_txn.specs.declared.txn_core.TxnFault.TheVariants.{NotOpen, OutOfMemory}
 pub use Rattle.city_txn.specs.declared.txn_core.Core.TheInside.{Inside}
 pub use Rattle.city_txn.specs.Writes.{write_of, own_write, Write, own_or, is_by, unless_by}
 pub use Rattle.city_txn.specs.UndoLog.{Written, log_of, has_before, Logs, OwnWrites, own_with, written_at_mark, written_by}

@@ -4,7 +4,7 @@ use Rattle.std.specs.Ordering.{nat_cmp}
 use Rattle.std.specs.Cmp.Lexicographic.{slice_cmp}
 use Rattle.std.specs.BTreeMap.{IsOrdered}
 use Rattle.city_model.specs.CityMap.{CityValue, CityMap, object_at}
-use Rattle.city_txn.specs.declared.image.UndoImage.{UndoImage}
+use Rattle.city_txn.specs.declared.undo_image.UndoImage.{UndoImage}
 use Rattle.city_txn.specs.internal.UndoState.{Images, image_at}
 
 -- an object or a placeholder stands at the id

@@ -1,7 +1,7 @@
 use Rattle.city_scheduler.proofs.Prelude.{refl, ap, sym, ◌∙◌, is_refusal}
 use Rattle.city_scheduler.specs.RepliesValue.{RepliesValue}
 use Rattle.city_scheduler.proofs.AttemptSteps.{replied, waits, dies, refused, unheard}
-use Rattle.city_txn.specs.declared.step.Step.TheVariants as steps
+use Rattle.city_txn.specs.declared.txn_core.Step.TheVariants as steps
 use Rattle.city_scheduler.proofs.attempt.run_command.Goals as goal
 
 pub returns-in-Ok : goal.returns-in-Ok

@@ -6,12 +6,12 @@ use Rattle.city_txn.proofs.store.Store.end.Goals as goal
 done : (c : After-has_orphan_still-self-inside) → Ending c.args.stamp c.args.end c.args.self.now
     (record c.self.inside {
       city = c.end_at.new.city;
-      undo = c.end_at.new.undo;
+      undo = c.end_at.new.self;
       logs = c.close.new.self;
       may_have_orphan = c.has_orphan_still-self-inside.result;
     })
 done c =
-    ending c.self.inside c.self.invariant c.self.view_is c.args.stamp c.args.end c.end_at.new.city c.end_at.new.undo
+    ending c.self.inside c.self.invariant c.self.view_is c.args.stamp c.args.end c.end_at.new.city c.end_at.new.self
     c.close.new.self c.as_slice.result.now (c.as_slice.ensures ∙ c.close-ids.ensures.ids)
     (rw c.close-ids.ensures.images at c.end_at.ensures.became)
     (rw c.end_at.ensures.reservations c.close-ids.ensures.closed) c.close.ensures
