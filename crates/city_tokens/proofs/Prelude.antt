@@ -10,9 +10,7 @@ pub use Rattle.std.proofs.lemmas.Option.{IfSome_then}
 pub use Rattle.std.specs.BTreeMap.{IsFromIterResult}
 pub use Rattle.std.specs.Cmp.Lexicographic.{slice_cmp}
 pub use Rattle.std.specs.List.{AllByRecursion, list_all}
-pub use Rattle.std.specs.Ordering.{match_ordering}
 pub use Rattle.std.specs.Prelude.{if◌then◌else◌, is_some, option_and_then, slice_set}
-pub use Rattle.std.specs.Str.Parse.{AllDigits, digits_value}
 pub use Rattle.std.specs.Vec.Iter.{into_iter_items}
 pub use mir.Val.{of_z, to_z}
 pub use Rattle.json.specs.Json.{after_end_array, items, members, parse_map, read_key, value}
