@@ -42,7 +42,11 @@ pub enum Plan {
 /// same plan is right for each other sound city with the same objects at the ids locked by the
 /// command.
 #[tactic(auto, using(crate::proofs::FrameLaw::frame_law))]
-pub fn plan_of<V: ObjectLookup>(alloc: Global, view: &V, command: &Command) -> Result<Plan, OutOfMemory>
+pub fn plan_of<V: ObjectLookup>(
+    alloc: Global,
+    view: &V,
+    command: &Command,
+) -> Result<Plan, OutOfMemory>
     requires no_end { is_end command.now ≡ false }
     requires no_mark { is_mark command.now ≡ false }
     requires sound { IsSound (V.map view.now) }

@@ -11,7 +11,6 @@ ghost use Rattle.city_serve.specs.Decimals.{IsGiven, IsDecimalsRun, IsFaultOfDec
 ghost use Rattle.city_serve.specs.Destinations.{IsCutAt};
 ghost use Rattle.city_serve.specs.internal.WholeTexts.{HasWholeNumbers};
 
-use city_options::Options;
 use crate::run::run_whole;
 use crate::texts::{Stage, Text, Texts};
 use city_crew::Gate;
@@ -19,6 +18,7 @@ use city_decimals::{DecimalsFault, decode_lines_onto, encode};
 use city_desk::{Output, RunFault};
 use city_doc::MAX_TEXT;
 use city_model::OutOfMemory;
+use city_options::Options;
 use std::alloc::Global;
 use std::sync::Wait;
 use std::thread::Threads;

@@ -10,11 +10,11 @@ ghost use Rattle.city_serve.specs.Destinations.{IsPlaced, IsReplaced, IsOldOrNew
 
 use crate::device::Device;
 use crate::fault::ServeFault;
-use city_options::Destination;
 use crate::output_files::OutputFiles;
 use crate::serve::write_output;
 use city_desk::Output;
 use city_model::end::{End, Outcome};
+use city_options::Destination;
 use std::io::Write;
 
 /// The result of a run, once its output is written.

@@ -1,5 +1,4 @@
 //! Explains a fault behind its line: the file, the place in it, the mistake, and the repair.
-use city_options::command_line::Asked;
 use crate::device::Device;
 use crate::fault::ServeFault;
 use crate::files::TextFiles;
@@ -8,6 +7,7 @@ use city_desk::RunFault;
 use city_diagnostics::{explain_document, explain_scripts};
 use city_doc::{ReadFault, ScriptFault};
 use city_model::OutOfMemory;
+use city_options::command_line::Asked;
 use std::alloc::Global;
 use std::io;
 

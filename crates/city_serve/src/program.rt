@@ -10,7 +10,6 @@ ghost use Rattle.city_serve.specs.internal.Telling.{run_status, check_status, Is
 ghost use Rattle.city_serve.specs.internal.Telling.{IsSeenTold};
 
 use crate::check::check;
-use city_options::command_line::{Asked, LineFault, asked_by};
 use crate::deliver::Delivered;
 use crate::device::Device;
 use crate::explain::explanation;
@@ -24,6 +23,7 @@ use crate::texts::{Text, Texts};
 use city_crew::Gate;
 use city_desk::RunFault;
 use city_model::OutOfMemory;
+use city_options::command_line::{Asked, LineFault, asked_by};
 use std::alloc::Global;
 use std::io::{Read, Write};
 use std::sync::Wait;

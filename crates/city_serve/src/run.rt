@@ -15,7 +15,6 @@ ghost use Rattle.city_serve.specs.Decimals.{written_by, faults_by};
 ghost use Rattle.city_serve.specs.Destinations.{IsCutAt};
 
 use crate::decimals::run_decimals;
-use city_options::Options;
 use crate::texts::Texts;
 use city_crew::{Gate, run_crew_read};
 use city_desk::{Output, RunFault, read_texts_by, run_read};
@@ -23,6 +22,7 @@ use city_doc::pieces_for;
 use city_model::city::City;
 use city_model::script::Script;
 use city_model::sequence::Sequence;
+use city_options::Options;
 use std::alloc::Global;
 use std::mem::forget;
 use std::sync::Wait;

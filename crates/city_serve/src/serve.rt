@@ -10,11 +10,11 @@ ghost use Rattle.city_serve.specs.ServedTexts.{LosesAtMost, AppendsSome};
 
 use crate::device::Device;
 use crate::fault::ServeFault;
-use city_options::Options;
 use crate::serve_texts::serve_owned;
 use city_crew::{Gate, OpenGate};
 use city_doc::{FIXED_SEED, MAX_TEXT};
 use city_model::OutOfMemory;
+use city_options::Options;
 use memchr::memchr;
 use std::alloc::Global;
 use std::io::{Read, Write};
