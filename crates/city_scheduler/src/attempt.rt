@@ -37,7 +37,12 @@ fn unless_refused(reply: Reply) -> Result<Reply, Cause>
 }
 
 /// Runs a command other than a commit or an abort.
-fn run_command(core: &mut Core, progress: &mut Progress, stamp: u64, command: &Command) -> CommandOutcome
+fn run_command(
+    core: &mut Core,
+    progress: &mut Progress,
+    stamp: u64,
+    command: &Command,
+) -> CommandOutcome
     requires place { length progress.old.replies.list < progress.old.replies.room }
     requires opened { is_open core.old stamp ≡ true }
     requires goes_on { is_end command.now ≡ false }
