@@ -13,7 +13,7 @@ use Rattle.left_right.proofs.writer.Writer.TheSendSync as writer
 use Rattle.left_right.proofs.reader.Reader.TheSendSync as reader
 use Rattle.city_board.proofs.history.History.TheSendSync as history
 use Rattle.city_board.proofs.history.Head.TheSendSync as head
-use Rattle.city_scheduler.proofs.opening_city.OpeningCity.TheSendSync as opening
+use Rattle.city_scheduler.proofs.ghosts.opening_city.OpeningCity.TheSendSync as opening
 use Rattle.city_board.specs.contracts.poster.Poster as Poster
 use Rattle.city_board.specs.contracts.poster.Poster.TheInside as PosterInside
 use Rattle.city_board.specs.contracts.rule.BoardRule as BoardRule

@@ -13,7 +13,7 @@ use Rattle.city_model.specs.contracts.script.Script as Script
 use Rattle.city_txn.specs.contracts.txn_core.Core as Core
 use Rattle.city_scheduler.specs.contracts.desk.Desk as Desk
 use Rattle.city_scheduler.specs.contracts.desk.Desk.TheInside as DeskInside
-use Rattle.city_scheduler.proofs.opening_city.OpeningCity.TheSendSync as opening
+use Rattle.city_scheduler.proofs.ghosts.opening_city.OpeningCity.TheSendSync as opening
 
 geometry_sends : IsSend Geometry.the_field.row
 geometry_sends =

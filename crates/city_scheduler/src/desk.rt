@@ -1,5 +1,5 @@
 //! The desk.
-ghost use Rattle.std.specs.Prelude.{◌≡◌, ◌<◌, ◌+◌, ◌↔◌, ℕ, List, [], length, map, true, false, None, Some, option_map, IfSome, IsOk, IfOk, IfErr, OnOk, OnErr, if◌then◌else◌, nat_lt};
+ghost use Rattle.std.specs.Prelude.{◌≡◌, ◌<◌, ◌+◌, ◌↔◌, ◌==◌, ℕ, [], length, true, false, None, Some, option_map, IfSome, IsOk, IfOk, IfErr, OnOk, OnErr, if◌then◌else◌, nat_lt};
 ghost use Rattle.city_model.specs.CityMap.{object_at};
 ghost use Rattle.city_model.specs.Relations.{IsLawful};
 ghost use Rattle.city_model.specs.Runs.{model_after, has_end};
@@ -7,18 +7,19 @@ ghost use Rattle.city_scheduler.specs.declared.progress.Phase.{Phase};
 ghost use Rattle.city_scheduler.specs.DeskState.{phase_of};
 ghost use Rattle.city_scheduler.specs.Opening.{opened};
 ghost use Rattle.city_scheduler.specs.Serial.{IsSerial};
+ghost use Rattle.city_txn.specs.CoreState.{is_open};
+ghost use Rattle.city_scheduler.specs.internal.Closing.{KeepsCity, AreOpenFrom};
+ghost use Rattle.city_scheduler.specs.internal.Room.{names_of};
 ghost use Rattle.city_scheduler.specs.Turning.{IsTurn, GainsCommits, IsWaiting, stamp_for, begun_after};
 
 use crate::attempt::{CommandOutcome, step};
-use crate::closing::roll_back_all;
-use crate::opening::{names_of, unbegun_each};
-use crate::opening_city::OpeningCity;
-use crate::progress::{Phase, Progress, record_end};
-use crate::ready::{unopened, youngest};
+use crate::ghosts::opening_city::OpeningCity;
+use crate::progress::{Phase, Progress, unbegun_each, unopened, youngest};
 use crate::shelf::Shelf;
 use crate::turn::Turn;
 use city_model::OutOfMemory;
 use city_model::city::City;
+use city_model::copied::Copied;
 use city_model::end::{End, Outcome};
 use city_model::script::Script;
 use city_model::sequence::Sequence;
@@ -208,10 +209,9 @@ impl<S: Shelf> Desk<S> {
         let since = self.ends.len();
         let progress = &mut self.progress[n];
         let Ok(()) = self.core.begin(stamp) else {
-            record_end(
+            progress.record_end(
                 self.alloc,
                 &mut self.ends,
-                progress,
                 &mut self.names[n],
                 n,
                 since,
@@ -240,10 +240,9 @@ impl<S: Shelf> Desk<S> {
         match step(&mut self.core, &mut self.shelf, progress, stamp, command) {
             CommandOutcome::GoesOn(turn) => turn,
             CommandOutcome::Ends(outcome) => {
-                record_end(
+                progress.record_end(
                     self.alloc,
                     &mut self.ends,
-                    progress,
                     &mut self.names[n],
                     n,
                     since,
@@ -300,4 +299,37 @@ impl<S: Shelf> Desk<S> {
         };
         (city, Sequence::from_vec(ends), shelf)
     }
+}
+
+/// A copy of each script's name.
+fn names_of(alloc: Global, scripts: &[Script]) -> Result<Vec<Text>, OutOfMemory>
+    ensures { IfOk result (λ names. names.items ≡ names_of scripts.now) }
+{
+    let mut names = Vec::with_capacity(alloc, scripts.len())?;
+    for script in scripts {
+        names.push(script.name().copy(alloc)?)?;
+    }
+    Ok(names)
+}
+
+/// Rolls back each open transaction; all of them belong to these scripts.
+fn roll_back_all(core: &mut Core, progress: &[Progress])
+    requires { AreOpenFrom 0 progress.now core.old }
+    ensures keeps { KeepsCity core.old core.new }
+    ensures closed { (t : ℕ) → is_open core.new t ≡ false }
+{
+    for script in progress {
+        if let Phase::Open(stamp, _) = script.phase {
+            roll_back_if_open(core, stamp);
+        }
+    }
+}
+
+/// Rolls back the transaction of the stamp, if it is open.
+fn roll_back_if_open(core: &mut Core, stamp: u64)
+    ensures keeps { KeepsCity core.old core.new }
+    ensures opened { (t : ℕ) → is_open core.new t ≡ (if stamp == t then false else is_open core.old t) }
+{
+    // An error means that it wasn't open.
+    let _ = core.abort(stamp);
 }

@@ -3,8 +3,8 @@ ghost use Rattle.std.specs.Prelude.{◌≡◌, ◌++◌, ◌∷◌, [], None, Is
 ghost use Rattle.city_model.specs.Runs.{Change};
 ghost use Rattle.city_txn.specs.Changing.{IsChangeOf, change_in};
 
+use crate::ghosts::taken_changes::TakenChanges;
 use crate::shelf::Shelf;
-use crate::taken_changes::TakenChanges;
 use city_model::OutOfMemory;
 use city_model::change::Change;
 use city_txn::Core;

@@ -1,5 +1,5 @@
 //! Takes the changes of a desk's commits.
-ghost use Rattle.std.specs.Prelude.{◌≡◌, ◌+◌, ◌<◌, ◌^◌, ℕ, List, [], ◌∷◌, ◌++◌, length, Option, None, option_map, IfSome, IfOk, IsOk, OnOk, OnErr};
+ghost use Rattle.std.specs.Prelude.{◌≡◌, ◌+◌, ◌<◌, ◌^◌, ℕ, List, [], ◌∷◌, ◌++◌, length, Option, option_map, IfSome, IfOk, OnOk, OnErr};
 ghost use Rattle.city_model.specs.CityMap.{object_at, CityValue};
 ghost use Rattle.city_model.specs.Relations.{IsLawful};
 ghost use Rattle.city_model.specs.Runs.{Change, after_changes};
@@ -8,10 +8,7 @@ ghost use Rattle.city_txn.specs.CoreState.{committed};
 
 use city_model::OutOfMemory;
 use city_model::change::Change;
-use city_model::sequence::Sequence;
 use city_txn::{Core, Prepared};
-use std::alloc::Global;
-use std::marker::Model;
 use std::sync::Wait;
 
 /// Takes the change of each commit, and can show them.
@@ -71,68 +68,4 @@ pub trait Shelf: Drop {
         ensures published { OnOk result (published self.new ≡ option_map (λ seen. list self.old) (published self.old)) }
         ensures err { OnErr result (published self.new ≡ published self.old) }
         ensures note { IfOk result (λ note. tells self.new note) };
-}
-
-/// The plain shelf: a list of changes without viewers.
-#[derive(Drop)]
-pub struct ListShelf {
-    changes: Sequence<Change>,
-}
-
-impl Model for ListShelf {
-    ghost use Rattle.city_model.specs.Runs.{Change};
-    ghost use Rattle.std.specs.Prelude.{List};
-
-    ghost Value = { List Change };
-
-    ghost use Rattle.std.specs.Coded.{codes};
-    ghost use Rattle.city_model.specs.internal.DataCode.{coded_members};
-
-    ghost coded = { Prim.hlevel (codes, coded_members) };
-
-    ghost view = { λ s. s.changes };
-}
-
-impl ListShelf {
-    /// A shelf without changes. Doesn't allocate.
-    pub fn new(alloc: Global) -> ListShelf
-        ensures { result ≡ [] }
-    {
-        ListShelf {
-            changes: Sequence::new(alloc),
-        }
-    }
-
-    /// The changes taken. Doesn't allocate.
-    pub fn changes(&self) -> &[Change]
-        ensures { result.now ≡ self.now }
-    {
-        self.changes.as_slice()
-    }
-}
-
-impl Shelf for ListShelf {
-    type Note = ();
-
-    ghost list = { λ shelf. shelf };
-
-    ghost base = { λ shelf. None };
-
-    ghost name = { λ shelf. [] };
-
-    ghost published = { λ shelf. None };
-
-    ghost tells = { λ shelf note. Unit {0} };
-
-    fn take(&mut self, change: Change) -> Result<(), OutOfMemory> {
-        self.changes.push(change)
-    }
-
-    /// Doesn't allocate, and answers Ok.
-    fn show<R: Wait>(&mut self, _rt: &R) -> Result<(), OutOfMemory>
-        ensures list { self.new ≡ self.old }
-        ensures ok { IsOk result }
-    {
-        Ok(())
-    }
 }

@@ -2,7 +2,7 @@
 ghost use Rattle.std.specs.Prelude.{◌≡◌, ◌++◌, ◌∷◌, []};
 ghost use Rattle.city_txn.specs.Changing.{change_in};
 
-use crate::no_rule::NoRule;
+use crate::ghosts::no_rule::NoRule;
 use city_model::change::Change;
 use city_txn::Core;
 use logbook::{Opening as FirstEntries, Seen, Start};

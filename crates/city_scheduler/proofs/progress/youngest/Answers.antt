@@ -1,6 +1,6 @@
 use Rattle.city_scheduler.proofs.Prelude.{arith}
 use Rattle.city_scheduler.proofs.Youngest.{youngest_of_all}
-use Rattle.city_scheduler.proofs.ready.youngest.Goals as goal
+use Rattle.city_scheduler.proofs.progress.youngest.Goals as goal
 
 pub returns : goal.returns
 returns c =

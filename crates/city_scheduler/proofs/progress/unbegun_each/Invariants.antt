@@ -1,5 +1,5 @@
 use Rattle.city_scheduler.proofs.Prelude.{◌≡◌, ◌<◌, ℕ, Some, true, take, slice_get, Scripted, ends_once, unbegun_each}
-use Rattle.city_scheduler.proofs.opening.unbegun_each.Given as goal
+use Rattle.city_scheduler.proofs.progress.unbegun_each.Given as goal
 
 abbrev pub invariant-loop-script : goal.invariant-loop-script
 invariant-loop-script l = record {

@@ -1,6 +1,6 @@
 use Rattle.city_scheduler.proofs.Prelude.{KeepsCity}
 use Rattle.city_scheduler.specs.internal.Closing.{AreOpenFrom}
-use Rattle.city_scheduler.proofs.closing.roll_back_all.Given as goal
+use Rattle.city_scheduler.proofs.desk.roll_back_all.Given as goal
 
 abbrev pub invariant-loop-script : goal.invariant-loop-script
 invariant-loop-script l =

@@ -1,7 +1,7 @@
 use Rattle.city_scheduler.proofs.Prelude.{◌≡◌, ℕ, Result, Ok, Err, ap, TxnFault, CoreState, committed, IsRolledBack}
 use Rattle.city_scheduler.proofs.Prelude.{KeepsCity}
 use Rattle.std.specs.Prelude.{OnOk, OnErr}
-use Rattle.city_scheduler.proofs.closing.roll_back_if_open.Goals as goal
+use Rattle.city_scheduler.proofs.desk.roll_back_if_open.Goals as goal
 
 -- a roll-back keeps the core's city
 city_kept : (stamp : ℕ) (v w : CoreState) (result : Result (Unit {0}) TxnFault)

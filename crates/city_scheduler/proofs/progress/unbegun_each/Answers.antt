@@ -1,7 +1,7 @@
 use Rattle.city_scheduler.proofs.Prelude.{arith}
 use Rattle.std.proofs.lemmas.Grind.{common_steps}
 use Rattle.city_scheduler.proofs.ScriptReads.{one_more_scripted, all_scripted}
-use Rattle.city_scheduler.proofs.opening.unbegun_each.Goals as goal
+use Rattle.city_scheduler.proofs.progress.unbegun_each.Goals as goal
 
 pub loop-script-preserved : goal.loop-script-preserved
 loop-script-preserved c = record {

@@ -1,5 +1,5 @@
 use Rattle.city_scheduler.proofs.Prelude.{◌≡◌, ◌<◌, ℕ, false, MatchOption, phase_in, is_open_phase, IsYoungestBelow}
-use Rattle.city_scheduler.proofs.ready.youngest.Given as goal
+use Rattle.city_scheduler.proofs.progress.youngest.Given as goal
 
 abbrev pub invariant-loop-n : goal.invariant-loop-n
 invariant-loop-n l =

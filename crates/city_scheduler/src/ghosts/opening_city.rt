@@ -1,7 +1,7 @@
 //! The city at the opening of a desk or a board, for the proofs only.
 ghost use Rattle.std.specs.Prelude.{◌≡◌};
 
-use crate::no_rule::NoRule;
+use crate::ghosts::no_rule::NoRule;
 use city_model::city::City;
 use logbook::{Opening as FirstEntry, Seen, Start};
 use std::marker::Model;
