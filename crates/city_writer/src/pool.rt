@@ -107,6 +107,17 @@ impl VertexPool {
         }
     }
 
+    /// The same, with room for so many points.
+    pub fn with_room(alloc: Global, seed: u64, room: usize) -> Result<Self, OutOfMemory>
+        ensures { IfOk result (λ pool. pool ≡ []) }
+    {
+        let points = IndexSet::with_capacity_and_hasher(alloc, room, SeededHasher::new(seed))?;
+        Ok(VertexPool {
+            points,
+            lately: [0; PLACES],
+        })
+    }
+
     /// Adds a point, and gives its number. A point of the pool keeps its number.
     ///
     /// If memory runs out, the pool is unchanged.

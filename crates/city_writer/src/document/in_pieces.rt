@@ -35,6 +35,9 @@ use std::alloc::Global;
 use std::collections::btree_map::Iter;
 use std::thread::{Threads, map_indices};
 
+/// For how many lists of points there is room at most.
+const MOST_LISTS: usize = 8;
+
 /// The objects behind the first `from`.
 fn objects_from(city: &City, mut from: usize) -> Iter<'_, Id, Object>
     ensures { result ≡ drop from (entries city.now.1) }
@@ -81,6 +84,19 @@ fn points_of_pieces<R: Threads + Sync>(
     { points_of_piece(alloc, seed, city, i * len, len) };
     let pieces = map_indices(rt, alloc, city.len().div_ceil(len), &points)?;
     Ok(pieces)
+}
+
+/// Room for the points of all pieces. Pieces may share points, so it is at most `MOST_LISTS` times the longest list.
+fn room_for(pieces: &[Option<Vec<Point>>]) -> usize {
+    let mut all = 0_usize;
+    let mut longest = 0_usize;
+    for piece in pieces {
+        if let Some(points) = piece {
+            all = all.saturating_add(points.len());
+            longest = longest.max(points.len());
+        }
+    }
+    all.min(longest.saturating_mul(MOST_LISTS))
 }
 
 /// Adds points to a pool, and gives their numbers.
@@ -248,7 +264,7 @@ pub fn append_in_pieces<R: Threads + Sync>(
     ensures json { IfOk result (λ _. IsCompactJson (city_text city.now)) }
 {
     let pieces = points_of_pieces(rt, alloc, seed, city, len)?;
-    let mut pool = VertexPool::with_seed(alloc, seed);
+    let mut pool = VertexPool::with_room(alloc, seed, room_for(pieces.as_slice()))?;
     let numbers = numbers_of_pieces(alloc, pieces, &mut pool)?;
     let points = pool.as_slice();
     let texts = texts_of_pieces(rt, alloc, seed, city, len, points, numbers.as_slice())?;

@@ -10,7 +10,7 @@ returns g c =
     let points = c.as_slice-points.result.now in
     let head = c.in_ok-head.ensures in
     let all = c.in_ok-all.ensures in
-    let pooled = all_pooled (λ ps. ps.items) c.args.len city c.in_ok-pieces.pieces.items _ _ points c.with_seed-pool.ensures
+    let pooled = all_pooled (λ ps. ps.items) c.args.len city c.in_ok-pieces.pieces.items _ _ points c.in_ok-pool.ensures
     c.in_ok-numbers.ensures.pool c.as_slice-points.ensures.points c.in_ok-numbers.ensures.all c.in_ok-pieces.ensures in
     let objects = objects_written (λ text. text.items) c.args.len city c.in_ok-texts.texts.items points pooled
     all.in_range.fewer c.in_ok-objects.ensures.all c.in_ok-texts.ensures in
