@@ -22,6 +22,7 @@ use city_tokens::triple_of;
 use serde_json::Value;
 use std::alloc::Global;
 use std::collections::BTreeMap;
+use std::fmt::Write;
 
 /// A document's tree, and what is looked up in it for each fault.
 #[derive(Drop)]
@@ -65,8 +66,7 @@ impl<'t> Document<'t> {
         }
         if let Some(id) = id_of(fault) {
             let shown = Quoted(id.as_str());
-            let place = format!(in alloc; "object {shown}")?;
-            diagnostic.narrow(place.as_str())?;
+            write!(diagnostic.narrowed()?, "object {shown}")?;
             if let Some(object) = self.object(id) {
                 self.tell_of_object(alloc, id, object, fault, &mut diagnostic)?;
             }
@@ -96,9 +96,9 @@ impl<'t> Document<'t> {
     ) -> Result<(), OutOfMemory> {
         let points = self.points.as_slice();
         match fault {
-            ReadFault::UnknownType(_) => tell_unknown_type(alloc, object, diagnostic),
-            ReadFault::Unsupported(_, _) => tell_unsupported(alloc, object, diagnostic),
-            ReadFault::BadGeometry(_) => tell_bad_geometry(alloc, object, diagnostic),
+            ReadFault::UnknownType(_) => tell_unknown_type(object, diagnostic),
+            ReadFault::Unsupported(_, _) => tell_unsupported(object, diagnostic),
+            ReadFault::BadGeometry(_) => tell_bad_geometry(object, diagnostic),
             ReadFault::BadVertex(_) => {
                 tell_bad_vertex(alloc, object, self.vertex_count(), diagnostic)
             }

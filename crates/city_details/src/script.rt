@@ -35,8 +35,8 @@ pub fn script_diagnostic(
 ) -> Result<Diagnostic, OutOfMemory> {
     let mut diagnostic = Diagnostic::new(alloc);
     match fault {
-        ScriptFault::BadScript(script) => bad_script(alloc, tree, *script, &mut diagnostic)?,
-        ScriptFault::TooMany => tell_too_many(alloc, tree, &mut diagnostic)?,
+        ScriptFault::BadScript(script) => bad_script(tree, *script, &mut diagnostic)?,
+        ScriptFault::TooMany => tell_too_many(tree, &mut diagnostic)?,
         ScriptFault::BadCommand(script, command) => {
             bad_command(alloc, tree, *script, *command, &mut diagnostic)?;
         }
@@ -44,38 +44,30 @@ pub fn script_diagnostic(
             bad_vertex(alloc, tree, *script, *command, &mut diagnostic)?;
         }
         // (the faults before NotScripts are faults of the text, and none of its tree)
-        _ => not_scripts(alloc, tree, &mut diagnostic)?,
+        _ => not_scripts(tree, &mut diagnostic)?,
     }
     Ok(diagnostic)
 }
 
 /// Says that the text isn't an array.
-fn not_scripts(
-    alloc: Global,
-    tree: &Value,
-    diagnostic: &mut Diagnostic,
-) -> Result<(), OutOfMemory> {
+fn not_scripts(tree: &Value, diagnostic: &mut Diagnostic) -> Result<(), OutOfMemory> {
     if tree.get("type").and_then(Value::as_str) == Some("CityJSON") {
         diagnostic.details.text("form", "model")?;
-        let message = "The text is a CityJSON model, and no array of scripts.".to_string(alloc)?;
-        diagnostic.tell(message, "Give the model first, and the scripts behind it.");
-    } else {
-        let message = "The text isn't an array of scripts.".to_string(alloc)?;
-        diagnostic.tell(message, "Write the scripts in an array, also a single one.");
+        return diagnostic.tell(
+            "The text is a CityJSON model, and no array of scripts.",
+            "Give the model first, and the scripts behind it.",
+        );
     }
-    Ok(())
+    diagnostic.tell(
+        "The text isn't an array of scripts.",
+        "Write the scripts in an array, also a single one.",
+    )
 }
 
 /// Says which rule for scripts an item breaks.
-fn bad_script(
-    alloc: Global,
-    tree: &Value,
-    script: usize,
-    diagnostic: &mut Diagnostic,
-) -> Result<(), OutOfMemory> {
-    narrow_to_script(alloc, tree, script, diagnostic)?;
-    let nothing = Value::Null;
-    tell_bad_script(alloc, tree.get(script).unwrap_or(&nothing), diagnostic)
+fn bad_script(tree: &Value, script: usize, diagnostic: &mut Diagnostic) -> Result<(), OutOfMemory> {
+    narrow_to_script(tree, script, diagnostic)?;
+    tell_bad_script(tree.get(script), diagnostic)
 }
 
 /// Says which rule for commands a command breaks.
@@ -86,10 +78,11 @@ fn bad_command(
     command: usize,
     diagnostic: &mut Diagnostic,
 ) -> Result<(), OutOfMemory> {
-    narrow_to_command(alloc, tree, script, command, diagnostic)?;
-    let nothing = Value::Null;
-    let command = command_at(tree, script, command).unwrap_or(&nothing);
-    tell_bad_command(alloc, command, diagnostic)
+    narrow_to_command(tree, script, command, diagnostic)?;
+    match command_at(tree, script, command) {
+        Some(command) => tell_bad_command(alloc, command, diagnostic),
+        None => Ok(()),
+    }
 }
 
 /// Says which position of a command names none of its script's vertices.
@@ -100,12 +93,15 @@ fn bad_vertex(
     command: usize,
     diagnostic: &mut Diagnostic,
 ) -> Result<(), OutOfMemory> {
-    narrow_to_command(alloc, tree, script, command, diagnostic)?;
-    let nothing = Value::Null;
-    let command = command_at(tree, script, command).unwrap_or(&nothing);
-    narrow_to_object(alloc, command, diagnostic)?;
-    let shaped = shaped_tree(command).unwrap_or(&nothing);
-    tell_bad_vertex(alloc, shaped, vertex_count(tree, script), diagnostic)
+    narrow_to_command(tree, script, command, diagnostic)?;
+    let Some(command) = command_at(tree, script, command) else {
+        return Ok(());
+    };
+    narrow_to_object(command, diagnostic)?;
+    match shaped_tree(command) {
+        Some(shaped) => tell_bad_vertex(alloc, shaped, vertex_count(tree, script), diagnostic),
+        None => Ok(()),
+    }
 }
 
 /// How many vertices a script has.

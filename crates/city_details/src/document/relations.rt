@@ -6,6 +6,7 @@ use city_model::OutOfMemory;
 use city_model::object_type::{ObjectType, family, is_same, level, name};
 use serde_json::Value;
 use std::alloc::Global;
+use std::fmt::{self, Display, Formatter, Write};
 
 /// One of the two lists of ids of an object.
 #[derive(Clone, Copy)]
@@ -88,39 +89,45 @@ impl<'t> Broken<'t> {
             | Broken::OtherFamily(_, _, other) => Some(other),
         }
     }
+}
 
-    /// What is wrong, in a sentence.
-    fn message(&self, alloc: Global) -> Result<String, OutOfMemory> {
-        let list = self.list();
-        let names = list.name();
-        let one = list.one();
-        let other = Quoted(self.other().unwrap_or(""));
+impl Display for Broken<'_> {
+    fn fmt<W: Write>(&self, f: &mut Formatter<W>) -> fmt::Result {
         match *self {
-            Broken::NoListOfIds(_) => { format!(in alloc; "Its {names} aren't an array of texts.") }
-            Broken::Repeated(_, _) => format!(in alloc; "Its {names} have {other} twice."),
-            Broken::FirstLevelWithParents(kind, _) => {
-                let kind = name(kind);
-                format!(in alloc;
-                    "An object of type {kind} has no parents, but it has the parent {other}."
+            Broken::NoListOfIds(list) => {
+                let names = list.name();
+                write!(f, "Its {names} aren't an array of texts.")
+            }
+            Broken::Repeated(list, id) => {
+                let (names, id) = (list.name(), Quoted(id));
+                write!(f, "Its {names} have {id} twice.")
+            }
+            Broken::FirstLevelWithParents(kind, id) => {
+                let (kind, id) = (name(kind), Quoted(id));
+                write!(
+                    f,
+                    "An object of type {kind} has no parents, but it has the parent {id}."
                 )
             }
             Broken::NoParents(kind) => {
                 let kind = name(kind);
-                format!(in alloc; "An object of type {kind} has a parent, but it has none.")
+                write!(f, "An object of type {kind} has a parent, but it has none.")
             }
-            Broken::Itself(_) => "It is its own parent.".to_string(alloc),
-            Broken::Missing(_, _) => {
-                format!(in alloc; "Its {one} {other} is no object that can be read.")
+            Broken::Itself(_) => write!(f, "It is its own parent."),
+            Broken::Missing(list, id) => {
+                let (one, id) = (list.one(), Quoted(id));
+                write!(f, "Its {one} {id} is no object that can be read.")
             }
-            Broken::NotMutual(_, _) => {
+            Broken::NotMutual(list, id) => {
+                let (one, id) = (list.one(), Quoted(id));
                 let back = list.other_side().name();
-                format!(in alloc; "Its {one} {other} doesn't have it in its {back}.")
+                write!(f, "Its {one} {id} doesn't have it in its {back}.")
             }
-            Broken::OtherFamily(own, kind, _) => {
-                let own = name(own);
-                let kind = name(kind);
-                format!(in alloc;
-                    "Its parent {other} is of type {kind}, another family than that of {own}."
+            Broken::OtherFamily(own, kind, id) => {
+                let (own, kind, id) = (name(own), name(kind), Quoted(id));
+                write!(
+                    f,
+                    "Its parent {id} is of type {kind}, another family than that of {own}."
                 )
             }
         }
@@ -143,8 +150,8 @@ pub fn tell_relations(
     if let Some(other) = broken.other() {
         diagnostic.details.text("other", other)?;
     }
-    let message = broken.message(alloc)?;
-    diagnostic.tell(message, "Correct both sides of the relation.");
+    write!(diagnostic.message, "{broken}")?;
+    diagnostic.cure = "Correct both sides of the relation.";
     Ok(())
 }
 

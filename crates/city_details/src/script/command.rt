@@ -7,6 +7,9 @@ use crate::script::nearest::nearest;
 use city_model::OutOfMemory;
 use serde_json::{Map, Value};
 use std::alloc::Global;
+use std::fmt::Write;
+
+const CORRECT_NAME: &str = "Correct the name of the command.";
 
 /// What keeps a tree from having the form of a command.
 #[derive(Clone, Copy)]
@@ -76,56 +79,61 @@ pub fn tell_bad_command(
     diagnostic: &mut Diagnostic,
 ) -> Result<(), OutOfMemory> {
     match broken_form(command) {
-        Some(broken) => broken.tell(alloc, diagnostic),
-        None => tell_bad_given(alloc, command, diagnostic),
+        None => tell_bad_given(command, diagnostic),
+        Some(BrokenForm::NoCommand) => {
+            tell_no_command("It is neither a text nor an object.", diagnostic)
+        }
+        Some(BrokenForm::NoMember) => {
+            tell_no_command("It is an object without members.", diagnostic)
+        }
+        Some(BrokenForm::Word(word)) => tell_word(alloc, word, diagnostic),
+        Some(BrokenForm::FirstMember(name)) => tell_first_member(alloc, name, diagnostic),
+        Some(BrokenForm::Missing(member)) => tell_missing(member, diagnostic),
+        Some(BrokenForm::OtherMember(name, member)) => {
+            tell_other_member(name, member, diagnostic)
+        }
+        Some(BrokenForm::NoText(member)) => tell_no_text(member, diagnostic),
     }
 }
 
-impl BrokenForm<'_> {
-    fn tell(&self, alloc: Global, diagnostic: &mut Diagnostic) -> Result<(), OutOfMemory> {
-        diagnostic.details.text("rule", self.rule())?;
-        let message = match self {
-            BrokenForm::NoCommand => "It is neither a text nor an object.".to_string(alloc)?,
-            BrokenForm::NoMember => "It is an object without members.".to_string(alloc)?,
-            BrokenForm::Word(word) => return tell_word(alloc, word, diagnostic),
-            BrokenForm::FirstMember(name) => return tell_first_member(alloc, name, diagnostic),
-            BrokenForm::Missing(member) => {
-                diagnostic.details.text("member", member)?;
-                format!(in alloc; "Its member \"{member}\" is missing.")?
-            }
-            BrokenForm::OtherMember(command, member) => {
-                diagnostic.details.text("member", member)?;
-                let member = Quoted(member);
-                format!(in alloc; "The command \"{command}\" doesn't have the member {member}.")?
-            }
-            BrokenForm::NoText(member) => {
-                diagnostic.details.text("member", member)?;
-                format!(in alloc; "Its member \"{member}\" isn't a text.")?
-            }
-        };
-        diagnostic.tell(message, self.cure());
-        Ok(())
-    }
+fn tell_no_command(message: &str, diagnostic: &mut Diagnostic) -> Result<(), OutOfMemory> {
+    diagnostic.details.text("rule", "no command")?;
+    diagnostic.tell(
+        message,
+        "Write one of the commands, as a text or as an object with its members.",
+    )
+}
 
-    fn rule(&self) -> &'static str {
-        match self {
-            BrokenForm::Missing(_) => "missing",
-            BrokenForm::OtherMember(_, _) => "member",
-            BrokenForm::NoText(_) => "no text",
-            _ => "no command",
-        }
-    }
+fn tell_missing(member: &str, diagnostic: &mut Diagnostic) -> Result<(), OutOfMemory> {
+    diagnostic.details.text("rule", "missing")?;
+    diagnostic.details.text("member", member)?;
+    write!(diagnostic.message, "Its member \"{member}\" is missing.")?;
+    diagnostic.cure = "Give the command all its members.";
+    Ok(())
+}
 
-    fn cure(&self) -> &'static str {
-        match self {
-            BrokenForm::Missing(_) => "Give the command all its members.",
-            BrokenForm::OtherMember(_, _) => {
-                "Drop the member, or correct its name; each command is an object of its own."
-            }
-            BrokenForm::NoText(_) => "Write ids and names as texts, in quotes.",
-            _ => "Write one of the commands, as a text or as an object with its members.",
-        }
-    }
+fn tell_other_member(
+    command: &str,
+    member: &str,
+    diagnostic: &mut Diagnostic,
+) -> Result<(), OutOfMemory> {
+    diagnostic.details.text("rule", "member")?;
+    diagnostic.details.text("member", member)?;
+    let member = Quoted(member);
+    write!(
+        diagnostic.message,
+        "The command \"{command}\" doesn't have the member {member}."
+    )?;
+    diagnostic.cure = "Drop the member, or correct its name; each command is an object of its own.";
+    Ok(())
+}
+
+fn tell_no_text(member: &str, diagnostic: &mut Diagnostic) -> Result<(), OutOfMemory> {
+    diagnostic.details.text("rule", "no text")?;
+    diagnostic.details.text("member", member)?;
+    write!(diagnostic.message, "Its member \"{member}\" isn't a text.")?;
+    diagnostic.cure = "Write ids and names as texts, in quotes.";
+    Ok(())
 }
 
 /// Says that a text is no command, and which command is nearest.
@@ -133,16 +141,18 @@ fn tell_word(alloc: Global, word: &str, diagnostic: &mut Diagnostic) -> Result<(
     let nearest = tell_given(alloc, word, diagnostic)?;
     let given = Quoted(word);
     if form_named(word).is_some() {
-        let message = format!(in alloc; "The command {given} is an object, and no text.")?;
-        diagnostic.tell(message, "Write the command as an object with its members.");
+        write!(
+            diagnostic.message,
+            "The command {given} is an object, and no text."
+        )?;
+        diagnostic.cure = "Write the command as an object with its members.";
         return Ok(());
     }
-    let message = match nearest {
-        Some(name) => format!(in alloc; "No command is named {given}; the nearest is \"{name}\".")?,
-        None => format!(in alloc; "No command is named {given}.")?,
-    };
-    diagnostic.tell(message, "Correct the name of the command.");
-    Ok(())
+    write!(diagnostic.message, "No command is named {given}")?;
+    if let Some(name) = nearest {
+        write!(diagnostic.message, "; the nearest is \"{name}\"")?;
+    }
+    diagnostic.tell(".", CORRECT_NAME)
 }
 
 /// Says that no member of an object names a command, and which command is nearest to the first of them.
@@ -154,19 +164,21 @@ fn tell_first_member(
     let nearest = tell_given(alloc, name, diagnostic)?;
     let given = Quoted(name);
     if is_word(name) {
-        let message = format!(in alloc; "The command {given} is a text, and no object.")?;
-        diagnostic.tell(message, "Write the word alone, as a text.");
+        write!(
+            diagnostic.message,
+            "The command {given} is a text, and no object."
+        )?;
+        diagnostic.cure = "Write the word alone, as a text.";
         return Ok(());
     }
-    let message = match nearest {
-        Some(name) => {
-            format!(in alloc;
-                "None of its members names a command; the first, {given}, is nearest to \"{name}\"."
-            )?
-        }
-        None => format!(in alloc; "None of its members names a command; the first is {given}.")?,
-    };
-    diagnostic.tell(message, "Correct the name of the command.");
+    diagnostic.tell(
+        "None of its members names a command; the first",
+        CORRECT_NAME,
+    )?;
+    match nearest {
+        Some(name) => write!(diagnostic.message, ", {given}, is nearest to \"{name}\".")?,
+        None => write!(diagnostic.message, " is {given}.")?,
+    }
     Ok(())
 }
 
@@ -176,6 +188,7 @@ fn tell_given(
     word: &str,
     diagnostic: &mut Diagnostic,
 ) -> Result<Option<&'static str>, OutOfMemory> {
+    diagnostic.details.text("rule", "no command")?;
     diagnostic.details.text("given", word)?;
     let nearest = nearest(alloc, word)?;
     if let Some(name) = nearest {

@@ -4,7 +4,7 @@ use crate::quoted::Quoted;
 use city_model::OutOfMemory;
 use city_tokens::triple_of;
 use serde_json::{Map, Value};
-use std::alloc::Global;
+use std::fmt::{self, Display, Formatter, Write};
 
 /// What keeps an item from being a script.
 #[derive(Clone, Copy)]
@@ -93,19 +93,19 @@ fn other_member(members: &Map<String, Value>) -> Option<BrokenRule<'_>> {
 
 /// Says which rule an item breaks.
 pub fn tell_bad_script(
-    alloc: Global,
-    item: &Value,
+    item: Option<&Value>,
     diagnostic: &mut Diagnostic,
 ) -> Result<(), OutOfMemory> {
     // (an item that is told breaks some rule)
-    let rule = broken_rule(item).unwrap_or(BrokenRule::NoObject);
+    let rule = item.and_then(broken_rule).unwrap_or(BrokenRule::NoObject);
     diagnostic.details.text("rule", rule.name())?;
     match rule {
         BrokenRule::EndNotLast(command) => diagnostic.details.number("command", command)?,
         BrokenRule::OtherMember(member) => diagnostic.details.text("member", member)?,
         _ => {}
     }
-    diagnostic.tell(rule.message(alloc)?, rule.cure());
+    write!(diagnostic.message, "{rule}")?;
+    diagnostic.cure = rule.cure();
     Ok(())
 }
 
@@ -122,31 +122,6 @@ impl BrokenRule<'_> {
         }
     }
 
-    fn message(&self, alloc: Global) -> Result<String, OutOfMemory> {
-        let message = match self {
-            BrokenRule::NoObject => "It isn't an object.",
-            BrokenRule::NoName => "It has no name.",
-            BrokenRule::NameNoText => "Its name isn't a text.",
-            BrokenRule::NoCommands => "It has no commands.",
-            BrokenRule::CommandsNoArray => "Its commands aren't an array.",
-            BrokenRule::NoEnd => "None of its commands is \"commit\" or \"abort\".",
-            BrokenRule::VerticesNoArray => "Its vertices aren't an array.",
-            BrokenRule::EndNotLast(command) => {
-                return format!(in alloc; "Its command {command} ends it, and isn't the last one.");
-            }
-            BrokenRule::NoVertex(vertex) => {
-                return format!(in alloc;
-                    "Its vertex {vertex} isn't an array of three whole numbers."
-                );
-            }
-            BrokenRule::OtherMember(member) => {
-                let member = Quoted(member);
-                return format!(in alloc; "It has the member {member}, which no script has.");
-            }
-        };
-        message.to_string(alloc)
-    }
-
     fn cure(&self) -> &'static str {
         match self {
             BrokenRule::NoObject => "Write each script as an object with a name and commands.",
@@ -160,6 +135,33 @@ impl BrokenRule<'_> {
                 "Write each vertex as three whole numbers, a position in the model's grid."
             }
             BrokenRule::OtherMember(_) => "Drop the member, or correct its name.",
+        }
+    }
+}
+
+impl Display for BrokenRule<'_> {
+    fn fmt<W: Write>(&self, f: &mut Formatter<W>) -> fmt::Result {
+        match *self {
+            BrokenRule::NoObject => write!(f, "It isn't an object."),
+            BrokenRule::NoName => write!(f, "It has no name."),
+            BrokenRule::NameNoText => write!(f, "Its name isn't a text."),
+            BrokenRule::NoCommands => write!(f, "It has no commands."),
+            BrokenRule::CommandsNoArray => write!(f, "Its commands aren't an array."),
+            BrokenRule::NoEnd => write!(f, "None of its commands is \"commit\" or \"abort\"."),
+            BrokenRule::EndNotLast(command) => {
+                write!(f, "Its command {command} ends it, and isn't the last one.")
+            }
+            BrokenRule::VerticesNoArray => write!(f, "Its vertices aren't an array."),
+            BrokenRule::NoVertex(vertex) => {
+                write!(
+                    f,
+                    "Its vertex {vertex} isn't an array of three whole numbers."
+                )
+            }
+            BrokenRule::OtherMember(member) => {
+                let member = Quoted(member);
+                write!(f, "It has the member {member}, which no script has.")
+            }
         }
     }
 }

@@ -4,7 +4,7 @@ use crate::quoted::Quoted;
 use crate::shape::nesting::Nesting;
 use city_model::OutOfMemory;
 use serde_json::Value;
-use std::alloc::Global;
+use std::fmt::{self, Display, Formatter, Write};
 
 const CURE: &str = "Repair the geometry; a lod is a text.";
 
@@ -32,23 +32,30 @@ impl Wrong<'_> {
             Wrong::NoBoundaries | Wrong::Nested(_, _) => "boundaries",
         }
     }
+}
 
-    /// What is wrong, in a sentence, with the geometry of this number.
-    fn message(&self, alloc: Global, n: usize) -> Result<String, OutOfMemory> {
-        match *self {
-            Wrong::NoObject => format!(in alloc; "Geometry {n} isn't an object."),
-            Wrong::NoLod => format!(in alloc; "Geometry {n} has no lod."),
-            Wrong::LodNoText => format!(in alloc; "The lod of geometry {n} isn't a text."),
-            Wrong::NoType => format!(in alloc; "Geometry {n} has no type."),
-            Wrong::TypeNoText => format!(in alloc; "The type of geometry {n} isn't a text."),
+/// Says what is wrong with the geometry of a number.
+#[derive(Clone, Copy)]
+struct Message<'v>(usize, Wrong<'v>);
+
+impl Display for Message<'_> {
+    fn fmt<W: Write>(&self, f: &mut Formatter<W>) -> fmt::Result {
+        let n = self.0;
+        match self.1 {
+            Wrong::NoObject => write!(f, "Geometry {n} isn't an object."),
+            Wrong::NoLod => write!(f, "Geometry {n} has no lod."),
+            Wrong::LodNoText => write!(f, "The lod of geometry {n} isn't a text."),
+            Wrong::NoType => write!(f, "Geometry {n} has no type."),
+            Wrong::TypeNoText => write!(f, "The type of geometry {n} isn't a text."),
             Wrong::UnknownType(kind) => {
                 let kind = Quoted(kind);
-                format!(in alloc; "Geometry {n} is of type {kind}, which isn't read.")
+                write!(f, "Geometry {n} is of type {kind}, which isn't read.")
             }
-            Wrong::NoBoundaries => format!(in alloc; "Geometry {n} has no boundaries."),
+            Wrong::NoBoundaries => write!(f, "Geometry {n} has no boundaries."),
             Wrong::Nested(kind, nesting) => {
                 let depth = nesting.depth();
-                format!(in alloc;
+                write!(
+                    f,
                     "The boundaries of geometry {n}, a {kind}, aren't positions in {depth} arrays."
                 )
             }
@@ -57,42 +64,32 @@ impl Wrong<'_> {
 }
 
 /// Says which geometry can't be read, and which part of it is wrong.
-pub fn tell_bad_geometry(
-    alloc: Global,
-    object: &Value,
-    diagnostic: &mut Diagnostic,
-) -> Result<(), OutOfMemory> {
+pub fn tell_bad_geometry(object: &Value, diagnostic: &mut Diagnostic) -> Result<(), OutOfMemory> {
     let Some(geometry) = object.get("geometry") else {
         return Ok(());
     };
     let Some(geometries) = geometry.as_array() else {
         diagnostic.details.text("part", "geometry")?;
-        let message = "Its geometry isn't an array.".to_string(alloc)?;
-        diagnostic.tell(message, CURE);
-        return Ok(());
+        return diagnostic.tell("Its geometry isn't an array.", CURE);
     };
     for number in 0..geometries.len() {
         if let Some(wrong) = wrong_with(&geometries[number]) {
-            return tell(alloc, number, wrong, diagnostic);
+            return tell(number, wrong, diagnostic);
         }
     }
     Ok(())
 }
 
-fn tell(
-    alloc: Global,
-    number: usize,
-    wrong: Wrong<'_>,
-    diagnostic: &mut Diagnostic,
-) -> Result<(), OutOfMemory> {
-    let place = format!(in alloc; "geometry {number}")?;
-    diagnostic.narrow(place.as_str())?;
+fn tell(number: usize, wrong: Wrong<'_>, diagnostic: &mut Diagnostic) -> Result<(), OutOfMemory> {
+    write!(diagnostic.narrowed()?, "geometry {number}")?;
     diagnostic.details.number("geometry", number)?;
     diagnostic.details.text("part", wrong.part())?;
     if let Wrong::UnknownType(kind) = wrong {
         diagnostic.details.text("given", kind)?;
     }
-    diagnostic.tell(wrong.message(alloc, number)?, CURE);
+    let message = Message(number, wrong);
+    write!(diagnostic.message, "{message}")?;
+    diagnostic.cure = CURE;
     Ok(())
 }
 

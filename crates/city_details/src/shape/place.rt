@@ -4,7 +4,7 @@ use crate::quoted::Quoted;
 use crate::shape::walk::{Ring, Surfaces};
 use city_model::OutOfMemory;
 use serde_json::Value;
-use std::alloc::Global;
+use std::fmt::Write;
 
 /// Numbers, from the geometry down to a ring, as far as they are known.
 #[derive(Clone, Copy)]
@@ -30,7 +30,7 @@ impl<'v> Place<'v> {
         }
     }
 
-    /// The shell of these surfaces, where they have one.
+    /// The shell of these surfaces, if they have one.
     pub fn at_shell(self, surfaces: &Surfaces<'_>) -> Place<'v> {
         Place {
             geometry: self.geometry,
@@ -55,23 +55,21 @@ impl<'v> Place<'v> {
     }
 
     /// Narrows the place of a diagnostic to this one, and adds its numbers.
-    pub fn tell(&self, alloc: Global, diagnostic: &mut Diagnostic) -> Result<(), OutOfMemory> {
+    pub fn tell(&self, diagnostic: &mut Diagnostic) -> Result<(), OutOfMemory> {
         let number = self.geometry;
         let lod = Quoted(self.lod);
-        let words = format!(in alloc; "geometry {number} (lod {lod})")?;
-        diagnostic.narrow(words.as_str())?;
+        write!(diagnostic.narrowed()?, "geometry {number} (lod {lod})")?;
         diagnostic.details.number("geometry", number)?;
         diagnostic.details.text("lod", self.lod)?;
-        tell_number(alloc, "solid", self.solid, diagnostic)?;
-        tell_number(alloc, "shell", self.shell, diagnostic)?;
-        tell_number(alloc, "surface", self.surface, diagnostic)?;
-        tell_number(alloc, "ring", self.ring, diagnostic)
+        tell_number("solid", self.solid, diagnostic)?;
+        tell_number("shell", self.shell, diagnostic)?;
+        tell_number("surface", self.surface, diagnostic)?;
+        tell_number("ring", self.ring, diagnostic)
     }
 }
 
-/// Narrows the place to the part of this number, where there is one.
+/// Narrows the place to the part of this number, if there is one.
 fn tell_number(
-    alloc: Global,
     part: &str,
     number: Option<usize>,
     diagnostic: &mut Diagnostic,
@@ -79,7 +77,6 @@ fn tell_number(
     let Some(number) = number else {
         return Ok(());
     };
-    let words = format!(in alloc; "{part} {number}")?;
-    diagnostic.narrow(words.as_str())?;
+    write!(diagnostic.narrowed()?, "{part} {number}")?;
     diagnostic.details.number(part, number)
 }

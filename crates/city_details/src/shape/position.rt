@@ -5,6 +5,7 @@ use crate::shape::walk::{Surfaces, geometries_of, rings_of, surfaces_of};
 use city_model::OutOfMemory;
 use serde_json::Value;
 use std::alloc::Global;
+use std::fmt::Write;
 
 /// A position, and where it stands.
 #[derive(Clone, Copy)]
@@ -26,32 +27,28 @@ pub fn tell_bad_vertex(
     for number in 0..geometries.len() {
         let geometry = &geometries[number];
         if let Some(found) = in_geometry(alloc, Place::new(number, geometry), geometry, count)? {
-            return tell(alloc, &found, count, diagnostic);
+            return tell(&found, count, diagnostic);
         }
     }
     Ok(())
 }
 
-fn tell(
-    alloc: Global,
-    found: &Found<'_>,
-    count: usize,
-    diagnostic: &mut Diagnostic,
-) -> Result<(), OutOfMemory> {
-    found.place.tell(alloc, diagnostic)?;
+fn tell(found: &Found<'_>, count: usize, diagnostic: &mut Diagnostic) -> Result<(), OutOfMemory> {
+    found.place.tell(diagnostic)?;
     diagnostic.details.number("item", found.item)?;
     diagnostic.details.integer("position", found.position)?;
     diagnostic.details.number("vertices", count)?;
-    let item = found.item;
-    let position = found.position;
-    let message = if position < 0 {
-        format!(in alloc; "Item {item} of the ring is {position}, but no position is negative.")?
+    let Found { item, position, .. } = *found;
+    write!(
+        diagnostic.message,
+        "Item {item} of the ring is {position}, but "
+    )?;
+    if position < 0 {
+        write!(diagnostic.message, "no position is negative.")?;
     } else {
-        format!(in alloc;
-            "Item {item} of the ring is {position}, but there are {count} vertices, from 0 on."
-        )?
-    };
-    diagnostic.tell(message, "Repair the positions.");
+        write!(diagnostic.message, "there are {count} vertices, from 0 on.")?;
+    }
+    diagnostic.cure = "Repair the positions.";
     Ok(())
 }
 

@@ -7,6 +7,7 @@ use city_model::OutOfMemory;
 use city_model::object::Point;
 use serde_json::Value;
 use std::alloc::Global;
+use std::fmt::{self, Display, Formatter, Write};
 
 /// What is wrong with a ring.
 #[derive(Clone, Copy)]
@@ -27,16 +28,24 @@ impl Wrong {
             Wrong::Equal(_, _, _) => "equal neighbours",
         }
     }
+}
 
-    fn message(&self, alloc: Global) -> Result<String, OutOfMemory> {
+impl Display for Wrong {
+    fn fmt<W: Write>(&self, f: &mut Formatter<W>) -> fmt::Result {
         match *self {
-            Wrong::NoRing(surface) => format!(in alloc; "Surface {surface} has no ring."),
+            Wrong::NoRing(surface) => write!(f, "Surface {surface} has no ring."),
             Wrong::Short(points) => {
-                format!(in alloc; "The ring has {points} of the three points that it needs.")
+                write!(
+                    f,
+                    "The ring has {points} of the three points that it needs."
+                )
             }
             Wrong::Equal(one, next, point) => {
                 let point = Coordinates(point);
-                format!(in alloc; "The neighbours {one} and {next} of the ring are equal: {point}.")
+                write!(
+                    f,
+                    "The neighbours {one} and {next} of the ring are equal: {point}."
+                )
             }
         }
     }
@@ -54,30 +63,22 @@ pub fn tell_bad_ring(
         let geometry = &geometries[number];
         let place = Place::new(number, geometry);
         if let Some((place, wrong)) = in_geometry(alloc, place, geometry, vertices)? {
-            return tell(alloc, &place, &wrong, diagnostic);
+            return tell(&place, &wrong, diagnostic);
         }
     }
     Ok(())
 }
 
-fn tell(
-    alloc: Global,
-    place: &Place<'_>,
-    wrong: &Wrong,
-    diagnostic: &mut Diagnostic,
-) -> Result<(), OutOfMemory> {
-    place.tell(alloc, diagnostic)?;
+fn tell(place: &Place<'_>, wrong: &Wrong, diagnostic: &mut Diagnostic) -> Result<(), OutOfMemory> {
+    place.tell(diagnostic)?;
     diagnostic.details.text("rule", wrong.rule())?;
     match *wrong {
         Wrong::NoRing(_) => {}
         Wrong::Short(points) => diagnostic.details.number("points", points)?,
         Wrong::Equal(_, _, point) => diagnostic.details.point("point", point)?,
     }
-    let message = wrong.message(alloc)?;
-    diagnostic.tell(
-        message,
-        "Drop repeated points, and rings that are too short.",
-    );
+    write!(diagnostic.message, "{wrong}")?;
+    diagnostic.cure = "Drop repeated points, and rings that are too short.";
     Ok(())
 }
 

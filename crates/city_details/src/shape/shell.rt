@@ -10,6 +10,7 @@ use city_model::OutOfMemory;
 use city_model::object::Point;
 use serde_json::Value;
 use std::alloc::Global;
+use std::fmt::Write;
 
 /// Of so many open edges each is told; of the others only how many there are.
 const MOST_TOLD: usize = 100;
@@ -38,20 +39,19 @@ pub fn tell_open_shell(
         let geometry = &geometries[number];
         let place = Place::new(number, geometry);
         if let Some((place, edges)) = in_geometry(alloc, place, geometry, vertices)? {
-            return tell(alloc, &place, edges, diagnostic);
+            return tell(&place, edges, diagnostic);
         }
     }
     Ok(())
 }
 
 fn tell(
-    alloc: Global,
     place: &Place<'_>,
     edges: OpenEdges,
     diagnostic: &mut Diagnostic,
 ) -> Result<(), OutOfMemory> {
     let OpenEdges { first, count, told } = edges;
-    place.tell(alloc, diagnostic)?;
+    place.tell(diagnostic)?;
     if count > MOST_TOLD {
         diagnostic.details.number("more", count - MOST_TOLD)?;
     }
@@ -59,13 +59,12 @@ fn tell(
     if let Some((from, to)) = first {
         let from = Coordinates(from);
         let to = Coordinates(to);
-        let message = format!(in alloc;
+        write!(
+            diagnostic.message,
             "The shell has {count} open edges, the first from {from} to {to}."
         )?;
-        diagnostic.tell(
-            message,
-            "Close it, turn the face that is the wrong way round, or make it a MultiSurface.",
-        );
+        diagnostic.cure =
+            "Close it, turn the face that is the wrong way round, or make it a MultiSurface.";
     }
     Ok(())
 }
