@@ -1,10 +1,10 @@
-//! What is told of the faults of scripts.
+//! Diagnostics of scripts.
 //!
-//! - `forms`: the commands, each with its members; `nearest`: the command whose name is nearest to a word
-//! - `item`: the first rule that an item breaks which isn't a script; `command`: that a command breaks
-//! - `given`: that the object, the geometries or the attributes (`attributes`) break which a command gives
+//! - `forms`: the commands, each with its members; `nearest`: the command with the name nearest to a word
+//! - `item`: the first broken rule of a script; `command`: of a command
+//! - `given`: of the object, the geometries or the attributes (`attributes`) in a command
 //! - `limits`: too many scripts, or too many commands
-//! - `place`: where a script or a command is, in words
+//! - `place`: the place of a script or a command, in words
 
 mod attributes;
 mod command;
@@ -27,7 +27,7 @@ use city_model::OutOfMemory;
 use serde_json::Value;
 use std::alloc::Global;
 
-/// What is told of a fault of the scripts of this tree, from NotScripts on.
+/// Returns the diagnostic of a fault of this tree of scripts, from NotScripts on.
 pub fn script_diagnostic(
     alloc: Global,
     tree: &Value,
@@ -64,13 +64,13 @@ fn not_scripts(tree: &Value, diagnostic: &mut Diagnostic) -> Result<(), OutOfMem
     )
 }
 
-/// Says which rule for scripts an item breaks.
+/// Tells the first rule for scripts broken by an item.
 fn bad_script(tree: &Value, script: usize, diagnostic: &mut Diagnostic) -> Result<(), OutOfMemory> {
     narrow_to_script(tree, script, diagnostic)?;
     tell_bad_script(tree.get(script), diagnostic)
 }
 
-/// Says which rule for commands a command breaks.
+/// Tells the first rule for commands broken by a command.
 fn bad_command(
     alloc: Global,
     tree: &Value,
@@ -85,7 +85,7 @@ fn bad_command(
     }
 }
 
-/// Says which position of a command names none of its script's vertices.
+/// Tells the first position of a command out of the range of its script's vertices.
 fn bad_vertex(
     alloc: Global,
     tree: &Value,
@@ -104,7 +104,7 @@ fn bad_vertex(
     }
 }
 
-/// How many vertices a script has.
+/// The number of a script's vertices.
 fn vertex_count(tree: &Value, script: usize) -> usize {
     match vertices_of(tree, script) {
         Some(vertices) => vertices.len(),

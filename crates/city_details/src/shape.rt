@@ -1,8 +1,8 @@
-//! What is told of the type and the geometry of an object, in a document or in a command.
+//! Diagnostics of an object's type and geometry, in a document or in a command.
 //!
-//! - `nesting`: how boundaries are nested; `walk`: their lists of surfaces and their rings; `place`: where one is
-//! - `geometry`: geometries that can't be read; `position`: positions that name no vertex
-//! - `ring`: rings that are too short or have equal neighbours; `shell`: shells that are open
+//! - `nesting`: the nesting of boundaries; `walk`: their lists of surfaces and their rings; `place`: their places
+//! - `geometry`: unreadable geometries; `position`: positions without a vertex
+//! - `ring`: short rings, and rings with equal neighbours; `shell`: open shells
 mod geometry;
 mod nesting;
 mod place;
@@ -22,7 +22,7 @@ use serde_json::Value;
 use std::fmt::Write;
 use walk::geometries_of;
 
-/// Says that an object's type is missing, no text, or unknown.
+/// Says whether an object's type is missing, no text, or unknown.
 pub fn tell_unknown_type(object: &Value, diagnostic: &mut Diagnostic) -> Result<(), OutOfMemory> {
     diagnostic.cure = "Use a type of CityJSON 2.0, or GenericCityObject.";
     let Some(kind) = object.get("type") else {
@@ -44,7 +44,7 @@ pub fn tell_unknown_type(object: &Value, diagnostic: &mut Diagnostic) -> Result<
     Ok(())
 }
 
-/// Says which geometry has a type that is never read, or that an address has a location.
+/// Tells the first unsupported part of an object: its address's location, or a geometry.
 pub fn tell_unsupported(object: &Value, diagnostic: &mut Diagnostic) -> Result<(), OutOfMemory> {
     if has_location(object.get("address")) {
         diagnostic.details.text("name", "location")?;
@@ -75,12 +75,12 @@ fn tell_unsupported_geometry(
     Ok(())
 }
 
-/// Whether something in an object is never read.
+/// Whether an object has an unsupported part.
 pub fn is_unsupported(object: &Value) -> bool {
     has_location(object.get("address")) || unsupported_geometry(object).is_some()
 }
 
-/// The number and the type of the first geometry of a type that is never read.
+/// The number and the type of the first geometry of an unsupported type.
 fn unsupported_geometry(object: &Value) -> Option<(usize, &'static str)> {
     let geometries = geometries_of(object);
     for number in 0..geometries.len() {
@@ -91,7 +91,7 @@ fn unsupported_geometry(object: &Value) -> Option<(usize, &'static str)> {
     None
 }
 
-/// The type of a geometry, where it is one that is never read.
+/// The type of a geometry, if it is unsupported.
 fn unsupported_type(geometry: &Value) -> Option<&'static str> {
     match geometry.get("type")?.as_str()? {
         "MultiPoint" => Some("MultiPoint"),

@@ -1,4 +1,4 @@
-//! What is told of the faults that any text may have.
+//! Diagnostics of texts in general.
 mod form;
 mod fraction;
 mod numeral;
@@ -29,10 +29,10 @@ const DECIMALS: &str = "Give --decimals, which takes numbers of any form and kee
 
 const NO_WHOLE: &str = "A number isn't a whole number of 64 bits.";
 
-/// The greatest length of a number that stands in a message.
+/// Longest number shown in a message.
 const SHOWN: usize = 40;
 
-/// A fault of a text that no tree of whole numbers can be read from.
+/// A fault of a text without a tree of whole numbers.
 #[derive(Clone, Copy, PartialEq, Eq)]
 pub enum TextFault {
     TooLong,
@@ -40,7 +40,7 @@ pub enum TextFault {
     NotWhole,
 }
 
-/// What is told of such a fault of a text. Where the text isn't the given one but was encoded, places in it aren't told.
+/// Returns the diagnostic of such a fault. An encoded text isn't the given one: its line and column aren't told.
 pub fn text_diagnostic(
     alloc: Global,
     text: &[u8],
@@ -61,7 +61,7 @@ pub fn text_diagnostic(
     Ok(diagnostic)
 }
 
-/// Says what form a text has that isn't JSON.
+/// Tells the form of a text in place of JSON.
 fn tell_form(form: TextForm, diagnostic: &mut Diagnostic) -> Result<(), OutOfMemory> {
     diagnostic.details.text("form", form.name())?;
     let (message, cure) = match form {
@@ -75,7 +75,7 @@ fn tell_form(form: TextForm, diagnostic: &mut Diagnostic) -> Result<(), OutOfMem
     diagnostic.tell(message, cure)
 }
 
-/// Says why a text isn't JSON, and where reading it stopped.
+/// Says why a text isn't JSON, and the place of the first error.
 fn tell_not_json(
     alloc: Global,
     text: &[u8],
@@ -115,7 +115,7 @@ fn tell_error(
     diagnostic.tell(message, REPAIR)
 }
 
-/// Narrows the place to that of an error, if it has one.
+/// Narrows the place to an error's line and column, if it has them.
 fn narrow_to_error(error: &Error, diagnostic: &mut Diagnostic) -> Result<(), OutOfMemory> {
     let (line, column) = (error.line(), error.column());
     if line > 0 {
@@ -126,7 +126,7 @@ fn narrow_to_error(error: &Error, diagnostic: &mut Diagnostic) -> Result<(), Out
     Ok(())
 }
 
-/// Says which number isn't a whole number of 64 bits, and where it is.
+/// Tells the first number outside the whole numbers of 64 bits, and its path.
 fn tell_fraction(
     alloc: Global,
     text: &[u8],
@@ -143,7 +143,7 @@ fn tell_fraction(
     }
 }
 
-/// Tells the number that isn't whole, as the text has it.
+/// Tells such a number, as written in the text.
 fn tell_numeral(value: &str, diagnostic: &mut Diagnostic) -> Result<(), OutOfMemory> {
     diagnostic.details.text("value", value)?;
     if value.len() > SHOWN {

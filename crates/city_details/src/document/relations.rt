@@ -1,4 +1,4 @@
-//! Which rule on parents and children an object doesn't meet.
+//! Broken rules on an object's parents and children.
 use crate::diagnostic::Diagnostic;
 use crate::document::relatives::{Relatives, RelativesById, list_at, repeated_in};
 use crate::quoted::Quoted;
@@ -23,7 +23,7 @@ impl IdList {
         }
     }
 
-    /// What one of the list is called.
+    /// The word for one item of the list.
     fn one(self) -> &'static str {
         match self {
             IdList::Parents => "parent",
@@ -31,7 +31,7 @@ impl IdList {
         }
     }
 
-    /// The list that has to have the object, of one that this list has.
+    /// The list on the other side of a relation.
     fn other_side(self) -> IdList {
         match self {
             IdList::Parents => IdList::Children,
@@ -40,7 +40,7 @@ impl IdList {
     }
 }
 
-/// A rule that isn't met, with the other object of it.
+/// A broken rule, with the other object.
 #[derive(Clone, Copy)]
 enum Broken<'t> {
     NoListOfIds(IdList),
@@ -50,7 +50,7 @@ enum Broken<'t> {
     Itself(&'t str),
     Missing(IdList, &'t str),
     NotMutual(IdList, &'t str),
-    /// The object's type, and that of this parent.
+    /// The object's type, and the type of this parent.
     OtherFamily(ObjectType, ObjectType, &'t str),
 }
 
@@ -134,7 +134,7 @@ impl Display for Broken<'_> {
     }
 }
 
-/// Says which rule on its parents and children an object doesn't meet.
+/// Tells the first broken rule on an object's parents and children.
 pub fn tell_relations(
     alloc: Global,
     objects: &RelativesById,
@@ -155,7 +155,7 @@ pub fn tell_relations(
     Ok(())
 }
 
-/// The first rule that isn't met.
+/// The first broken rule, if any.
 fn first_broken<'t>(
     alloc: Global,
     objects: &RelativesById,
@@ -186,7 +186,7 @@ fn first_broken<'t>(
     }
 }
 
-/// Whether there are parents, by what the level of the type asks for.
+/// The rule broken by an object's parents at its level: the second has parents, the first has none.
 fn broken_by_level(kind: ObjectType, parents: &[Value]) -> Option<Broken<'_>> {
     match parents.first() {
         None if level(kind) == 2 => Some(Broken::NoParents(kind)),

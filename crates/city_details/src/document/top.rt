@@ -1,4 +1,4 @@
-//! What is told of a member of the top that isn't that of a document.
+//! Diagnostics of missing or wrong members of the top.
 use crate::diagnostic::Diagnostic;
 use crate::path::{Step, path_text};
 use crate::quoted::Quoted;
@@ -8,7 +8,7 @@ use serde_json::{Map, Value};
 use std::alloc::Global;
 use std::fmt::Write;
 
-/// Says what is wrong with a member of this name, the first that is wrong.
+/// Says what is wrong with the member of this name, the first wrong one.
 pub fn tell_wrong_member(
     alloc: Global,
     tree: &Value,
@@ -59,7 +59,7 @@ fn tell_path(
     diagnostic.details.text("path", path.as_str())
 }
 
-/// Says what is wrong with the type or the version, by the text that it is.
+/// Says what is wrong with the type or the version, by its text.
 fn tell_wrong_text(
     name: &str,
     given: Option<&str>,
@@ -126,7 +126,7 @@ fn tell_objects(
     }
 }
 
-/// The name of the first member that isn't an object.
+/// The name of the first member other than an object.
 fn first_other(members: &Map<String, Value>) -> Option<&str> {
     for (name, member) in members.iter() {
         if !member.is_object() {

@@ -1,10 +1,10 @@
-//! Attributes that a command can't take.
+//! Wrong attributes in commands.
 use crate::diagnostic::Diagnostic;
 use city_model::OutOfMemory;
 use serde_json::Value;
 use std::fmt::Write;
 
-/// Says that attributes have no values.
+/// Says that attributes are no object of values.
 pub fn tell_no_values(diagnostic: &mut Diagnostic) -> Result<(), OutOfMemory> {
     diagnostic.details.text("rule", "attributes")?;
     diagnostic.tell(
@@ -13,7 +13,7 @@ pub fn tell_no_values(diagnostic: &mut Diagnostic) -> Result<(), OutOfMemory> {
     )
 }
 
-/// Says that the attributes of an unset aren't names, and which is the first that isn't.
+/// Says that the attributes of an unset aren't an array, or tells the first item other than a text.
 pub fn tell_no_names(attributes: &Value, diagnostic: &mut Diagnostic) -> Result<(), OutOfMemory> {
     diagnostic.details.text("rule", "attributes")?;
     diagnostic.cure = "Write the names of the attributes as texts, in an array.";
@@ -31,7 +31,7 @@ pub fn tell_no_names(attributes: &Value, diagnostic: &mut Diagnostic) -> Result<
     Ok(())
 }
 
-/// The first item that isn't a text.
+/// The first item other than a text.
 fn first_other(items: &[Value]) -> usize {
     for number in 0..items.len() {
         if !items[number].is_string() {

@@ -1,4 +1,4 @@
-//! Commands that are refused.
+//! Refused commands.
 use crate::diagnostic::Diagnostic;
 use crate::quoted::Quoted;
 use crate::script::forms::{Form, form_in, form_named, is_word};
@@ -11,26 +11,26 @@ use std::fmt::Write;
 
 const CORRECT_NAME: &str = "Correct the name of the command.";
 
-/// What keeps a tree from having the form of a command.
+/// A rule for the form of commands, broken by a tree.
 #[derive(Clone, Copy)]
 enum BrokenForm<'t> {
     /// It is neither a text nor an object.
     NoCommand,
     /// It is an object without members.
     NoMember,
-    /// It is a text that is no command.
+    /// It is a text, but no command.
     Word(&'t str),
-    /// It is an object that names no command, and this is its first member.
+    /// It is an object without the name of a command; this is its first member.
     FirstMember(&'t str),
-    /// Of the command that it names this member isn't there.
+    /// This member is missing.
     Missing(&'static str),
-    /// It has a member that the command of this name doesn't have.
+    /// The command of this name has no such member.
     OtherMember(&'static str, &'t str),
     /// This member isn't a text.
     NoText(&'static str),
 }
 
-/// The first rule that keeps a tree from having the form of a command, or none where it has one.
+/// The first rule broken by a tree; none if it has the form of a command.
 fn broken_form(command: &Value) -> Option<BrokenForm<'_>> {
     match command {
         Value::String(word) => broken_word(word.as_str()),
@@ -53,7 +53,7 @@ fn broken_members(members: &Map<String, Value>) -> Option<BrokenForm<'_>> {
     }
 }
 
-/// What is wrong with an object that names no command.
+/// The fault of an object without the name of a command.
 fn nameless(members: &Map<String, Value>) -> BrokenForm<'_> {
     match members.keys().next() {
         Some(name) => BrokenForm::FirstMember(name.as_str()),
@@ -61,7 +61,7 @@ fn nameless(members: &Map<String, Value>) -> BrokenForm<'_> {
     }
 }
 
-/// What is wrong with the members of a command of this form.
+/// The first fault of the members of a command of this form.
 fn broken_by<'t>(form: &'static Form, members: &'t Map<String, Value>) -> Option<BrokenForm<'t>> {
     if let Some(member) = form.missing(members) {
         return Some(BrokenForm::Missing(member));
@@ -72,7 +72,7 @@ fn broken_by<'t>(form: &'static Form, members: &'t Map<String, Value>) -> Option
     Some(BrokenForm::NoText(form.not_text(members)?))
 }
 
-/// Says which rule a command breaks: one for the form of commands, or for what it gives.
+/// Tells the first rule broken by a command: for its form, or for a part of it.
 pub fn tell_bad_command(
     alloc: Global,
     command: &Value,
@@ -136,7 +136,7 @@ fn tell_no_text(member: &str, diagnostic: &mut Diagnostic) -> Result<(), OutOfMe
     Ok(())
 }
 
-/// Says that a text is no command, and which command is nearest.
+/// Says that a text is no command, and tells the nearest one.
 fn tell_word(alloc: Global, word: &str, diagnostic: &mut Diagnostic) -> Result<(), OutOfMemory> {
     let nearest = tell_given(alloc, word, diagnostic)?;
     let given = Quoted(word);
@@ -155,7 +155,7 @@ fn tell_word(alloc: Global, word: &str, diagnostic: &mut Diagnostic) -> Result<(
     diagnostic.tell(".", CORRECT_NAME)
 }
 
-/// Says that no member of an object names a command, and which command is nearest to the first of them.
+/// Says that no member of an object names a command, and tells the one nearest to the first member.
 fn tell_first_member(
     alloc: Global,
     name: &str,
@@ -182,7 +182,7 @@ fn tell_first_member(
     Ok(())
 }
 
-/// Adds a word that stands in the place of a command's name, and the nearest name, which is returned.
+/// Adds a word in place of a command's name, and the nearest name. Returns the latter.
 fn tell_given(
     alloc: Global,
     word: &str,

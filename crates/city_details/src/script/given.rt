@@ -1,4 +1,4 @@
-//! What a command gives an object, where it is refused: an object, geometries, or attributes.
+//! Refused parts of commands: an object, geometries, or attributes.
 use crate::diagnostic::Diagnostic;
 use crate::quoted::Quoted;
 use crate::script::attributes::{tell_no_names, tell_no_values};
@@ -9,12 +9,12 @@ use city_model::object_type::type_named;
 use serde_json::Value;
 use std::fmt::Write;
 
-/// The form of a command that is an object.
+/// The form of an object command.
 fn form_of(command: &Value) -> Option<&'static Form> {
     form_in(command.as_object()?)
 }
 
-/// The tree in which the geometries stand that a command gives: the object that it gives, or its own.
+/// The tree with a command's geometries: its object's, or its own.
 pub fn shaped_tree(command: &Value) -> Option<&Value> {
     match form_of(command)?.given()? {
         (name, Kind::Object) => command.get(name),
@@ -22,7 +22,7 @@ pub fn shaped_tree(command: &Value) -> Option<&Value> {
     }
 }
 
-/// Narrows the place to the object of this id that a command is about.
+/// Narrows the place to the object of a command.
 pub fn narrow_to_object(command: &Value, diagnostic: &mut Diagnostic) -> Result<(), OutOfMemory> {
     if let Some(id) = object_id(command) {
         let id = Quoted(id);
@@ -31,12 +31,12 @@ pub fn narrow_to_object(command: &Value, diagnostic: &mut Diagnostic) -> Result<
     Ok(())
 }
 
-/// The id of the object that a command is about, where it is a text.
+/// The id of a command's object, if it is a text.
 fn object_id(command: &Value) -> Option<&str> {
     command.get(form_of(command)?.name)?.as_str()
 }
 
-/// Says which rule is broken by what a command gives.
+/// Tells the first rule broken by a part of a command.
 pub fn tell_bad_given(command: &Value, diagnostic: &mut Diagnostic) -> Result<(), OutOfMemory> {
     narrow_to_object(command, diagnostic)?;
     let Some(form) = form_of(command) else {
@@ -56,7 +56,7 @@ pub fn tell_bad_given(command: &Value, diagnostic: &mut Diagnostic) -> Result<()
     }
 }
 
-/// Says which rule the object breaks that a command of this name gives.
+/// Tells the first rule broken by the object in a command of this name.
 fn tell_bad_object(
     command: &str,
     object: &Value,
@@ -79,7 +79,7 @@ fn tell_no_object(command: &str, diagnostic: &mut Diagnostic) -> Result<(), OutO
     Ok(())
 }
 
-/// What a put and an add have done to their object, in a word.
+/// The participle of a put or an add.
 fn done(command: &str) -> &'static str {
     if command == "add" { "added" } else { "put" }
 }
@@ -92,7 +92,7 @@ fn object_cure(command: &str) -> &'static str {
     }
 }
 
-/// The list of relations that an object has.
+/// The name of an object's first list of relations.
 fn relation_in(object: &Value) -> Option<&'static str> {
     for member in ["parents", "children"] {
         if object.get(member).is_some() {
@@ -134,7 +134,7 @@ fn tell_unreadable_geometry(tree: &Value, diagnostic: &mut Diagnostic) -> Result
         diagnostic.details.text("rule", "unsupported")?;
         return tell_unsupported(tree, diagnostic);
     }
-    // (what is told can't be read, so a geometry is wrong)
+    // (the tree is unreadable, so a geometry is wrong)
     diagnostic.details.text("rule", "geometry")?;
     tell_bad_geometry(tree, diagnostic)
 }

@@ -1,4 +1,4 @@
-//! Items that aren't scripts.
+//! Items other than scripts.
 use crate::diagnostic::Diagnostic;
 use crate::quoted::Quoted;
 use city_model::OutOfMemory;
@@ -6,7 +6,7 @@ use city_tokens::triple_of;
 use serde_json::{Map, Value};
 use std::fmt::{self, Display, Formatter, Write};
 
-/// What keeps an item from being a script.
+/// A rule for scripts, broken by an item.
 #[derive(Clone, Copy)]
 pub enum BrokenRule<'t> {
     NoObject,
@@ -16,16 +16,16 @@ pub enum BrokenRule<'t> {
     CommandsNoArray,
     /// No command ends the script.
     NoEnd,
-    /// The first command that ends the script, which isn't the last one.
+    /// This first end isn't the last command.
     EndNotLast(usize),
     VerticesNoArray,
-    /// The first vertex that isn't three whole numbers.
+    /// This vertex, the first such, isn't three whole numbers.
     NoVertex(usize),
-    /// A member that a script doesn't have.
+    /// An unknown member.
     OtherMember(&'t str),
 }
 
-/// The first rule that keeps an item from being a script, or none where it is one.
+/// The first rule broken by an item; none if it is a script.
 pub fn broken_rule(item: &Value) -> Option<BrokenRule<'_>> {
     let Some(members) = item.as_object() else {
         return Some(BrokenRule::NoObject);
@@ -52,7 +52,7 @@ fn broken_commands(members: &Map<String, Value>) -> Option<BrokenRule<'static>> 
     }
 }
 
-/// What is wrong where not exactly the last of the commands ends the script.
+/// The fault of commands unless exactly the last one ends the script.
 fn broken_end(commands: &[Value]) -> Option<BrokenRule<'static>> {
     match commands.iter().position(is_end) {
         None => Some(BrokenRule::NoEnd),
@@ -81,7 +81,7 @@ fn broken_vertex(vertices: &[Value]) -> Option<BrokenRule<'static>> {
     Some(BrokenRule::NoVertex(vertex))
 }
 
-/// The first member, in byte order, that a script doesn't have.
+/// The first unknown member, in byte order.
 fn other_member(members: &Map<String, Value>) -> Option<BrokenRule<'_>> {
     for (name, _) in members.iter() {
         if !matches!(name.as_str(), "name" | "commands" | "vertices") {
@@ -91,12 +91,12 @@ fn other_member(members: &Map<String, Value>) -> Option<BrokenRule<'_>> {
     None
 }
 
-/// Says which rule an item breaks.
+/// Tells the first rule broken by an item.
 pub fn tell_bad_script(
     item: Option<&Value>,
     diagnostic: &mut Diagnostic,
 ) -> Result<(), OutOfMemory> {
-    // (an item that is told breaks some rule)
+    // (the item breaks some rule)
     let rule = item.and_then(broken_rule).unwrap_or(BrokenRule::NoObject);
     diagnostic.details.text("rule", rule.name())?;
     match rule {
@@ -141,27 +141,28 @@ impl BrokenRule<'_> {
 
 impl Display for BrokenRule<'_> {
     fn fmt<W: Write>(&self, f: &mut Formatter<W>) -> fmt::Result {
-        match *self {
-            BrokenRule::NoObject => write!(f, "It isn't an object."),
-            BrokenRule::NoName => write!(f, "It has no name."),
-            BrokenRule::NameNoText => write!(f, "Its name isn't a text."),
-            BrokenRule::NoCommands => write!(f, "It has no commands."),
-            BrokenRule::CommandsNoArray => write!(f, "Its commands aren't an array."),
-            BrokenRule::NoEnd => write!(f, "None of its commands is \"commit\" or \"abort\"."),
+        let message = match *self {
+            BrokenRule::NoObject => "It isn't an object.",
+            BrokenRule::NoName => "It has no name.",
+            BrokenRule::NameNoText => "Its name isn't a text.",
+            BrokenRule::NoCommands => "It has no commands.",
+            BrokenRule::CommandsNoArray => "Its commands aren't an array.",
+            BrokenRule::NoEnd => "None of its commands is \"commit\" or \"abort\".",
+            BrokenRule::VerticesNoArray => "Its vertices aren't an array.",
             BrokenRule::EndNotLast(command) => {
-                write!(f, "Its command {command} ends it, and isn't the last one.")
+                return write!(f, "Its command {command} ends it, and isn't the last one.");
             }
-            BrokenRule::VerticesNoArray => write!(f, "Its vertices aren't an array."),
             BrokenRule::NoVertex(vertex) => {
-                write!(
+                return write!(
                     f,
                     "Its vertex {vertex} isn't an array of three whole numbers."
-                )
+                );
             }
             BrokenRule::OtherMember(member) => {
                 let member = Quoted(member);
-                write!(f, "It has the member {member}, which no script has.")
+                return write!(f, "It has the member {member}, which no script has.");
             }
-        }
+        };
+        f.write_str(message)
     }
 }

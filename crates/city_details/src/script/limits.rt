@@ -7,7 +7,7 @@ use city_tokens::{MAX_COMMANDS, MAX_SCRIPTS};
 use serde_json::Value;
 use std::fmt::Write;
 
-/// Says how many scripts there are, if they are too many; else which is the first script with too many commands.
+/// Tells the number of scripts if it is too large, else the first script with too many commands.
 pub fn tell_too_many(tree: &Value, diagnostic: &mut Diagnostic) -> Result<(), OutOfMemory> {
     let Some(items) = tree.as_array() else {
         return tell_scripts(0, diagnostic);
@@ -21,7 +21,7 @@ pub fn tell_too_many(tree: &Value, diagnostic: &mut Diagnostic) -> Result<(), Ou
     tell_scripts(items.len(), diagnostic)
 }
 
-/// The first script with too many commands, and how many it has.
+/// The first script with too many commands, and their number.
 fn first_too_long(items: &[Value]) -> Option<(usize, usize)> {
     for (script, item) in items.iter().enumerate() {
         let commands = command_count(item);
@@ -32,7 +32,7 @@ fn first_too_long(items: &[Value]) -> Option<(usize, usize)> {
     None
 }
 
-/// How many commands an item has.
+/// The number of an item's commands.
 fn command_count(item: &Value) -> usize {
     match item.get("commands").and_then(Value::as_array) {
         Some(commands) => commands.len(),

@@ -1,11 +1,11 @@
-//! Where a script or a command is: found in the tree, and said in words.
+//! The place of a script or a command: found in the tree, and in words.
 use crate::diagnostic::Diagnostic;
 use crate::quoted::Quoted;
 use city_model::OutOfMemory;
 use serde_json::Value;
 use std::fmt::Write;
 
-/// Most bytes of a script's name that is shown. A longer one would be copied for each of its faults.
+/// Most bytes of a name shown. A longer one would be copied for each fault of its script.
 const LONGEST_NAME: usize = 100;
 
 /// The command of this number in the script of this number.

@@ -1,4 +1,4 @@
-//! What is told of a geometry that can't be read.
+//! Diagnostics of unreadable geometries.
 use crate::diagnostic::Diagnostic;
 use crate::quoted::Quoted;
 use crate::shape::nesting::Nesting;
@@ -8,7 +8,7 @@ use std::fmt::{self, Display, Formatter, Write};
 
 const CURE: &str = "Repair the geometry; a lod is a text.";
 
-/// What is wrong with a geometry.
+/// A fault of a geometry.
 #[derive(Clone, Copy)]
 enum Wrong<'v> {
     NoObject,
@@ -18,12 +18,12 @@ enum Wrong<'v> {
     TypeNoText,
     UnknownType(&'v str),
     NoBoundaries,
-    /// The boundaries aren't nested as this type says.
+    /// The boundaries don't have the nesting of this type.
     Nested(&'v str, Nesting),
 }
 
 impl Wrong<'_> {
-    /// The part of the geometry that is wrong.
+    /// The wrong part of the geometry.
     fn part(&self) -> &'static str {
         match self {
             Wrong::NoObject => "geometry",
@@ -34,7 +34,7 @@ impl Wrong<'_> {
     }
 }
 
-/// Says what is wrong with the geometry of a number.
+/// Shows a geometry's number and its fault.
 #[derive(Clone, Copy)]
 struct Message<'v>(usize, Wrong<'v>);
 
@@ -43,15 +43,18 @@ impl Display for Message<'_> {
         let n = self.0;
         match self.1 {
             Wrong::NoObject => write!(f, "Geometry {n} isn't an object."),
-            Wrong::NoLod => write!(f, "Geometry {n} has no lod."),
-            Wrong::LodNoText => write!(f, "The lod of geometry {n} isn't a text."),
-            Wrong::NoType => write!(f, "Geometry {n} has no type."),
-            Wrong::TypeNoText => write!(f, "The type of geometry {n} isn't a text."),
+            Wrong::NoLod | Wrong::NoType | Wrong::NoBoundaries => {
+                let part = self.1.part();
+                write!(f, "Geometry {n} has no {part}.")
+            }
+            Wrong::LodNoText | Wrong::TypeNoText => {
+                let part = self.1.part();
+                write!(f, "The {part} of geometry {n} isn't a text.")
+            }
             Wrong::UnknownType(kind) => {
                 let kind = Quoted(kind);
                 write!(f, "Geometry {n} is of type {kind}, which isn't read.")
             }
-            Wrong::NoBoundaries => write!(f, "Geometry {n} has no boundaries."),
             Wrong::Nested(kind, nesting) => {
                 let depth = nesting.depth();
                 write!(
@@ -63,7 +66,7 @@ impl Display for Message<'_> {
     }
 }
 
-/// Says which geometry can't be read, and which part of it is wrong.
+/// Tells the first unreadable geometry, and its wrong part.
 pub fn tell_bad_geometry(object: &Value, diagnostic: &mut Diagnostic) -> Result<(), OutOfMemory> {
     let Some(geometry) = object.get("geometry") else {
         return Ok(());
@@ -93,7 +96,7 @@ fn tell(number: usize, wrong: Wrong<'_>, diagnostic: &mut Diagnostic) -> Result<
     Ok(())
 }
 
-/// What is wrong with a geometry, if anything.
+/// The first fault of a geometry, if any.
 fn wrong_with(geometry: &Value) -> Option<Wrong<'_>> {
     if !geometry.is_object() {
         return Some(Wrong::NoObject);
@@ -105,7 +108,7 @@ fn wrong_with(geometry: &Value) -> Option<Wrong<'_>> {
     }
 }
 
-/// What is wrong with a geometry whose lod is right.
+/// The first fault of a geometry with a valid lod, if any.
 fn wrong_with_type(geometry: &Value) -> Option<Wrong<'_>> {
     let Some(kind) = geometry.get("type") else {
         return Some(Wrong::NoType);
