@@ -1,4 +1,4 @@
-//! What is known of a fault beside what it names.
+//! Further members of a fault's line.
 ghost use Rattle.std.specs.Prelude.{◌≡◌, ◌+◌, false, length, map, IfOk, OnOk};
 ghost use Rattle.serde_json.specs.Data.{no_members, put, object, array, string, number as numeral, unsigned};
 ghost use Rattle.serde_json.specs.Find.{of_integer};

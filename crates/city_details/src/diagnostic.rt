@@ -1,23 +1,23 @@
-//! What is told of one fault.
+//! The diagnostic of one fault.
 use crate::details::Details;
 use city_model::OutOfMemory;
 use std::alloc::Global;
 
-/// Where a fault is, what is wrong, what to do, and what else is known of it.
+/// The place of a fault, a message, a cure, and further details.
 #[derive(Drop)]
 pub struct Diagnostic {
-    /// Where in the text, in words such as `object "b12", geometry 0`; empty where the fault has no place.
+    /// In words such as `object "b12", geometry 0`; empty for a fault without a place.
     pub place: String,
-    /// What is wrong, in a sentence.
+    /// A sentence on the fault.
     pub message: String,
-    /// What to do, in a sentence.
+    /// A sentence on its repair.
     pub cure: &'static str,
     pub details: Details,
 }
 
 impl Diagnostic {
-    /// Nothing is told yet.
-    pub fn new(alloc: Global) -> Diagnostic {
+    /// An empty diagnostic.
+    pub(crate) fn new(alloc: Global) -> Diagnostic {
         Diagnostic {
             place: String::new(alloc),
             message: String::new(alloc),
@@ -26,18 +26,18 @@ impl Diagnostic {
         }
     }
 
-    /// Narrows the place: these words come behind those that are there, and a comma.
-    pub fn narrow(&mut self, words: &str) -> Result<(), OutOfMemory> {
+    /// Returns the place, ready for narrower words: earlier words now end with a comma.
+    pub(crate) fn narrowed(&mut self) -> Result<&mut String, OutOfMemory> {
         if !self.place.is_empty() {
             self.place.push_str(", ")?;
         }
-        self.place.push_str(words)?;
-        Ok(())
+        Ok(&mut self.place)
     }
 
-    /// Says what is wrong and what to do.
-    pub fn tell(&mut self, message: String, cure: &'static str) {
-        self.message = message;
+    /// Adds a text to the message, and sets the cure.
+    pub(crate) fn tell(&mut self, message: &str, cure: &'static str) -> Result<(), OutOfMemory> {
+        self.message.push_str(message)?;
         self.cure = cure;
+        Ok(())
     }
 }

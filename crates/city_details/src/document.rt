@@ -1,7 +1,7 @@
-//! What is told of the faults of a document's top and of its objects.
+//! Diagnostics of a document's top and of its objects.
 //!
-//! - `top`: members of the top that aren't those of a document
-//! - `relatives`: the parents and children of all objects, in sets; `relations`: which rule on them isn't met
+//! - `top`: missing or wrong members of the top
+//! - `relatives`: the parents and children of all objects, in sets; `relations`: broken rules on them
 mod relations;
 mod relatives;
 mod top;
@@ -22,19 +22,20 @@ use city_tokens::triple_of;
 use serde_json::Value;
 use std::alloc::Global;
 use std::collections::BTreeMap;
+use std::fmt::Write;
 
-/// A document's tree, and what is looked up in it for each fault.
+/// A document's tree, with its points and relatives for look-ups.
 #[derive(Drop)]
 pub struct Document<'t> {
     tree: &'t Value,
-    /// Its vertices, where a ring or a shell is told.
+    /// Its vertices, if a ring or a shell is wrong.
     points: Vec<Point>,
-    /// The objects that can be read, where relations are told.
+    /// Its readable objects, if relations are wrong.
     relatives: RelativesById,
 }
 
 impl<'t> Document<'t> {
-    /// The document of a tree that has these faults: all of them, or only the first.
+    /// Prepares diagnostics of these faults of a tree: all its faults, or only the first.
     pub fn new(
         alloc: Global,
         tree: &'t Value,
@@ -57,7 +58,7 @@ impl<'t> Document<'t> {
         })
     }
 
-    /// What is told of a fault of this document, from NotCityJson on.
+    /// Returns the diagnostic of a fault of this document, from NotCityJson on.
     pub fn diagnostic(&self, alloc: Global, fault: &ReadFault) -> Result<Diagnostic, OutOfMemory> {
         let mut diagnostic = Diagnostic::new(alloc);
         if let ReadFault::NotCityJson(member) = fault {
@@ -65,8 +66,7 @@ impl<'t> Document<'t> {
         }
         if let Some(id) = id_of(fault) {
             let shown = Quoted(id.as_str());
-            let place = format!(in alloc; "object {shown}")?;
-            diagnostic.narrow(place.as_str())?;
+            write!(diagnostic.narrowed()?, "object {shown}")?;
             if let Some(object) = self.object(id) {
                 self.tell_of_object(alloc, id, object, fault, &mut diagnostic)?;
             }
@@ -78,7 +78,7 @@ impl<'t> Document<'t> {
         self.tree.get("CityObjects")?.get(id.as_str())
     }
 
-    /// How many vertices there are.
+    /// The number of vertices.
     fn vertex_count(&self) -> usize {
         match self.tree.get("vertices").and_then(Value::as_array) {
             None => 0,
@@ -96,9 +96,9 @@ impl<'t> Document<'t> {
     ) -> Result<(), OutOfMemory> {
         let points = self.points.as_slice();
         match fault {
-            ReadFault::UnknownType(_) => tell_unknown_type(alloc, object, diagnostic),
-            ReadFault::Unsupported(_, _) => tell_unsupported(alloc, object, diagnostic),
-            ReadFault::BadGeometry(_) => tell_bad_geometry(alloc, object, diagnostic),
+            ReadFault::UnknownType(_) => tell_unknown_type(object, diagnostic),
+            ReadFault::Unsupported(_, _) => tell_unsupported(object, diagnostic),
+            ReadFault::BadGeometry(_) => tell_bad_geometry(object, diagnostic),
             ReadFault::BadVertex(_) => {
                 tell_bad_vertex(alloc, object, self.vertex_count(), diagnostic)
             }
@@ -112,7 +112,7 @@ impl<'t> Document<'t> {
     }
 }
 
-/// Whether a fault is told by the points of rings.
+/// Whether a diagnostic shows points of rings.
 fn needs_points(fault: &ReadFault) -> bool {
     matches!(fault, ReadFault::BadRing(_) | ReadFault::OpenShell(_))
 }
@@ -121,7 +121,7 @@ fn needs_relatives(fault: &ReadFault) -> bool {
     matches!(fault, ReadFault::Relations(_))
 }
 
-/// The object that a fault is about.
+/// The id of a fault's object.
 fn id_of(fault: &ReadFault) -> Option<&Id> {
     match fault {
         ReadFault::UnknownType(id)

@@ -1,8 +1,8 @@
-//! What is told of one fault: where it is, what is wrong, what to do, and the details of its line.
+//! The diagnostic of one fault: its place, a message, a cure, and the details of its line.
 //!
-//! - `diagnostic`: what is told of one fault; `details`: the members of its line beside what the fault names
-//! - `text`: faults of any text; `document`: those of a document's top and objects; `script`: those of scripts
-//! - `shape`: where in an object's geometry a fault is
+//! - `diagnostic`: a diagnostic; `details`: further members of its line
+//! - `text`: faults of any text; `document`: of a document's top and objects; `script`: of scripts
+//! - `shape`: faults of an object's type and geometry
 //! - `tree`: the tree of a text; `path`: a path to one of its values; `quoted`: a text as a JSON text
 #![tactic(auto)]
 

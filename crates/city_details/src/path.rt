@@ -13,7 +13,7 @@ pub enum Step<'t> {
     Item(usize),
 }
 
-/// A path as it is written: names with points between them, items as `[0]`.
+/// Shows a path: names with points between them, items as `[0]`.
 pub fn path_text(alloc: Global, steps: &[Step<'_>]) -> Result<String, OutOfMemory> {
     let mut path = String::new(alloc);
     for step in steps {
@@ -22,7 +22,7 @@ pub fn path_text(alloc: Global, steps: &[Step<'_>]) -> Result<String, OutOfMemor
     Ok(path)
 }
 
-/// Adds a step to a path. A name that isn't letters, digits and `_`, with no digit first, is a JSON text in brackets.
+/// Adds a step to a path. A name is shown as it is if plain, else as a JSON text in brackets.
 fn add_step(path: &mut String, step: Step<'_>) -> Result<(), OutOfMemory> {
     match step {
         Step::Item(number) => write!(path, "[{number}]")?,

@@ -1,7 +1,7 @@
 //! A text as a JSON text, for messages and places.
 use std::fmt::{self, Display, Formatter, Write};
 
-/// Shows a text as a JSON text: in quotes, all control characters escaped, so that nothing of it steers a terminal.
+/// Shows a text as a JSON text: in quotes, with all control characters escaped, so it can't steer a terminal.
 #[derive(Clone, Copy)]
 pub struct Quoted<'t>(pub &'t str);
 

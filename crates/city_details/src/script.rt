@@ -1,10 +1,10 @@
-//! What is told of the faults of scripts.
+//! Diagnostics of scripts.
 //!
-//! - `forms`: the commands, each with its members; `nearest`: the command whose name is nearest to a word
-//! - `item`: the first rule that an item breaks which isn't a script; `command`: that a command breaks
-//! - `given`: that the object, the geometries or the attributes (`attributes`) break which a command gives
+//! - `forms`: the commands, each with its members; `nearest`: the command with the name nearest to a word
+//! - `item`: the first broken rule of a script; `command`: of a command
+//! - `given`: of the object, the geometries or the attributes (`attributes`) in a command
 //! - `limits`: too many scripts, or too many commands
-//! - `place`: where a script or a command is, in words
+//! - `place`: the place of a script or a command, in words
 
 mod attributes;
 mod command;
@@ -27,7 +27,7 @@ use city_model::OutOfMemory;
 use serde_json::Value;
 use std::alloc::Global;
 
-/// What is told of a fault of the scripts of this tree, from NotScripts on.
+/// Returns the diagnostic of a fault of this tree of scripts, from NotScripts on.
 pub fn script_diagnostic(
     alloc: Global,
     tree: &Value,
@@ -35,8 +35,8 @@ pub fn script_diagnostic(
 ) -> Result<Diagnostic, OutOfMemory> {
     let mut diagnostic = Diagnostic::new(alloc);
     match fault {
-        ScriptFault::BadScript(script) => bad_script(alloc, tree, *script, &mut diagnostic)?,
-        ScriptFault::TooMany => tell_too_many(alloc, tree, &mut diagnostic)?,
+        ScriptFault::BadScript(script) => bad_script(tree, *script, &mut diagnostic)?,
+        ScriptFault::TooMany => tell_too_many(tree, &mut diagnostic)?,
         ScriptFault::BadCommand(script, command) => {
             bad_command(alloc, tree, *script, *command, &mut diagnostic)?;
         }
@@ -44,41 +44,33 @@ pub fn script_diagnostic(
             bad_vertex(alloc, tree, *script, *command, &mut diagnostic)?;
         }
         // (the faults before NotScripts are faults of the text, and none of its tree)
-        _ => not_scripts(alloc, tree, &mut diagnostic)?,
+        _ => not_scripts(tree, &mut diagnostic)?,
     }
     Ok(diagnostic)
 }
 
 /// Says that the text isn't an array.
-fn not_scripts(
-    alloc: Global,
-    tree: &Value,
-    diagnostic: &mut Diagnostic,
-) -> Result<(), OutOfMemory> {
+fn not_scripts(tree: &Value, diagnostic: &mut Diagnostic) -> Result<(), OutOfMemory> {
     if tree.get("type").and_then(Value::as_str) == Some("CityJSON") {
         diagnostic.details.text("form", "model")?;
-        let message = "The text is a CityJSON model, and no array of scripts.".to_string(alloc)?;
-        diagnostic.tell(message, "Give the model first, and the scripts behind it.");
-    } else {
-        let message = "The text isn't an array of scripts.".to_string(alloc)?;
-        diagnostic.tell(message, "Write the scripts in an array, also a single one.");
+        return diagnostic.tell(
+            "The text is a CityJSON model, and no array of scripts.",
+            "Give the model first, and the scripts behind it.",
+        );
     }
-    Ok(())
+    diagnostic.tell(
+        "The text isn't an array of scripts.",
+        "Write the scripts in an array, also a single one.",
+    )
 }
 
-/// Says which rule for scripts an item breaks.
-fn bad_script(
-    alloc: Global,
-    tree: &Value,
-    script: usize,
-    diagnostic: &mut Diagnostic,
-) -> Result<(), OutOfMemory> {
-    narrow_to_script(alloc, tree, script, diagnostic)?;
-    let nothing = Value::Null;
-    tell_bad_script(alloc, tree.get(script).unwrap_or(&nothing), diagnostic)
+/// Tells the first rule for scripts broken by an item.
+fn bad_script(tree: &Value, script: usize, diagnostic: &mut Diagnostic) -> Result<(), OutOfMemory> {
+    narrow_to_script(tree, script, diagnostic)?;
+    tell_bad_script(tree.get(script), diagnostic)
 }
 
-/// Says which rule for commands a command breaks.
+/// Tells the first rule for commands broken by a command.
 fn bad_command(
     alloc: Global,
     tree: &Value,
@@ -86,13 +78,14 @@ fn bad_command(
     command: usize,
     diagnostic: &mut Diagnostic,
 ) -> Result<(), OutOfMemory> {
-    narrow_to_command(alloc, tree, script, command, diagnostic)?;
-    let nothing = Value::Null;
-    let command = command_at(tree, script, command).unwrap_or(&nothing);
-    tell_bad_command(alloc, command, diagnostic)
+    narrow_to_command(tree, script, command, diagnostic)?;
+    match command_at(tree, script, command) {
+        Some(command) => tell_bad_command(alloc, command, diagnostic),
+        None => Ok(()),
+    }
 }
 
-/// Says which position of a command names none of its script's vertices.
+/// Tells the first position of a command out of the range of its script's vertices.
 fn bad_vertex(
     alloc: Global,
     tree: &Value,
@@ -100,15 +93,18 @@ fn bad_vertex(
     command: usize,
     diagnostic: &mut Diagnostic,
 ) -> Result<(), OutOfMemory> {
-    narrow_to_command(alloc, tree, script, command, diagnostic)?;
-    let nothing = Value::Null;
-    let command = command_at(tree, script, command).unwrap_or(&nothing);
-    narrow_to_object(alloc, command, diagnostic)?;
-    let shaped = shaped_tree(command).unwrap_or(&nothing);
-    tell_bad_vertex(alloc, shaped, vertex_count(tree, script), diagnostic)
+    narrow_to_command(tree, script, command, diagnostic)?;
+    let Some(command) = command_at(tree, script, command) else {
+        return Ok(());
+    };
+    narrow_to_object(command, diagnostic)?;
+    match shaped_tree(command) {
+        Some(shaped) => tell_bad_vertex(alloc, shaped, vertex_count(tree, script), diagnostic),
+        None => Ok(()),
+    }
 }
 
-/// How many vertices a script has.
+/// The number of a script's vertices.
 fn vertex_count(tree: &Value, script: usize) -> usize {
     match vertices_of(tree, script) {
         Some(vertices) => vertices.len(),

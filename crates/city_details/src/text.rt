@@ -1,4 +1,4 @@
-//! What is told of the faults that any text may have.
+//! Diagnostics of texts in general.
 mod form;
 mod fraction;
 mod numeral;
@@ -12,6 +12,7 @@ use crate::tree::tree_of;
 use city_model::OutOfMemory;
 use serde_json::{Error, Value};
 use std::alloc::Global;
+use std::fmt::Write;
 
 const SPLIT: &str = "Split it into smaller texts.";
 
@@ -26,10 +27,12 @@ const AS_UTF8: &str = "Save it in UTF-8.";
 
 const DECIMALS: &str = "Give --decimals, which takes numbers of any form and keeps their digits.";
 
-/// The greatest length of a number that stands in a message.
+const NO_WHOLE: &str = "A number isn't a whole number of 64 bits.";
+
+/// Longest number shown in a message.
 const SHOWN: usize = 40;
 
-/// A fault of a text that no tree of whole numbers can be read from.
+/// A fault of a text without a tree of whole numbers.
 #[derive(Clone, Copy, PartialEq, Eq)]
 pub enum TextFault {
     TooLong,
@@ -37,7 +40,7 @@ pub enum TextFault {
     NotWhole,
 }
 
-/// What is told of such a fault of a text. Where the text isn't the given one but was encoded, places in it aren't told.
+/// Returns the diagnostic of such a fault. An encoded text isn't the given one: its line and column aren't told.
 pub fn text_diagnostic(
     alloc: Global,
     text: &[u8],
@@ -47,11 +50,10 @@ pub fn text_diagnostic(
     let mut diagnostic = Diagnostic::new(alloc);
     match fault {
         TextFault::TooLong => {
-            let message = "The text has more than 67,108,864 bytes.".to_string(alloc)?;
-            diagnostic.tell(message, SPLIT);
+            diagnostic.tell("The text has more than 67,108,864 bytes.", SPLIT)?;
         }
         TextFault::NotJson => match TextForm::of(text) {
-            Some(form) => tell_form(alloc, form, &mut diagnostic)?,
+            Some(form) => tell_form(form, &mut diagnostic)?,
             None => tell_not_json(alloc, text, is_given, &mut diagnostic)?,
         },
         TextFault::NotWhole => tell_fraction(alloc, text, &mut diagnostic)?,
@@ -59,12 +61,8 @@ pub fn text_diagnostic(
     Ok(diagnostic)
 }
 
-/// Says what form a text has that isn't JSON.
-fn tell_form(
-    alloc: Global,
-    form: TextForm,
-    diagnostic: &mut Diagnostic,
-) -> Result<(), OutOfMemory> {
+/// Tells the form of a text in place of JSON.
+fn tell_form(form: TextForm, diagnostic: &mut Diagnostic) -> Result<(), OutOfMemory> {
     diagnostic.details.text("form", form.name())?;
     let (message, cure) = match form {
         TextForm::Empty => ("The text is empty.", RESTORE),
@@ -74,11 +72,10 @@ fn tell_form(
         ),
         TextForm::Utf16 => ("The text is in UTF-16, and JSON is read in UTF-8.", AS_UTF8),
     };
-    diagnostic.tell(message.to_string(alloc)?, cure);
-    Ok(())
+    diagnostic.tell(message, cure)
 }
 
-/// Says why a text isn't JSON, and where reading it stopped.
+/// Says why a text isn't JSON, and the place of the first error.
 fn tell_not_json(
     alloc: Global,
     text: &[u8],
@@ -86,10 +83,7 @@ fn tell_not_json(
     diagnostic: &mut Diagnostic,
 ) -> Result<(), OutOfMemory> {
     match Value::from_slice(alloc, text) {
-        Ok(_tree) => {
-            diagnostic.tell("The text isn't JSON.".to_string(alloc)?, REPAIR);
-            Ok(())
-        }
+        Ok(_tree) => diagnostic.tell("The text isn't JSON.", REPAIR),
         Err(error) if error.is_memory() => Err(OutOfMemory),
         Err(error) => tell_error(alloc, &error, is_given, diagnostic),
     }
@@ -108,12 +102,8 @@ fn tell_error(
         .split_once(" at line ")
         .unwrap_or((shown.as_str(), ""));
     diagnostic.details.text("reason", reason)?;
-    let (line, column) = (error.line(), error.column());
-    if is_given && line > 0 {
-        diagnostic.details.number("line", line)?;
-        diagnostic.details.number("column", column)?;
-        let place = format!(in alloc; "line {line}, column {column}")?;
-        diagnostic.narrow(place.as_str())?;
+    if is_given {
+        narrow_to_error(error, diagnostic)?;
     }
     let message = if error.is_eof() {
         "The text isn't JSON: it ends too early."
@@ -122,11 +112,21 @@ fn tell_error(
     } else {
         "The text isn't JSON."
     };
-    diagnostic.tell(message.to_string(alloc)?, REPAIR);
+    diagnostic.tell(message, REPAIR)
+}
+
+/// Narrows the place to an error's line and column, if it has them.
+fn narrow_to_error(error: &Error, diagnostic: &mut Diagnostic) -> Result<(), OutOfMemory> {
+    let (line, column) = (error.line(), error.column());
+    if line > 0 {
+        diagnostic.details.number("line", line)?;
+        diagnostic.details.number("column", column)?;
+        write!(diagnostic.narrowed()?, "line {line}, column {column}")?;
+    }
     Ok(())
 }
 
-/// Says which number isn't a whole number of 64 bits, and where it is.
+/// Tells the first number outside the whole numbers of 64 bits, and its path.
 fn tell_fraction(
     alloc: Global,
     text: &[u8],
@@ -136,24 +136,23 @@ fn tell_fraction(
     let steps = path_to_fraction(alloc, &tree)?;
     let path = path_text(alloc, steps.as_slice())?;
     diagnostic.details.text("path", path.as_str())?;
-    diagnostic.narrow(path.as_str())?;
-    let value = numeral_at(alloc, text, steps.as_slice())?;
-    let message = match value {
-        Some(value) => {
-            diagnostic.details.text("value", value.as_str())?;
-            fraction_message(alloc, value.as_str())?
-        }
-        None => fraction_message(alloc, "")?,
-    };
-    diagnostic.tell(message, DECIMALS);
-    Ok(())
+    diagnostic.narrowed()?.push_str(path.as_str())?;
+    match numeral_at(alloc, text, steps.as_slice())? {
+        Some(value) => tell_numeral(value.as_str(), diagnostic),
+        None => diagnostic.tell(NO_WHOLE, DECIMALS),
+    }
 }
 
-fn fraction_message(alloc: Global, value: &str) -> Result<String, OutOfMemory> {
-    let message = if value.is_empty() || value.len() > SHOWN {
-        "A number isn't a whole number of 64 bits.".to_string(alloc)?
-    } else {
-        format!(in alloc; "The number {value} isn't a whole number of 64 bits.")?
-    };
-    Ok(message)
+/// Tells such a number, as written in the text.
+fn tell_numeral(value: &str, diagnostic: &mut Diagnostic) -> Result<(), OutOfMemory> {
+    diagnostic.details.text("value", value)?;
+    if value.len() > SHOWN {
+        return diagnostic.tell(NO_WHOLE, DECIMALS);
+    }
+    write!(
+        diagnostic.message,
+        "The number {value} isn't a whole number of 64 bits."
+    )?;
+    diagnostic.cure = DECIMALS;
+    Ok(())
 }

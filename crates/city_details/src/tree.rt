@@ -3,7 +3,7 @@ use city_model::OutOfMemory;
 use serde_json::Value;
 use std::alloc::Global;
 
-/// The tree of a text; `null` where the text isn't JSON. It fails only when out of memory.
+/// Returns the tree of a text, or `null` if the text isn't JSON. Fails only if memory runs out.
 pub fn tree_of(alloc: Global, text: &[u8]) -> Result<Value, OutOfMemory> {
     match Value::from_slice(alloc, text) {
         Ok(tree) => Ok(tree),

@@ -1,4 +1,4 @@
-//! The verb `board`: viewers of a board whose poster is a desk's shelf.
+//! The verb `board`: viewers of a board, with its poster as a desk's shelf.
 ghost use Rattle.std.specs.Prelude.{◌≡◌, ◌≤◌, [], IfSome};
 ghost use Rattle.city_model.specs.CityMap.{object_at};
 ghost use Rattle.city_model.specs.Relations.{IsLawful};
@@ -19,7 +19,7 @@ use city_model::sequence::Sequence;
 use std::alloc::Global;
 use std::sync::Wait;
 
-/// Takes the steps at a board of so many seats, and answers each, and then the model that is left.
+/// Takes the steps at a board of so many seats, and answers each; the final model follows.
 pub fn play_board<R: Wait>(
     rt: &R,
     alloc: Global,
@@ -73,7 +73,7 @@ fn board_over<'r, R: Wait>(
     board(rt, alloc, copy, seats).ok()
 }
 
-/// Takes the steps at a desk over the city of a board, whose shelf is the board's poster.
+/// Takes the steps at a desk over the city of a board, with the board's poster as its shelf.
 fn play_posted<R: Wait + Drop, Q: Wait>(
     rt: &Q,
     alloc: Global,
@@ -94,7 +94,7 @@ fn play_posted<R: Wait + Drop, Q: Wait>(
     }
 }
 
-/// A desk whose shelf is the poster of a board, and the board's viewers.
+/// A desk with the poster of a board as its shelf, and the board's viewers.
 #[derive(Drop)]
 struct Seated<'q, R: Wait + Drop, Q: Wait> {
     rt: &'q Q,
@@ -102,7 +102,7 @@ struct Seated<'q, R: Wait + Drop, Q: Wait> {
     viewers: Vec<Viewer>,
 }
 
-/// Takes the steps, and adds the model that is left.
+/// Takes the steps, and adds the final model.
 fn play_at<R: Wait + Drop, Q: Wait>(
     alloc: Global,
     mut seated: Seated<R, Q>,
@@ -115,7 +115,7 @@ fn play_at<R: Wait + Drop, Q: Wait>(
     add_city(alloc, &city, answer);
 }
 
-/// A step runs the next script, shows what was committed, or has a viewer look.
+/// A step runs the next script, shows the commits, or has a viewer look.
 impl<R: Wait + Drop, Q: Wait> TakesSteps for Seated<'_, R, Q> {
     fn take_step(&mut self, _alloc: Global, step: &str, said: &mut Written) {
         match step {
@@ -129,7 +129,7 @@ impl<R: Wait + Drop, Q: Wait> TakesSteps for Seated<'_, R, Q> {
     }
 }
 
-/// The most turns that a script is given.
+/// Most turns of a script.
 const TURNS: usize = 2000;
 
 /// Runs the next script to its end.
@@ -145,12 +145,12 @@ fn end_next<S: Shelf>(desk: &mut Desk<S>) -> &'static str {
     "no end"
 }
 
-/// The seat of the viewer that looks in a step.
+/// The seat of the viewer in a step.
 fn seat_of(step: &str) -> Option<usize> {
     step.strip_prefix("look ")?.parse::<usize>().ok()
 }
 
-/// Has the viewer of a step's seat look, and says what it sees.
+/// Has the viewer of a step's seat look, and adds its view.
 fn look_at(viewers: &mut Vec<Viewer>, step: &str, said: &mut Written) {
     match seat_of(step) {
         Some(seat) if seat < viewers.len() => {
@@ -163,7 +163,7 @@ fn look_at(viewers: &mut Vec<Viewer>, step: &str, said: &mut Written) {
     }
 }
 
-/// Writes down how many edits a viewer sees, and which objects.
+/// Adds the number of edits seen by a viewer, and the ids of its objects.
 fn looked(viewer: Viewer, said: &mut Written) -> Viewer {
     match viewer.look() {
         Ok(look) => {
@@ -177,7 +177,7 @@ fn looked(viewer: Viewer, said: &mut Written) -> Viewer {
     }
 }
 
-/// Adds how many edits there are, and the ids of a city's objects, a space before each.
+/// Adds the number of edits and the ids of a city's objects, with a space before each.
 fn add_seen(edits: u64, city: &City, said: &mut Written) {
     said.show(&edits);
     for (id, _) in city.iter() {

@@ -1,4 +1,4 @@
-//! The verb `body`: what is wrong with the bodies of puts.
+//! The verb `body`: faults of bodies.
 use crate::scripts::add_script_fault;
 use crate::written::Written;
 use city_doc::read_scripts;
@@ -11,7 +11,7 @@ use city_model::shape::Bounds;
 use city_model::shells::shell_closed;
 use std::alloc::Global;
 
-/// Answers what is wrong with each body that a text of scripts puts, and whether each shell of it is closed.
+/// Answers with the fault of each body in the puts of a text of scripts, and whether each of its shells is closed.
 pub fn play_body(alloc: Global, scripts: &[u8], answer: &mut Written) {
     match read_scripts(alloc, scripts) {
         Ok(scripts) => add_scripts(alloc, scripts.as_slice(), answer),
@@ -36,7 +36,7 @@ fn add_bodies(alloc: Global, commands: &[Command], answer: &mut Written) {
     }
 }
 
-/// Adds the name of the cause that is wrong with a body, or `none`.
+/// Adds the name of a body's fault, or `none`.
 fn add_cause(alloc: Global, body: &Body, answer: &mut Written) {
     match body_fault(alloc, body) {
         Ok(cause) => answer.add_line(name_of(&cause)),

@@ -3,7 +3,7 @@ use crate::written::Written;
 use city_canonical::{CanonicalFault, canonical};
 use std::alloc::Global;
 
-/// Answers the canonical form of a text, or why it has none; and where its canonical form has another one, that.
+/// Answers with the canonical form of a text, or its fault; and with the form's own canonical form if it is another.
 pub fn play_canonical(alloc: Global, text: &[u8], answer: &mut Written) {
     match canonical(alloc, text) {
         Ok(form) => {
@@ -14,7 +14,7 @@ pub fn play_canonical(alloc: Global, text: &[u8], answer: &mut Written) {
     }
 }
 
-/// Adds the canonical form of a canonical form, where it is another.
+/// Adds the canonical form of a canonical form, if it is another.
 fn add_again(alloc: Global, form: &[u8], answer: &mut Written) {
     match canonical(alloc, form) {
         Ok(again) if again.as_slice() == form => {}

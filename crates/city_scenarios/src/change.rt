@@ -2,7 +2,7 @@
 use crate::written::Written;
 use city_model::change::Change;
 
-/// Adds a word, and the ids that a change sets, each after a `+`, and takes out, each after a `-`.
+/// Adds a word and the ids of a change, with a `+` before each set one and a `-` before each removed one.
 pub fn add_change(word: &str, change: &Change, said: &mut Written) {
     said.add(word);
     for (id, object) in change.iter() {

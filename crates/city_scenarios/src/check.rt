@@ -5,7 +5,7 @@ use city_model::OutOfMemory;
 use std::alloc::Global;
 use std::fmt::Display;
 
-/// Answers a line for each fault of a text, which is a `document` or `scripts`, or `none`.
+/// Answers with a line for each fault of a text, a `document` or `scripts`, or `none`.
 pub fn play_check(alloc: Global, kind: &str, text: &[u8], answer: &mut Written) {
     match kind {
         "document" => add_faults(faults_of(alloc, text), answer),

@@ -1,4 +1,4 @@
-//! The verb `words`: what the words of a command line ask for.
+//! The verb `words`: command lines parsed.
 use crate::steps::TakesSteps;
 use crate::written::Written;
 use city_model::OutOfMemory;
@@ -6,7 +6,7 @@ use city_serve::command_line::{Asked, LineFault, asked_by};
 use city_serve::{Destination, Options};
 use std::alloc::Global;
 
-/// Each step is a command line, and is answered what it asks for.
+/// Each step is a command line, answered by its parse.
 #[derive(Clone, Copy)]
 pub struct CommandLines;
 
@@ -28,7 +28,7 @@ pub fn words_of(alloc: Global, line: &str) -> Result<Vec<String>, OutOfMemory> {
     Ok(words)
 }
 
-/// Adds what words ask for: a word and the names, or the first line of the text that is shown.
+/// Adds the parse of a command line: a word and the names, or the first line of the shown text.
 fn add_asked(alloc: Global, words: &[String], said: &mut Written) {
     match asked_by(alloc, words) {
         Ok(Asked::Input(options, destination)) => add_input(options, destination, said),
@@ -42,8 +42,7 @@ fn add_asked(alloc: Global, words: &[String], said: &mut Written) {
     }
 }
 
-/// Adds a word, how many workers and viewers there are, a word where numbers of any form are taken, and one where a
-/// fault is explained.
+/// Adds a word, the numbers of workers and viewers, and a word each for `--decimals` and `--explain`.
 fn add_options(word: &str, options: Options, said: &mut Written) {
     said.add(word);
     said.add(" ");
@@ -54,7 +53,7 @@ fn add_options(word: &str, options: Options, said: &mut Written) {
     said.add(if options.explain { " explain" } else { "" });
 }
 
-/// Adds the file that gets the model, if there is one, and a word where it gets all or nothing.
+/// Adds the output file of the model, if there is one, and a word for all or nothing.
 fn add_destination(destination: Destination<'_>, said: &mut Written) {
     if let Some(file) = destination.file {
         said.add(" output=");

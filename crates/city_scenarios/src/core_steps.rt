@@ -16,7 +16,7 @@ use city_model::script::{Script, is_end};
 use city_txn::{Core, Prepared, Step, TxnFault};
 use std::alloc::Global;
 
-/// Takes the steps with a core over a document, and answers each, and then the model that is left.
+/// Takes the steps with a core over a document, and answers each; the final model follows.
 pub fn play_core(alloc: Global, document: &[u8], lines: &str, answer: &mut Written) {
     match read_city(alloc, document) {
         Ok(city) => play_over(alloc, city, lines, answer),
@@ -71,7 +71,7 @@ fn add_done(done: Result<(), TxnFault>, said: &mut Written) {
     }
 }
 
-/// Adds whether a transaction may commit: what it would change, or why not.
+/// Adds whether a transaction may commit: its change, or the cause of its refusal.
 fn add_prepared(alloc: Global, prepared: Result<Prepared, TxnFault>, said: &mut Written) {
     match prepared {
         Ok(Prepared::Ready(change)) => add_change("ready", &change, said),
@@ -88,7 +88,7 @@ fn add_refusal(alloc: Global, refusal: Result<Option<Cause>, TxnFault>, said: &m
     }
 }
 
-/// Adds what a commit changes, or why it is refused.
+/// Adds the change of a commit, or the cause of its refusal.
 fn commit(core: &mut Core, alloc: Global, stamp: u64, said: &mut Written) {
     if !core.is_open(stamp) {
         return add_fault(TxnFault::NotOpen(stamp), said);
@@ -102,7 +102,7 @@ fn commit(core: &mut Core, alloc: Global, stamp: u64, said: &mut Written) {
     }
 }
 
-/// Adds what the command of a text is answered, which is read as that of a script.
+/// Adds the answer to a command, read from its text as the command of a script.
 fn act_by(core: &mut Core, alloc: Global, stamp: u64, command: &str, said: &mut Written) {
     let Ok(text) = format!(in alloc; "[{{\"name\":\"s\",\"commands\":[{command},\"commit\"]}}]")
     else {
@@ -114,7 +114,7 @@ fn act_by(core: &mut Core, alloc: Global, stamp: u64, command: &str, said: &mut 
     }
 }
 
-/// Adds what the first command of a script is answered.
+/// Adds the answer to the first command of a script.
 fn act_first(core: &mut Core, alloc: Global, stamp: u64, scripts: &[Script], said: &mut Written) {
     if let Some(script) = scripts.first() {
         if let Some(command) = script.commands().first() {
@@ -126,7 +126,7 @@ fn act_first(core: &mut Core, alloc: Global, stamp: u64, scripts: &[Script], sai
     said.add("no command");
 }
 
-/// Adds the answer to a command, after a word where `would_wait` foretold another.
+/// Adds the answer to a command, behind a word if `would_wait` foretold another.
 fn act(core: &mut Core, alloc: Global, stamp: u64, command: &Command, said: &mut Written)
     requires { is_end command.now ≡ false }
 {

@@ -13,23 +13,23 @@ use std::alloc::Global;
 use std::sync::Wait;
 use std::thread::Threads;
 
-/// What is reported of a run.
+/// The report of a run.
 #[derive(Clone, Copy)]
 pub enum Told {
-    /// The bytes that a writer gets.
+    /// The bytes written.
     Bytes,
-    /// The same, of texts whose numbers have any form.
+    /// The same with `--decimals`.
     Decimals,
-    /// The same, of texts that are lent.
+    /// The same of lent texts.
     Lent,
-    /// That its scripts give the same when they are played one at a time in the order of their ends.
+    /// Whether the scripts give the same, played one at a time in the order of their ends.
     History,
     /// The same, and then the model.
     Model,
 }
 
-/// Runs the scripts by each of the crews, written as `4x1` for four workers before one viewer, and answers what is
-/// reported of the run: once, where it is the same each time, and else after the crew.
+/// Runs the scripts by each of the crews, written as `4x1` for four workers and one viewer, and answers with the
+/// report: once if it is always the same, else behind the crew.
 pub fn play_crews<T: Threads + Wait + Sync>(
     rt: &T,
     alloc: Global,
@@ -50,7 +50,7 @@ pub fn play_crews<T: Threads + Wait + Sync>(
     }
 }
 
-/// The options that a crew stands for.
+/// The options of a crew.
 fn options_of(crew: &str, decimals: bool) -> Options
     ensures { AreWithin result }
 {
@@ -63,7 +63,7 @@ fn options_of(crew: &str, decimals: bool) -> Options
     }
 }
 
-/// Runs the scripts by one crew, and answers what is reported of the run.
+/// Runs the scripts by one crew, and adds the report.
 fn play_crew<T: Threads + Wait + Sync>(
     rt: &T,
     alloc: Global,
@@ -81,7 +81,7 @@ fn play_crew<T: Threads + Wait + Sync>(
     }
 }
 
-/// Runs the scripts by the crew's own call, which gives their ends, and adds what is reported of the run.
+/// Runs the scripts by `run_crew`, for their ends, and adds the report.
 fn add_ran<T: Threads + Wait + Sync>(
     rt: &T,
     alloc: Global,
@@ -100,7 +100,7 @@ fn add_ran<T: Threads + Wait + Sync>(
     }
 }
 
-/// Adds what is reported of a run's output, whose viewers must have seen all commits at last.
+/// Adds the report of a run's output, if its viewers saw all commits in the end.
 fn add_output(
     alloc: Global,
     told: Told,
@@ -124,7 +124,7 @@ fn add_output(
     }
 }
 
-/// Adds how many ends a history has, or the model that it leaves.
+/// Adds the number of a history's ends, or its final model.
 fn add_history(told: Told, ends: usize, bytes: &[u8], answer: &mut Written) {
     if matches!(told, Told::Model) {
         let lines = str::from_utf8(bytes).unwrap_or("");
@@ -135,7 +135,7 @@ fn add_history(told: Told, ends: usize, bytes: &[u8], answer: &mut Written) {
     answer.add_line(" ends");
 }
 
-/// How many of these ends are commits.
+/// The number of commits among these ends.
 fn commits(ends: &[End]) -> u64 {
     let mut commits = 0u64;
     for end in ends {

@@ -1,4 +1,4 @@
-//! The verbs `lines` and `explain`: what is told of the faults of a text.
+//! The verbs `lines` and `explain`: diagnostics of a text.
 use crate::written::Written;
 use city_diagnostics::{check_document, check_scripts, explain_document, explain_scripts};
 use city_doc::{faults_of, script_faults_of};
@@ -6,7 +6,7 @@ use city_model::OutOfMemory;
 use std::alloc::Global;
 use std::fmt::Display;
 
-/// Answers the line of each fault of a text, which is a `document` or `scripts`, or `none`.
+/// Answers with the line of each fault of a text, a `document` or `scripts`, or `none`.
 pub fn play_lines(alloc: Global, kind: &str, text: &[u8], answer: &mut Written) {
     let lines = match kind {
         "document" => check_document(alloc, text, true),
@@ -20,7 +20,7 @@ pub fn play_lines(alloc: Global, kind: &str, text: &[u8], answer: &mut Written) 
     }
 }
 
-/// Answers for each fault how it shows, and what is told of it to a person.
+/// Answers with each fault by its `Display`, and its explanation for a person.
 pub fn play_explain(alloc: Global, kind: &str, text: &[u8], answer: &mut Written) {
     let explained = match kind {
         "document" => explain_faults(alloc, text, answer),

@@ -6,7 +6,7 @@ use city_serve::ServeFault;
 use city_serve::fault_line::fault_line;
 use std::alloc::Global;
 
-/// Adds the line that reports a fault.
+/// Adds the line of a fault.
 pub fn add_fault(alloc: Global, fault: &ServeFault, answer: &mut Written) {
     match fault_line(alloc, fault) {
         Ok(line) => answer.add_line(line.as_str()),
@@ -14,14 +14,14 @@ pub fn add_fault(alloc: Global, fault: &ServeFault, answer: &mut Written) {
     }
 }
 
-/// Adds the line that says why a run has no output, as the fault shows by itself.
+/// Adds the line of a run's fault, by the fault's own `Display`.
 pub fn add_run_fault(alloc: Global, fault: RunFault, answer: &mut Written) {
     answer.add("cityed: ");
     answer.show(&fault);
     end_fault(alloc, fault, answer);
 }
 
-/// Ends the line of a fault that shows by itself, and adds the line of the program where that is another.
+/// Ends the line of a fault shown by itself, and adds the program's line if it is another.
 pub fn end_fault(alloc: Global, fault: RunFault, answer: &mut Written) {
     let fault = ServeFault::Run(fault);
     match fault_line(alloc, &fault) {

@@ -1,4 +1,4 @@
-//! The verb `faults`: faults that no text has, as they show.
+//! The verb `faults`: faults without a text that has them, by `Display`.
 use crate::steps::TakesSteps;
 use crate::written::Written;
 use city_desk::RunFault;
@@ -6,7 +6,7 @@ use city_doc::{ReadFault, ScriptFault};
 use city_serve::ServeFault;
 use std::alloc::Global;
 
-/// Each step names a fault, and is answered how the fault shows by itself.
+/// Each step names a fault, and is answered by its `Display`.
 #[derive(Clone, Copy)]
 pub struct Faults;
 
@@ -20,7 +20,7 @@ impl TakesSteps for Faults {
     }
 }
 
-/// Adds how a fault of serving shows, or one of a run.
+/// Adds a fault of serving or of a run by its `Display`.
 fn show_fault(step: &str, said: &mut Written) {
     let (kind, name) = step.split_once("::").unwrap_or((step, ""));
     match serve_fault(name) {

@@ -10,8 +10,8 @@ use std::fs;
 use std::sync::Wait;
 use std::thread::Threads;
 
-/// Plays the scenarios of a file, and prints what came of it: whether all went as they say. `threads` is the runtime
-/// again, which is known to have threads only in `main`.
+/// Plays the scenarios of a file, and prints the result. Returns whether all answers were right. `threads` is the
+/// runtime again: only `main` knows that it has threads.
 pub fn play_file<T: Threads + Wait + Sync>(rt: &HostRuntime, threads: &T, name: &str) -> bool {
     let Ok(text) = fs::read_to_string(rt, name) else {
         return fails(rt, name, "not read");
@@ -24,13 +24,13 @@ pub fn play_file<T: Threads + Wait + Sync>(rt: &HostRuntime, threads: &T, name: 
     }
 }
 
-/// Prints how a file fails.
+/// Prints the failure of a file.
 fn fails(rt: &HostRuntime, name: &str, told: &str) -> bool {
     let _ = println!(rt; "{name}: {told}");
     false
 }
 
-/// Plays the scenarios of a text, and says how many there are: none where one fails, which is told.
+/// Plays the scenarios of a text, and returns their number. If one fails, it is told, and the result is None.
 fn play_text<T: Threads + Wait + Sync>(
     rt: &T,
     alloc: Global,
@@ -41,8 +41,7 @@ fn play_text<T: Threads + Wait + Sync>(
     play_parts(rt, alloc, &mut names, text, told)
 }
 
-/// Plays the parts of a text, between two of which there is an empty line: a comment, a text that is named, or a
-/// scenario.
+/// Plays the parts of a text, with an empty line between two: comments, named texts, and scenarios.
 fn play_parts<'a, T: Threads + Wait + Sync>(
     rt: &T,
     alloc: Global,
@@ -66,7 +65,7 @@ fn play_parts<'a, T: Threads + Wait + Sync>(
     Ok(Some(count))
 }
 
-/// Plays a scenario: whether it goes as it says. Else it is told how it goes.
+/// Plays a scenario. Returns whether its answer is right; if not, the difference is told.
 fn play_part<T: Threads + Wait + Sync>(
     rt: &T,
     alloc: Global,
@@ -84,7 +83,7 @@ fn play_part<T: Threads + Wait + Sync>(
     Ok(is_wanted(scenario.title, wanted.as_slice(), came.as_slice(), told))
 }
 
-/// What a scenario is answered.
+/// The answer to a scenario.
 fn played<T: Threads + Wait + Sync>(
     rt: &T,
     alloc: Global,
@@ -97,7 +96,7 @@ fn played<T: Threads + Wait + Sync>(
     came.whole()
 }
 
-/// What each line means.
+/// The meaning of each line.
 fn texts_of<'t>(
     alloc: Global,
     names: &'t [Named],
@@ -110,7 +109,7 @@ fn texts_of<'t>(
     Ok(texts)
 }
 
-/// What the lines mean, each ended by a newline.
+/// The meaning of the lines, each ended by a newline.
 fn wanted_of(alloc: Global, names: &[Named], lines: &str) -> Result<Vec<u8>, OutOfMemory> {
     let mut wanted = Written::new(alloc);
     for line in lines.lines() {

@@ -12,22 +12,21 @@ use std::alloc::Global;
 use std::cell::Cell;
 use std::io;
 
-/// The system's number of the error that there is no such file.
+/// The system's number for a missing file.
 const MISSING: i32 = 2;
 
-/// The texts that a file of scenarios names, each as a file of that name. One of them may be replaced, or one that isn't
-/// there be made.
+/// The named texts of a file of scenarios, each as a file of its name. One of them may be replaced, or a new one made.
 ///
-/// Habits: memory is short for the file that stands behind `without`; new files have room for as many bytes as stand
-/// behind `room`; `uncreated`, `unsynced`, `unrenamed` and `unlisted` refuse these steps.
+/// Habits: memory is short for the file named behind `without`; new files have room for the number of bytes behind
+/// `room`; `uncreated`, `unsynced`, `unrenamed` and `unlisted` refuse these steps.
 #[derive(Drop)]
 pub struct Folder<'a> {
     alloc: Global,
     names: &'a [Named<'a>],
     habits: &'a str,
-    /// The steps that were taken, a word for each.
+    /// The steps taken, a word for each.
     steps: Written,
-    /// What was put in the place of a file, with the file's name in the first line.
+    /// The name of the replaced file in the first line, and its new text.
     replaced: Written,
     failed: bool,
     why: Cell<Option<io::Error>>,
@@ -47,12 +46,12 @@ impl<'a> Folder<'a> {
         }
     }
 
-    /// The steps that were taken, each with a space before it, and what was put in the place of a file.
+    /// The steps taken, each with a space before it, and the name and text of the replaced file.
     pub fn left(self) -> Result<(Vec<u8>, Vec<u8>), OutOfMemory> {
         Ok((self.steps.whole()?, self.replaced.whole()?))
     }
 
-    /// Takes a step, or refuses it where the habits have the other word.
+    /// Takes a step, or refuses it if the habits have the other word.
     fn step(&mut self, word: &str, refused: &str) -> bool
         ensures unfailed { result ≡ true → self.new.failed ≡ self.old.failed }
         ensures failed { result ≢ true → self.new.failed ≡ true }

@@ -37,7 +37,7 @@ fn call(table: &mut LockTable, stamp: u64, does: &str, id: &Text, said: &mut Wri
     }
 }
 
-/// Adds the answer to an asker, and what `would_answer` foretold where that is another.
+/// Adds the answer foretold by `would_answer`, behind a word if the real one is another.
 fn ask(table: &mut LockTable, stamp: u64, id: &Text, mode: Mode, said: &mut Written) {
     let foretold = table.would_answer(stamp, id, mode);
     match table.ask(stamp, id, mode) {
@@ -49,7 +49,7 @@ fn ask(table: &mut LockTable, stamp: u64, id: &Text, mode: Mode, said: &mut Writ
     }
 }
 
-/// Adds the mode in which a stamp holds an id.
+/// Adds the mode of a held lock, or `None`.
 fn add_mode(mode: Option<Mode>, said: &mut Written) {
     match mode {
         Some(mode) => said.show_debug(&mode),

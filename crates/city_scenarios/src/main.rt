@@ -1,20 +1,20 @@
-//! Plays scenarios: data files that say what the libraries' public calls answer.
+//! Plays scenarios: data files with the answers of the libraries' public calls.
 //!
-//! Each argument names a file; a line is printed for each, with how many scenarios of it were played, or the first that
-//! failed, with the line that was wanted and the one that came. CONTRIBUTING.md has the format.
+//! Each argument names a file. A line is printed for each, with the number of its scenarios; or the first failed one,
+//! with the wanted line and the line that came. CONTRIBUTING.md has the format.
 //!
-//! - `file`, `scenario`, `named`: a file of scenarios, one of them, and texts that they name
-//! - `play`: which verb plays what; `written`, `fault_lines`, `wanted`: what verbs write, and how it is compared
+//! - `file`, `scenario`, `named`: a file of scenarios, one of them, and their named texts
+//! - `play`: the verbs; `written`, `fault_lines`, `wanted`: their answers, and the comparison
 //! - `document`, `scripts`, `prefixes`: texts read; `pieces`: in how many pieces; `tokens`: from their tokens; `check`:
-//!   all that is wrong with them; `diagnostics`: what is told of that; `body`: bodies judged; `members`: members kept;
+//!   their faults; `diagnostics`: diagnostics of these; `body`: bodies judged; `members`: members kept;
 //!   `faults`: faults shown
 //! - `run`, `crew`, `served`, `replay`: whole runs, by one worker, by several, as the program serves them, and their
 //!   scripts one at a time; `canonical`: a model's canonical form
 //! - `serve`, `reader`, `writer`: from a device to a device; `program`, `folder`, `seen`: the program, over files that
 //!   are texts with names, and the line of a viewer
-//! - `steps`, `turns`: what is taken step by step, a desk; `core_steps`, `reply`, `change`: transactions; `locks`: a
+//! - `steps`, `turns`: steps, a desk; `core_steps`, `reply`, `change`: transactions; `locks`: a
 //!   lock table; `board`: viewers; `shelves`: a change made by hand
-//! - `command_line`, `pool`: what a command line asks for, and points numbered
+//! - `command_line`, `pool`: command lines parsed, and points numbered
 #![tactic(auto)]
 
 mod board;

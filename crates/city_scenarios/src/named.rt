@@ -1,4 +1,4 @@
-//! Texts that a file names, and the pieces that they are made of.
+//! The named texts of a file, and their pieces.
 use crate::written::Written;
 use city_model::OutOfMemory;
 use std::alloc::Global;
@@ -11,7 +11,7 @@ pub struct Named<'a> {
     text: Vec<u8>,
 }
 
-/// What a line stands for: `$NAME` for the text of that name, and any other line for itself.
+/// The meaning of a line: the text of this name for `$NAME`, else the line itself.
 pub fn meant<'t>(names: &'t [Named], line: &'t str) -> &'t [u8] {
     let Some(name) = line.strip_prefix("$") else {
         return line.as_bytes();
@@ -44,8 +44,8 @@ pub fn name_text<'a>(
     Ok(Named { name, text })
 }
 
-/// Adds a piece: `bytes 255 10` is those bytes, `repeat 128 [` is the rest of the line so often, and any other line
-/// is what it means.
+/// Adds a piece: `bytes 255 10` is these bytes, `repeat 128 [` is the rest of the line so often, and any other line
+/// its meaning.
 fn add_piece(names: &[Named], line: &str, text: &mut Written) {
     if let Some(numbers) = line.strip_prefix("bytes ") {
         return add_numbers(numbers, text);
@@ -65,7 +65,7 @@ fn add_numbers(numbers: &str, text: &mut Written) {
     }
 }
 
-/// Adds what a line means, as often as the number before it says. Each `%` in it is the number of the time, from 0.
+/// Adds the meaning of a line, as often as the number before it says. Each `%` is the repetition's number, from 0.
 fn add_repeated(names: &[Named], rest: &str, text: &mut Written) {
     let (count, line) = rest.split_once(" ").unwrap_or((rest, ""));
     let piece = meant(names, line);

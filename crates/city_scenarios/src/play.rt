@@ -1,4 +1,4 @@
-//! Which verb plays what.
+//! The verbs.
 use crate::board::play_board;
 use crate::body::play_body;
 use crate::canonical::play_canonical;
@@ -29,7 +29,7 @@ use std::alloc::Global;
 use std::sync::Wait;
 use std::thread::Threads;
 
-/// Plays a scenario's verb on its texts, among those that have names, and adds what it answers.
+/// Plays a scenario's verb on its texts, and adds the answer. `names` are the named texts of its file.
 pub fn play<T: Threads + Wait + Sync>(
     rt: &T,
     alloc: Global,

@@ -6,7 +6,7 @@ use city_model::OutOfMemory;
 use city_model::object::Point;
 use std::alloc::Global;
 
-/// A step is the three numbers of a point, which is added and answered by its own number.
+/// A step is the three coordinates of a point. The point is added, and its number is the answer.
 impl TakesSteps for VertexPool {
     fn take_step(&mut self, _alloc: Global, step: &str, said: &mut Written) {
         let mut numbers = step.split_whitespace();

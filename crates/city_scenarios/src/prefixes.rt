@@ -5,8 +5,8 @@ use crate::written::Written;
 use std::alloc::Global;
 use std::thread::Threads;
 
-/// Answers what each proper prefix of a text, of scripts or of a document, is answered, the empty one first: a line
-/// where it isn't what the prefix before it was.
+/// Answers with the answers to all proper prefixes of a text of scripts or of a document, the empty one first. An
+/// answer equal to the one before is left out.
 pub fn play_prefixes<T: Threads + Sync>(
     rt: &T,
     alloc: Global,

@@ -14,9 +14,9 @@ use std::alloc::Global;
 use std::sync::Wait;
 use std::thread::Threads;
 
-/// Runs the program with a line of words, and with the habits behind a `|`, and answers its status, what stands on
-/// standard output and on standard error, and what steps replaced a file, by what. The files are the texts with names, and standard input is made of the
-/// scenario's own texts.
+/// Runs the program with a line of words, and with the habits behind a `|`. Answers with its status, its standard
+/// output and standard error, the steps on files, and a replaced file. The files are the named texts; standard input
+/// is the scenario's own texts.
 pub fn play_program<T: Threads + Wait + Sync>(
     rt: &T,
     alloc: Global,
@@ -41,42 +41,84 @@ fn run_line<T: Threads + Wait + Sync>(
     let (line, habits) = line.split_once("|").unwrap_or((line, ""));
     let words = words_of(alloc, line)?;
     let input = joined(alloc, texts)?;
-    let mut output = Taking::new(alloc, Writes::told(habits, None));
-    let mute = if habits.contains("mute") {
-        "full 0"
-    } else {
-        ""
-    };
-    let mut errors = Taking::new(alloc, Writes::told(mute, None));
+    let mut streams = Streams::new(alloc, habits);
     let mut files = Folder::new(alloc, names, habits);
-    let status = run_program(
+    let status = run(
+        rt,
+        alloc,
+        habits,
+        words.as_slice(),
+        input.as_slice(),
+        &mut files,
+        &mut streams,
+    );
+    add_status(status, answer);
+    streams.add_to(alloc, habits.contains("sorted"), answer)?;
+    add_files(files, answer)
+}
+
+/// Runs the program with these words, habits and input.
+fn run<T: Threads + Wait + Sync>(
+    rt: &T,
+    alloc: Global,
+    habits: &str,
+    words: &[String],
+    input: &[u8],
+    files: &mut Folder,
+    streams: &mut Streams,
+) -> Status {
+    run_program(
         rt,
         alloc,
         &OpenGate,
         FIXED_SEED,
-        &mut files,
-        words.as_slice(),
-        &mut Device::new(Giving::new(Reads::told(habits), input.as_slice())),
-        &mut Device::new(&mut output),
-        &mut Device::new(&mut errors),
+        files,
+        words,
+        &mut Device::new(Giving::new(Reads::told(habits), input)),
+        &mut Device::new(&mut streams.output),
+        &mut Device::new(&mut streams.errors),
         habits.contains("terminal"),
-    );
-    add_status(status, answer);
-    let sorted = habits.contains("sorted");
-    add_stream(
-        alloc,
-        "standard output",
-        sorted,
-        output.into_written(),
-        answer,
-    )?;
-    add_stream(
-        alloc,
-        "standard error",
-        sorted,
-        errors.into_written(),
-        answer,
-    )?;
+    )
+}
+
+/// Standard output and standard error.
+#[derive(Drop)]
+struct Streams {
+    output: Taking,
+    errors: Taking,
+}
+
+impl Streams {
+    /// Empty streams with these habits; `mute` is standard error's.
+    fn new(alloc: Global, habits: &str) -> Streams {
+        let mute = if habits.contains("mute") {
+            "full 0"
+        } else {
+            ""
+        };
+        Streams {
+            output: Taking::new(alloc, Writes::told(habits, None)),
+            errors: Taking::new(alloc, Writes::told(mute, None)),
+        }
+    }
+
+    /// Adds the bytes of both.
+    fn add_to(self, alloc: Global, sorted: bool, answer: &mut Written) -> Result<(), OutOfMemory> {
+        let Streams { output, errors } = self;
+        let errors = errors.into_written();
+        add_stream(
+            alloc,
+            "standard output",
+            sorted,
+            output.into_written(),
+            answer,
+        )?;
+        add_stream(alloc, "standard error", sorted, errors, answer)
+    }
+}
+
+/// Adds the steps on files and a replaced file, if any.
+fn add_files(files: Folder, answer: &mut Written) -> Result<(), OutOfMemory> {
     let (steps, replaced) = files.left()?;
     if !steps.is_empty() {
         answer.add("files");
@@ -95,7 +137,7 @@ fn add_status(status: Status, answer: &mut Written) {
     answer.add("\n");
 }
 
-/// Adds what stands on a stream, if anything does.
+/// Adds the bytes of a stream, if any.
 fn add_stream(
     alloc: Global,
     title: &str,
@@ -118,8 +160,8 @@ fn add_stream(
     )
 }
 
-/// Adds lines in the order of their texts, and without what depends on how scripts take turns: of a script's line what
-/// stands behind its number, and of a viewer's all numbers but the last.
+/// Adds sorted lines without the parts that depend on the turns of scripts: without a script's `since`, and with only
+/// the last of a viewer's numbers.
 fn add_sorted(alloc: Global, text: &str, answer: &mut Written) -> Result<(), OutOfMemory> {
     let mut lines = text.lines().collect::<Vec<&str>>(alloc)?;
     lines.sort()?;

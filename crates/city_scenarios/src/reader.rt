@@ -1,7 +1,7 @@
 //! Readers with habits.
 use std::io::{self, ErrorKind, Read};
 
-/// How a reader gives its bytes.
+/// The habits of a reader.
 #[derive(Clone, Copy, Drop)]
 pub struct Reads {
     /// How many at a time, at most.
@@ -17,7 +17,7 @@ pub struct Reads {
 }
 
 impl Reads {
-    /// The habits that these words describe.
+    /// The habits described by these words.
     pub fn told(words: &str) -> Reads {
         Reads {
             at_a_time: if words.contains("bytewise") {
@@ -33,12 +33,12 @@ impl Reads {
     }
 }
 
-/// The number that stands behind a word.
+/// The number behind a word.
 pub fn number_after(words: &str, word: &str) -> Option<usize> {
     word_after(words, word)?.parse::<usize>().ok()
 }
 
-/// The word that stands behind a word.
+/// The word behind a word.
 pub fn word_after<'t>(words: &'t str, word: &str) -> Option<&'t str> {
     let (_, rest) = words.split_once(word)?;
     rest.split_whitespace().next()

@@ -1,8 +1,7 @@
 //! The scripts of a list of ends, played one at a time in the order of their ends.
 //!
-//! A script is played by the plans of its commands, on a copy of the city that is kept where the
-//! script commits. A script that goes back is played as one that never had the commands since the
-//! mark: the others are done anew. No lock, no transaction and no desk has a part in it.
+//! A script is played by the plans of its commands on a copy of the city, kept if the script commits. If it goes back,
+//! the commands before the mark are done anew, without the others. No lock, transaction or desk has a part in it.
 ghost use Rattle.std.specs.Prelude.{◌≡◌, false, IfOk, OnOk};
 ghost use Rattle.city_model.specs.CityMap.{object_at};
 ghost use Rattle.city_model.specs.Relations.{IsSound};
@@ -36,8 +35,7 @@ fn write(city: &mut City, change: Writes) -> Result<(), OutOfMemory>
     Ok(())
 }
 
-/// The reply to a command that neither ends its script nor is about marks, which is written into the
-/// city.
+/// Performs a command on the city, and returns its reply. The command is no end, and not about marks.
 fn perform(alloc: Global, city: &mut City, command: &Command) -> Result<Reply, OutOfMemory>
     requires no_end { is_end command.now ≡ false }
     requires no_mark { is_mark command.now ≡ false }
@@ -53,7 +51,7 @@ fn perform(alloc: Global, city: &mut City, command: &Command) -> Result<Reply, O
     }
 }
 
-/// Does a command anew that was done before; marks and ways back do nothing to the city.
+/// Does an earlier command anew. Marks and ways back do nothing to the city.
 fn redo(alloc: Global, city: &mut City, command: &Command) -> Result<(), OutOfMemory>
     requires { IsSound (object_at city.old.1) }
     ensures { OnOk result (IsSound (object_at city.new.1)) }
@@ -77,7 +75,7 @@ fn redone(alloc: Global, opening: &City, commands: &[&Command]) -> Result<City, 
     Ok(city)
 }
 
-/// The place of the newest mark of the name.
+/// The place of the newest mark of this name.
 fn newest_mark(commands: &[&Command], name: &Text) -> Option<usize> {
     let mut newest = None;
     for (place, command) in commands.iter().enumerate() {
@@ -90,8 +88,7 @@ fn newest_mark(commands: &[&Command], name: &Text) -> Option<usize> {
     newest
 }
 
-/// Goes back: the commands since the newest mark of the name no longer count, and the others are done
-/// anew.
+/// Goes back: the commands since the newest mark of this name no longer count, and the others are done anew.
 fn go_back(
     alloc: Global,
     opening: &City,
@@ -111,7 +108,7 @@ fn go_back(
     Ok(Reply::WentBack)
 }
 
-/// The reply to a command that doesn't end its script, after those that count of it.
+/// The reply to a command after the counted ones of its script. The command is no end.
 fn reply_to(
     alloc: Global,
     opening: &City,
@@ -131,7 +128,7 @@ fn reply_to(
     }
 }
 
-/// How the command, which is number `number` and ends its script, ends it.
+/// The outcome of a script that ends with this command of this number.
 fn ended(
     alloc: Global,
     city: &City,
@@ -147,8 +144,8 @@ fn ended(
     }
 }
 
-/// Plays the commands on a copy of the opening city, and returns how they end: if none of them ends the script, out of
-/// memory at the next one.
+/// Plays the commands on a copy of the opening city, and returns the outcome. If no command ends the script, it is out
+/// of memory at the next one.
 fn play(
     alloc: Global,
     opening: &City,
@@ -174,8 +171,7 @@ fn play(
     Ok(Outcome::NoMemory(commands.len()))
 }
 
-/// The commands of the script that were tried before it ended: all of them, unless it
-/// ran out of memory.
+/// The commands tried before the script ended: all of them, unless it ran out of memory.
 fn tried<'a>(script: &'a Script, outcome: &Outcome) -> &'a [Command] {
     let commands = script.commands();
     match outcome {
@@ -184,7 +180,7 @@ fn tried<'a>(script: &'a Script, outcome: &Outcome) -> &'a [Command] {
     }
 }
 
-/// Plays the commands on a copy of the city, which is kept where they commit.
+/// Plays the commands on a copy of the city, kept if they commit.
 fn play_on_copy(
     alloc: Global,
     city: &mut City,
@@ -204,8 +200,8 @@ fn play_on_copy(
     }
 }
 
-/// The end of the script of this end when it is played on the city, which changes where the script
-/// commits; none if there is no such script, or memory runs out.
+/// Plays the script of this end on the city, and returns the new end. The city changes if the script commits. Returns
+/// None if there is no such script, or memory runs out.
 fn end_again(alloc: Global, city: &mut City, scripts: &[Script], end: &End) -> Option<End>
     requires { IsSound (object_at city.old.1) }
     ensures { IsSound (object_at city.new.1) }
@@ -234,8 +230,8 @@ fn has_end(ends: &[End], script: usize) -> bool {
     false
 }
 
-/// What the scripts of these ends give on the city, played one at a time in this order. None where a script ends twice,
-/// or since more ends than there were before it.
+/// The output of the scripts of these ends on the city, played one at a time in this order. None if a script ends
+/// twice, or its `since` is larger than the number of ends before it.
 fn replay_scripts(
     alloc: Global,
     city: &mut City,
@@ -255,8 +251,8 @@ fn replay_scripts(
     Some(bytes)
 }
 
-/// Whether the scripts of these ends give these bytes when they are played one at a time in this order: the report, then
-/// the model's text and a newline.
+/// Whether the scripts of these ends, played one at a time in this order, give these bytes: the report, then the
+/// model's text and a newline.
 pub fn is_replayed(
     alloc: Global,
     document: &[u8],

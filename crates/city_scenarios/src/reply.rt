@@ -16,7 +16,7 @@ pub fn add_reply(alloc: Global, reply: Reply, said: &mut Written) {
     }
 }
 
-/// Adds a reply that is no refusal.
+/// Adds a reply other than a refusal.
 fn add_replies(alloc: Global, reply: Reply, said: &mut Written) {
     let mut replies = Sequence::new(alloc);
     match replies.push(reply) {
@@ -34,7 +34,7 @@ pub fn add_cause(alloc: Global, cause: Cause, said: &mut Written) {
     add_part(alloc, replies, outcome, ("{\"at\":0,", ",\"name\":"), said);
 }
 
-/// Adds what stands between two parts of the line of an end.
+/// Adds the text between two parts of the line of an end.
 fn add_part(
     alloc: Global,
     replies: Sequence<Reply>,
@@ -55,7 +55,7 @@ fn add_part(
     }
 }
 
-/// What stands between two parts of a text: the first that is the one, and after it the last that is the other.
+/// The text between the first `one` and the last `other` behind it.
 fn between<'t>(text: &'t [u8], one: &str, other: &str) -> &'t str {
     let text = str::from_utf8(text).unwrap_or("");
     let (_, rest) = text.split_once(one).unwrap_or(("", text));

@@ -8,8 +8,8 @@ use std::alloc::Global;
 use std::sync::Wait;
 use std::thread::Threads;
 
-/// Answers what a run by one worker writes, or why it has no output; and after it what is served of the texts, and what
-/// with numbers of any form, where that is something else.
+/// Answers with the output of a run by one worker, or its fault. Then the same texts are served, without and with
+/// `--decimals`; a different output follows.
 pub fn play_run<T: Threads + Wait + Sync>(
     rt: &T,
     alloc: Global,
@@ -21,14 +21,7 @@ pub fn play_run<T: Threads + Wait + Sync>(
     run_alone(alloc, document, scripts, &mut ran);
     answer.add_written(&ran);
     for (title, decimals) in [("served:", false), ("with --decimals:", true)] {
-        let mut served = Written::new(alloc);
-        let options = Options {
-            workers: 1,
-            viewers: 0,
-            decimals,
-            explain: false,
-        };
-        add_served(rt, alloc, options, document, scripts, &mut served);
+        let served = served(rt, alloc, decimals, document, scripts);
         if served.as_slice() != ran.as_slice() {
             answer.add_line(title);
             answer.add_written(&served);
@@ -36,7 +29,26 @@ pub fn play_run<T: Threads + Wait + Sync>(
     }
 }
 
-/// Adds what a run by one worker writes, or why it has no output.
+/// The output of the texts, served by one worker, or the fault.
+fn served<T: Threads + Wait + Sync>(
+    rt: &T,
+    alloc: Global,
+    decimals: bool,
+    document: &[u8],
+    scripts: &[u8],
+) -> Written {
+    let options = Options {
+        workers: 1,
+        viewers: 0,
+        decimals,
+        explain: false,
+    };
+    let mut served = Written::new(alloc);
+    add_served(rt, alloc, options, document, scripts, &mut served);
+    served
+}
+
+/// Adds the output of a run by one worker, or its fault.
 fn run_alone(alloc: Global, document: &[u8], scripts: &[u8], answer: &mut Written) {
     match run_serial(alloc, document, scripts) {
         Ok(output) => answer.add_lines(output.bytes.as_slice()),

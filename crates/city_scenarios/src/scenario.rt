@@ -1,19 +1,19 @@
-//! A scenario, as it stands in a file.
+//! A scenario of a file.
 
-/// What a scenario has.
+/// The parts of a scenario.
 #[derive(Clone, Copy)]
 pub struct Scenario<'t> {
-    /// What it shows.
+    /// Its purpose.
     pub title: &'t str,
-    /// What is played, and how.
+    /// The verb, and words for it.
     pub verb: &'t str,
-    /// The lines of the texts that it is played on.
+    /// The lines of the verb's texts.
     pub texts: &'t str,
-    /// The lines of the answer, as they stand: those with an arrow are steps.
+    /// The lines of the answer; a line with an arrow is a step.
     pub lines: &'t str,
 }
 
-/// The scenario of these lines: a title, a verb, texts, `----`, the answer. None where one is missing.
+/// The scenario of these lines: a title, a verb, texts, `----`, the answer. None if the title or `----` is missing.
 pub fn scenario_of(part: &str) -> Option<Scenario<'_>> {
     let (title, rest) = part.split_once("\n")?;
     let (head, tail) = rest.split_once("\n----")?;

@@ -1,6 +1,6 @@
 //! The verb `scripts`: a text of scripts read, at once and in pieces.
 use crate::fault_lines::end_fault;
-use crate::pieces::{pieces_of, words_of};
+use crate::pieces::{add_in_pieces, pieces_of, words_of};
 use crate::written::Written;
 use city_desk::RunFault;
 use city_doc::{ScriptFault, read_scripts, read_scripts_by};
@@ -9,8 +9,8 @@ use city_model::sequence::Sequence;
 use std::alloc::Global;
 use std::thread::Threads;
 
-/// Answers a line for each script, with its name and how many commands it has, or why the text is refused. Then the
-/// text is read in each of these pieces; the answer follows where it is another.
+/// Answers with a line for each script, its name and its number of commands, or with the fault of the text. Then the
+/// text is read in each of these pieces; a different answer follows.
 pub fn play_scripts<T: Threads + Sync>(
     rt: &T,
     alloc: Global,
@@ -25,15 +25,11 @@ pub fn play_scripts<T: Threads + Sync>(
         let mut now = Written::new(alloc);
         let scripts = read_scripts_by(rt, alloc, text, pieces_of(word));
         add_read(alloc, scripts, &mut now);
-        if now.as_slice() != read.as_slice() {
-            answer.add("in pieces: ");
-            answer.add_line(word);
-            answer.add_written(&now);
-        }
+        add_in_pieces(word, &read, &now, answer);
     }
 }
 
-/// Adds a line for each script, or why there is none.
+/// Adds a line for each script, or the fault.
 fn add_read(alloc: Global, read: Result<Sequence<Script>, ScriptFault>, answer: &mut Written) {
     match read {
         Ok(scripts) => add_scripts(scripts.as_slice(), answer),
@@ -41,7 +37,7 @@ fn add_read(alloc: Global, read: Result<Sequence<Script>, ScriptFault>, answer: 
     }
 }
 
-/// Adds the line that says why a text of scripts is refused, as the fault shows by itself.
+/// Adds the line of a fault of scripts, by the fault's own `Display`.
 pub fn add_script_fault(alloc: Global, fault: ScriptFault, answer: &mut Written) {
     answer.add("cityed: ");
     answer.show(&fault);

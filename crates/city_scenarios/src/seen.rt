@@ -1,11 +1,11 @@
-//! The verb `seen`: the line that reports what a viewer saw.
+//! The verb `seen`: a viewer's line of the report.
 use crate::steps::TakesSteps;
 use crate::written::Written;
 use city_model::OutOfMemory;
 use city_serve::seen_line::seen_line;
 use std::alloc::Global;
 
-/// Each step is a viewer's number and the numbers of changes that it saw, and is answered the line.
+/// Each step is a viewer's number and the numbers of changes it saw, answered by the line.
 #[derive(Clone, Copy)]
 pub struct SeenLines;
 

@@ -10,8 +10,8 @@ use std::alloc::Global;
 use std::sync::Wait;
 use std::thread::Threads;
 
-/// Serves the input with the habits that the words give its reader and its writer, and answers what the writer has, and
-/// then why the rest wasn't served.
+/// Serves the input through a reader and a writer with the habits of these words. Answers with the writer's bytes, and
+/// the fault if any.
 pub fn play_serve<T: Threads + Wait + Sync>(
     rt: &T,
     alloc: Global,
@@ -38,7 +38,7 @@ pub fn joined(alloc: Global, texts: &[&[u8]]) -> Result<Vec<u8>, OutOfMemory> {
     all.whole()
 }
 
-/// Serves the input, and adds what the writer has, and the line that says why the rest wasn't served.
+/// Serves the input, and adds the writer's bytes, and the line of the fault if any.
 fn serve_once<T: Threads + Wait + Sync>(
     rt: &T,
     alloc: Global,
@@ -54,8 +54,7 @@ fn serve_once<T: Threads + Wait + Sync>(
     answer.add_written(&line);
 }
 
-/// What the writer has, with room for so many bytes if that is said. Adds the line that says why the rest wasn't served,
-/// if it wasn't.
+/// Serves the input to a writer, with this room if any, and returns its bytes. Adds the line of the fault if any.
 fn served<T: Threads + Wait + Sync>(
     rt: &T,
     alloc: Global,
@@ -69,7 +68,7 @@ fn served<T: Threads + Wait + Sync>(
     taking.into_written()
 }
 
-/// Serves the input to a writer, and adds the line that says why the rest wasn't served.
+/// Serves the input to a writer, and adds the line of the fault if any.
 fn serve_to<T: Threads + Wait + Sync>(
     rt: &T,
     alloc: Global,
@@ -85,8 +84,8 @@ fn serve_to<T: Threads + Wait + Sync>(
     }
 }
 
-/// Serves to a writer that has room for each number of bytes below those of the output, and answers why the rest wasn't
-/// served: once, where it is the same each time and the writer has the first bytes.
+/// Serves to a writer with room for each number of bytes below the output's, and answers with the faults: once, if they
+/// are equal and the writer always has the first bytes.
 fn serve_each<T: Threads + Wait + Sync>(
     rt: &T,
     alloc: Global,

@@ -1,4 +1,4 @@
-//! Texts served as the program serves them, which the verbs `run`, `crew`, `decimals` and `texts` are answered by.
+//! Texts served as the program serves them, for the verbs `run`, `crew`, `decimals` and `texts`.
 ghost use Rattle.city_options.specs.RunOptions.{AreWithin};
 
 use crate::fault_lines::add_fault;
@@ -11,7 +11,7 @@ use std::alloc::Global;
 use std::sync::Wait;
 use std::thread::Threads;
 
-/// Serves copies of the two texts, and adds what the writer got, or why it got nothing.
+/// Serves copies of the two texts, and adds the bytes written, or the fault.
 pub fn add_served<T: Threads + Wait + Sync>(
     rt: &T,
     alloc: Global,
@@ -51,7 +51,7 @@ fn serve_copies<T: Threads + Wait + Sync>(
     )
 }
 
-/// The same of two texts that are lent, of whole numbers.
+/// The same for two lent texts of whole numbers.
 pub fn add_lent<T: Threads + Wait + Sync>(
     rt: &T,
     alloc: Global,
@@ -70,7 +70,7 @@ pub fn add_lent<T: Threads + Wait + Sync>(
     add_output(alloc, served, written.as_slice(), viewers, answer);
 }
 
-/// Adds what was written, where each viewer has seen all commits at last.
+/// Adds the bytes written, if each viewer saw all commits in the end.
 fn add_output(
     alloc: Global,
     served: Result<Vec<Vec<u64>>, ServeFault>,
@@ -91,7 +91,7 @@ fn add_output(
     }
 }
 
-/// How many scripts have committed, by the report.
+/// The number of commits in the report.
 fn commits(written: &[u8]) -> u64 {
     let mut commits = 0u64;
     for line in str::from_utf8(written).unwrap_or("").lines() {
@@ -102,7 +102,7 @@ fn commits(written: &[u8]) -> u64 {
     commits
 }
 
-/// Whether each viewer's numbers rise, and the last is that of the commits.
+/// Whether each viewer's numbers rise, up to the number of commits.
 pub fn all_saw(seen: &[Vec<u64>], commits: u64) -> bool {
     for numbers in seen {
         if !saw_all(numbers.as_slice(), commits) {

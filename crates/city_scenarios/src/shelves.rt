@@ -1,4 +1,4 @@
-//! The verb `shelves`: a change that is made by hand, and what takes it.
+//! The verb `shelves`: a change made by hand, and the shelves that take it.
 ghost use Rattle.std.specs.Prelude.{◌≡◌, ◌≤◌, [], IfOk, IfSome, IsTrue, OnOk};
 ghost use Rattle.city_model.specs.CityMap.{CityMap, object_at};
 ghost use Rattle.city_model.specs.Relations.{IsLawful};
@@ -23,9 +23,9 @@ use city_model::text::{Id, Text};
 use std::alloc::Global;
 use std::sync::Wait;
 
-/// Writes a change by steps, of which `set x a` writes the object of `a` in the second document at `x`, and any other
-/// that its id has no object, and answers how many ids it has. A list takes it, a shelf that keeps nothing, and the
-/// poster of a board of so many seats over the first document, whose viewers look once it is shown.
+/// Writes a change by steps: `set x a` writes the object of `a` in the second document at `x`, any other step removes
+/// the object of its id, and the answer is the number of ids. The change is taken by a list, by a shelf that keeps
+/// nothing, and by the poster of a board over the first document. The board's viewers look once it is shown.
 pub fn play_shelves<R: Wait>(
     rt: &R,
     alloc: Global,
@@ -60,7 +60,7 @@ fn play_over<R: Wait>(
     }
 }
 
-/// The change that the steps make, where it leaves a lawful city.
+/// The change made by the steps, if it leaves a lawful city.
 fn read_change(
     alloc: Global,
     city: &City,
@@ -97,8 +97,7 @@ fn make_change(
     Ok(None)
 }
 
-/// Takes the steps, each with a city that is as the change leaves it, and adds what takes the change; whether the city
-/// is lawful then.
+/// Takes the steps, in the change and in a city, and adds the shelves' answers. Returns whether the city is lawful.
 fn is_made(
     alloc: Global,
     objects: &City,
@@ -155,7 +154,7 @@ fn write_step(
     write(alloc, city, change, id, objects.get(&other))
 }
 
-/// Writes the object of an id, or that it has none, into a city and into a change.
+/// Writes the object of an id, or its absence, into a city and a change.
 fn write(
     alloc: Global,
     city: &mut City,
@@ -178,7 +177,7 @@ fn write(
     }
 }
 
-/// Has a shelf that keeps nothing take a change, and a list, and adds what the list has then.
+/// Gives a change to a shelf that keeps nothing and to a list, and adds the list's change.
 fn add_taken(alloc: Global, change: &Change, answer: &mut Written) -> Result<(), OutOfMemory> {
     NullShelf::new().take(change.copy(alloc)?)?;
     let mut list = ListShelf::new(alloc);
@@ -210,7 +209,7 @@ fn post<R: Wait>(
     }
 }
 
-/// Shows a change, and adds what each viewer sees then.
+/// Shows a change, and adds each viewer's view of it.
 fn show<R: Wait + Drop>(
     mut poster: Poster<R>,
     alloc: Global,
@@ -228,7 +227,7 @@ fn show<R: Wait + Drop>(
     }
 }
 
-/// Adds what a viewer sees.
+/// Adds a viewer's number of edits and its city.
 fn add_seen_by(alloc: Global, viewer: Viewer, answer: &mut Written) {
     match viewer.look() {
         Ok(look) => {

@@ -5,8 +5,8 @@ use city_tokens::{city_in_pieces, scripts_in_pieces, streamed_city, streamed_scr
 use std::alloc::Global;
 use std::thread::Threads;
 
-/// Answers whether a text, which is a `document` or `scripts`, is `read` from its tokens, or `left` to be read from its
-/// tree. Of a text in pieces, whether it is read so, or left to be read at once.
+/// Answers whether a text, a `document` or `scripts`, is `read` from its tokens or `left` to be read from its tree;
+/// or, for a text in pieces, whether it is `read` in pieces or `left` to be read at once.
 pub fn play_tokens<T: Threads + Sync>(
     rt: &T,
     alloc: Global,

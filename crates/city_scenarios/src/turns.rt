@@ -1,4 +1,4 @@
-//! The verb `turns`: scripts that take turns at a desk.
+//! The verb `turns`: turns of scripts at a desk.
 ghost use Rattle.city_model.specs.CityMap.{object_at};
 ghost use Rattle.city_model.specs.Relations.{IsLawful};
 
@@ -16,7 +16,7 @@ use city_model::script::Script;
 use city_model::sequence::Sequence;
 use std::alloc::Global;
 
-/// Takes the steps at a desk, and answers each, and then the report, the model and the changes of the commits.
+/// Takes the steps at a desk, and answers each; then come the report, the model and the changes of the commits.
 pub fn play_turns(
     alloc: Global,
     document: &[u8],
@@ -45,7 +45,7 @@ fn play_over(
     }
 }
 
-/// Takes the steps at a desk, and adds what it leaves; it is closed where a script hasn't ended.
+/// Takes the steps at a desk, and adds its output. The desk is closed if a script hasn't ended.
 fn play_at(alloc: Global, mut desk: Desk<ListShelf>, lines: &str, answer: &mut Written) {
     take_steps(&mut desk, alloc, lines, answer);
     match desk.finish() {
@@ -54,14 +54,14 @@ fn play_at(alloc: Global, mut desk: Desk<ListShelf>, lines: &str, answer: &mut W
     }
 }
 
-/// Adds what a desk leaves that is closed.
+/// Closes a desk, and adds its output.
 fn add_closed(alloc: Global, desk: Desk<ListShelf>, answer: &mut Written) {
     let (city, ends, shelf) = desk.close();
     answer.add_line("unfinished");
     add_left(alloc, &city, ends.as_slice(), &shelf, answer);
 }
 
-/// Adds a report and a model, and what each change sets and takes out.
+/// Adds a report, a model, and the ids of each change.
 fn add_left(alloc: Global, city: &City, ends: &[End], shelf: &ListShelf, answer: &mut Written) {
     match output_bytes(alloc, FIXED_SEED, city, ends, 0) {
         Ok((bytes, _)) => answer.add_bytes(bytes.as_slice()),
@@ -77,7 +77,7 @@ fn add_changes(changes: &[Change], answer: &mut Written) {
     }
 }
 
-/// A step is the number of a script whose turn it is, or a word.
+/// A step is the number of a script, for its turn, or a word.
 impl TakesSteps for Desk<ListShelf> {
     fn take_step(&mut self, _alloc: Global, step: &str, said: &mut Written) {
         match step {
@@ -96,7 +96,7 @@ fn add_number(number: Option<usize>, said: &mut Written) {
     }
 }
 
-/// Adds the answer to the turn of a script. A script that was said to be ready doesn't wait.
+/// Adds the answer to the turn of a script. A script said to be ready must not wait.
 fn turn(desk: &mut Desk<ListShelf>, step: &str, said: &mut Written) {
     let number = step.parse::<usize>().unwrap_or(usize::MAX);
     if number >= desk.scripts() {

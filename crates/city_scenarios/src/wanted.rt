@@ -1,10 +1,10 @@
-//! What came, compared with what was wanted.
+//! The answer that came, compared with the wanted one.
 use crate::written::Written;
 
-/// How much of a line is shown.
+/// Most bytes of a line shown.
 const SHOWN: usize = 2000;
 
-/// Whether what was wanted came. Else the first line that differs is told, with a scenario's title.
+/// Whether the two answers are equal. If not, the scenario's title and the first different line are told.
 pub fn is_wanted(title: &str, wanted: &[u8], came: &[u8], told: &mut Written) -> bool {
     if wanted == came {
         return true;
@@ -20,7 +20,7 @@ pub fn is_wanted(title: &str, wanted: &[u8], came: &[u8], told: &mut Written) ->
     false
 }
 
-/// The number of the first line that differs, and where it begins.
+/// The number of the first different line, and its start.
 fn first_unlike(wanted: &[u8], came: &[u8]) -> (u64, usize) {
     let (mut number, mut start) = (1u64, 0usize);
     for (place, (one, other)) in wanted.iter().zip(came).enumerate() {
@@ -35,7 +35,7 @@ fn first_unlike(wanted: &[u8], came: &[u8]) -> (u64, usize) {
     (number, start)
 }
 
-/// Adds the line that begins at a place, each byte that is no text as `?`.
+/// Adds the line that begins at `start`, with `?` for invalid UTF-8.
 fn add_line_at(bytes: &[u8], start: usize, told: &mut Written) {
     let (_, rest) = bytes.split_at(start.min(bytes.len()));
     let (shown, _) = rest.split_at(rest.len().min(SHOWN));

@@ -3,7 +3,7 @@ use crate::reader::number_after;
 use std::alloc::Global;
 use std::io::{self, ErrorKind, Write};
 
-/// How a writer takes bytes.
+/// The habits of a writer.
 #[derive(Clone, Copy, Drop)]
 pub struct Writes {
     /// How many at a time, at most.
@@ -14,7 +14,7 @@ pub struct Writes {
     room: usize,
     /// Whether it takes none then, and doesn't say why.
     stuck: bool,
-    /// Whether it holds what it takes until it is flushed.
+    /// Whether it holds its bytes until a flush.
     holds: bool,
     /// How many flushes are interrupted at first.
     unready: usize,
@@ -23,7 +23,7 @@ pub struct Writes {
 }
 
 impl Writes {
-    /// The habits that these words describe, with room for so many bytes if that is said.
+    /// The habits described by these words. A `room` comes before theirs.
     pub fn told(words: &str, room: Option<usize>) -> Writes {
         let full = number_after(words, "full ");
         let stuck = number_after(words, "stuck ");
@@ -54,7 +54,7 @@ pub struct Taking {
 }
 
 impl Taking {
-    /// A writer that has nothing yet.
+    /// A writer without bytes.
     pub fn new(alloc: Global, habits: Writes) -> Taking {
         Taking {
             habits,
@@ -64,7 +64,7 @@ impl Taking {
         }
     }
 
-    /// What it has.
+    /// Its bytes.
     pub fn into_written(self) -> Vec<u8> {
         self.written
     }
@@ -78,7 +78,7 @@ impl Write for Taking {
         }
         self.interrupts = self.habits.busy;
         if self.habits.room == 0 {
-            // it fails or takes none once, and would take all that comes after
+            // it fails or takes none once, and would take all later bytes
             self.habits.room = usize::MAX;
             if self.habits.stuck {
                 return Ok(0);

@@ -1,10 +1,10 @@
-//! What verbs write, as far as memory goes.
+//! The answers of verbs, as far as memory goes.
 use city_model::OutOfMemory;
 use std::alloc::Global;
 use std::fmt::{self, Debug, Display, Write};
 
-/// Bytes that are written one after another, and whether memory ran out for some of them: who writes goes on, and who
-/// takes all of them is told.
+/// Bytes written one after another, and whether memory ran out for some of them. The writer goes on then; `whole`
+/// returns the error.
 #[derive(Drop)]
 pub struct Written {
     bytes: Vec<u8>,
@@ -33,7 +33,7 @@ impl Written {
         Ok(self.bytes)
     }
 
-    /// Memory ran out for what was to be written.
+    /// Notes that memory ran out.
     pub fn run_out(&mut self) {
         self.short = true;
     }
@@ -45,7 +45,7 @@ impl Written {
         }
     }
 
-    /// Adds bytes, and a newline where they don't end with one.
+    /// Adds bytes, and a newline unless they end with one.
     pub fn add_lines(&mut self, bytes: &[u8]) {
         self.add_bytes(bytes);
         if !bytes.ends_with(b"\n") {
@@ -53,7 +53,7 @@ impl Written {
         }
     }
 
-    /// Adds what is written elsewhere.
+    /// Adds bytes written elsewhere.
     pub fn add_written(&mut self, other: &Written) {
         if other.short {
             self.short = true;
@@ -72,21 +72,21 @@ impl Written {
         self.add("\n");
     }
 
-    /// Adds a value as it shows.
+    /// Adds a value by `Display`.
     pub fn show<T: Display>(&mut self, value: &T) {
         if write!(self, "{value}").is_err() {
             self.short = true;
         }
     }
 
-    /// Adds a value as it shows to a programmer.
+    /// Adds a value by `Debug`.
     pub fn show_debug<T: Debug>(&mut self, value: &T) {
         if write!(self, "{value:?}").is_err() {
             self.short = true;
         }
     }
 
-    /// Adds what is written now, where it isn't what was written last.
+    /// Adds `now` unless it equals `last`.
     pub fn add_unlike(&mut self, last: &mut Written, now: Written) {
         if now.short || now.as_slice() != last.as_slice() {
             self.add_written(&now);

@@ -1,4 +1,4 @@
-//! A viewer of a board whose poster is a desk's shelf, on a thread of its own.
+//! A viewer of a board on a thread of its own; the board's poster is a desk's shelf.
 ghost use Rattle.std.specs.Prelude.{◌≡◌, [], All, IfSome};
 ghost use Rattle.city_model.specs.CityMap.{object_at};
 ghost use Rattle.city_model.specs.Relations.{IsLawful};
@@ -49,7 +49,7 @@ fn board_for_one<'r, R: Wait>(
     Some((poster, viewer))
 }
 
-/// A desk over the city of a board, whose shelf is the board's poster.
+/// A desk over the city of a board, with the board's poster as its shelf.
 fn desk_over<'r, R: Wait>(
     alloc: Global,
     scripts: Sequence<Script>,
@@ -61,12 +61,12 @@ fn desk_over<'r, R: Wait>(
     requires taken { poster.taken ≡ [] }
     ensures { IfSome result (λ desk. desk.1.name ≡ poster.entry.name) }
 {
-    // taken out and put back, since the prover goes by what a `?` takes out
+    // (taken out and put back: the prover knows a value taken out by `?`)
     let desk = Desk::open(alloc, city, scripts, poster).ok()?;
     Some(desk)
 }
 
-/// A desk over a city without objects, with three scripts that put a road each, and its board's one viewer.
+/// A desk over a city without objects, with three scripts of one road each, and its board's one viewer.
 pub fn opened_to_one<'r, R: Wait>(rt: &'r R, alloc: Global) -> Option<(Desk<Poster<&'r R>>, Viewer)>
     ensures { IfSome result (λ r. r.1.name ≡ r.0.1.name) }
 {
@@ -89,7 +89,7 @@ pub fn turn<S: Shelf>(desk: &mut Desk<S>, script: usize) -> Option<Turn>
     }
 }
 
-/// Runs the next script, which has two commands, to its end: whether it ended.
+/// Runs the next script, of two commands, to its end. Returns whether it ended.
 fn end_next<S: Shelf>(desk: &mut Desk<S>) -> bool
     ensures { S.name desk.new.1 ≡ S.name desk.old.1 }
 {
@@ -101,14 +101,14 @@ fn end_next<S: Shelf>(desk: &mut Desk<S>) -> bool
     turn(desk, script) == Some(Turn::Ended)
 }
 
-/// The same at a desk whose shelf is a poster.
+/// The same at a desk with a poster as its shelf.
 pub fn commit_next<R: Wait + Drop>(desk: &mut Desk<Poster<R>>) -> bool
     ensures { desk.new.1.name ≡ desk.old.1.name }
 {
     end_next(desk)
 }
 
-/// Shows all commits so far, and gives a note of them.
+/// Shows all commits so far, and returns a note of them.
 pub fn shown<R: Wait + Drop, Q: Wait>(rt: &Q, desk: &mut Desk<Poster<R>>) -> Option<Note>
     ensures desk { desk.new.1.name ≡ desk.old.1.name }
     ensures note { IfSome result (λ note. note.name ≡ desk.old.1.name) }
@@ -116,8 +116,8 @@ pub fn shown<R: Wait + Drop, Q: Wait>(rt: &Q, desk: &mut Desk<Poster<R>>) -> Opt
     desk.show(rt).ok()
 }
 
-/// How many changes a viewer sees; none where its look is refused, where it sees fewer than before, or
-/// where there isn't an object for each.
+/// The number of changes seen by a viewer. None if its look is refused, if it sees fewer than before, or if the number
+/// of objects is another.
 pub fn counted(viewer: Viewer, before: u64) -> Option<(Viewer, u64)>
     ensures { IfSome result (λ r. r.0.name ≡ viewer.name) }
 {
@@ -133,11 +133,11 @@ pub fn counted(viewer: Viewer, before: u64) -> Option<(Viewer, u64)>
     }
 }
 
-/// How often a viewer looks at most.
+/// Most looks of a viewer.
 const LOOKS: u64 = 10_000_000;
 
-/// Looks until so many changes are seen, and gives how many were: none where a look was refused, saw
-/// fewer changes than the one before, or other objects than one for each.
+/// Looks until so many changes are seen, and returns their number. None if a look is refused, sees fewer changes than
+/// the one before, or another number of objects.
 fn look_on(viewer: Viewer, enough: u64) -> Option<(Viewer, u64)>
     ensures { IfSome result (λ r. r.0.name ≡ viewer.name) }
 {
@@ -151,7 +151,7 @@ fn look_on(viewer: Viewer, enough: u64) -> Option<(Viewer, u64)>
     Some((viewer, last))
 }
 
-/// Ends the three scripts of a desk, shows each commit, and gives a note of the last.
+/// Ends the three scripts of a desk, shows each commit, and returns a note of the last.
 fn drive_all<R: Wait + Drop, Q: Wait>(rt: &Q, desk: &mut Desk<Poster<R>>) -> Option<Note>
     ensures { IfSome result (λ note. note.name ≡ desk.old.1.name) }
 {
@@ -160,7 +160,7 @@ fn drive_all<R: Wait + Drop, Q: Wait>(rt: &Q, desk: &mut Desk<Poster<R>>) -> Opt
     commit_and_show(rt, desk)
 }
 
-/// The same of a desk that it is given and gives back.
+/// The same for an owned desk, which is returned.
 fn drive<R: Wait + Drop, Q: Wait>(rt: &Q, desk: Desk<Poster<R>>) -> (Desk<Poster<R>>, Option<Note>)
     ensures { IfSome result.1 (λ note. note.name ≡ desk.1.name) }
 {
@@ -169,7 +169,7 @@ fn drive<R: Wait + Drop, Q: Wait>(rt: &Q, desk: Desk<Poster<R>>) -> (Desk<Poster
     (desk, note)
 }
 
-/// Ends the next script, and gives a note of all that is shown then.
+/// Ends the next script, and returns a note of all commits shown then.
 fn commit_and_show<R: Wait + Drop, Q: Wait>(rt: &Q, desk: &mut Desk<Poster<R>>) -> Option<Note>
     ensures desk { desk.new.1.name ≡ desk.old.1.name }
     ensures note { IfSome result (λ note. note.name ≡ desk.old.1.name) }
@@ -181,7 +181,7 @@ fn commit_and_show<R: Wait + Drop, Q: Wait>(rt: &Q, desk: &mut Desk<Poster<R>>) 
     }
 }
 
-/// How many changes a viewer sees at last, which saw so many and is told of all.
+/// The final number of changes seen by a viewer that has seen so many and learns of all.
 fn seen_at_last(looked: Option<(Viewer, u64)>, note: Option<Note>) -> Option<u64>
     requires { IfSome looked (λ r. IfSome note (λ n. n.name ≡ r.0.name)) }
 {
@@ -191,7 +191,7 @@ fn seen_at_last(looked: Option<(Viewer, u64)>, note: Option<Note>) -> Option<u64
     Some(edits)
 }
 
-/// How many changes a viewer sees at last that has looked on from a thread of its own.
+/// The final number of changes seen by a viewer on a thread of its own.
 fn seen_beside<R: Threads + Wait + Sync>(rt: &R, alloc: Global) -> Option<u64> {
     let (desk, viewer) = opened_to_one(rt, alloc)?;
     let (looked, driven) = join(

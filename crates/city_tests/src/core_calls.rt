@@ -1,4 +1,4 @@
-//! Calls of a transaction core: each that ran out of memory is made again, and answers then.
+//! Calls of a transaction core: each call out of memory is made again, and answers then.
 ghost use Rattle.city_model.specs.CityMap.{object_at};
 ghost use Rattle.city_model.specs.Relations.{IsLawful};
 
@@ -10,7 +10,7 @@ use city_model::script::is_end;
 use city_txn::{Core, Prepared, Step, TxnFault};
 use std::alloc::Global;
 
-/// What a command came to, in a word.
+/// The outcome of a command.
 fn answer(core: &mut Core, stamp: u64, command: &Command) -> &'static str {
     if is_end(command) {
         return "an end";
@@ -29,7 +29,7 @@ fn word_for(step: &Result<Step, TxnFault>) -> &'static str {
     }
 }
 
-/// Whether each of these commands is done or ends a script, at the second try at the latest.
+/// Whether each of these commands is done or ends a script in at most two tries.
 fn are_done(core: &mut Core, stamp: u64, commands: &[Command]) -> bool {
     commands.iter().all(|command| {
         let first = answer(core, stamp, command);
@@ -42,7 +42,7 @@ fn are_done(core: &mut Core, stamp: u64, commands: &[Command]) -> bool {
     })
 }
 
-/// How many objects a commit changes, at the second try at the latest; none where it is refused.
+/// The number of objects changed by a commit in at most two tries; None if it is refused.
 fn commit(core: &mut Core, stamp: u64) -> Option<usize> {
     if !core.is_open(stamp) {
         return None;
@@ -56,7 +56,7 @@ fn commit(core: &mut Core, stamp: u64) -> Option<usize> {
     }
 }
 
-/// Whether the core leaves the city of this text, which is written at the second try at the latest.
+/// Whether the core leaves the city of this text, written in at most two tries.
 fn leaves(core: Core, alloc: Global, wanted: &str) -> bool {
     match core.into_city() {
         Ok(city) => {
@@ -73,8 +73,7 @@ fn are_committed(core: &mut Core, commands: &[Command], count: usize) -> bool {
     begun && are_done(core, 5, commands) && commit(core, 5) == Some(count)
 }
 
-/// Whether the first command is done, or runs out of memory and leaves nothing that the second finds
-/// or a commit changes.
+/// Whether the first command is done; or runs out of memory and leaves nothing for the second or for a commit.
 fn is_done_or_absent(core: &mut Core, commands: &[Command]) -> bool {
     let [put, read, ..] = commands else {
         return false;
@@ -87,8 +86,8 @@ fn is_done_or_absent(core: &mut Core, commands: &[Command]) -> bool {
     begun && done == "short" && answer(core, 5, read) == "absent" && commit(core, 5) == Some(0)
 }
 
-/// Whether a core over a city does commands, which change so many objects, and leaves the city of this text: where they
-/// change none, the first may be done alone, or not at all.
+/// Whether a core over a city does commands, changes so many objects, and leaves the city of this text. If they change
+/// none, the first may be done alone, or not at all.
 fn is_left(alloc: Global, city: City, commands: &[Command], count: usize, wanted: &str) -> bool
     requires { IsLawful (object_at city.1) }
 {
@@ -102,7 +101,7 @@ fn is_left(alloc: Global, city: City, commands: &[Command], count: usize, wanted
     done && left
 }
 
-/// The same for a document and the commands of a text of one script; none if memory ran out for them.
+/// The same for a document and a text of one script; None if memory ran out for them.
 pub fn is_done(
     alloc: Global,
     document: &str,

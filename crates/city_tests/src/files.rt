@@ -1,4 +1,4 @@
-//! What files give.
+//! Files are read.
 use city_model::OutOfMemory;
 use city_serve::{ServeFault, read_file};
 use std::alloc::Global;

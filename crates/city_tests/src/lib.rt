@@ -1,4 +1,4 @@
-//! Tests that need threads, devices or refused allocations, by public calls; city_scenarios plays all other cases.
+//! Tests with threads, devices or refused allocations, by public calls; city_scenarios plays all other cases.
 #![tactic(auto)]
 
 /// The text of a document of whole units, of these objects and vertices.

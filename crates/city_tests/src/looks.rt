@@ -1,4 +1,4 @@
-//! Viewers hold no look while they tell what they saw: scripts are shown while each viewer is held there.
+//! Viewers hold no look while they report: commits are shown while each viewer is held there.
 use crate::meeting::PATIENT;
 use crate::served::{EMPTY, commits, scripts_of_roads, served};
 use city_crew::Gate;
@@ -8,11 +8,11 @@ use std::sync::atomic::{AtomicU64, Ordering};
 use std::thread;
 use std::thread::Threads;
 
-/// How often a thread looks for the others.
+/// Looks of a thread for the others.
 const LOOKS: u64 = PATIENT / 4;
 
 /// Holds the first script until each viewer has looked, and each viewer after its first look until a later script
-/// begins, before which the others are shown.
+/// begins. The earlier scripts are shown before.
 #[derive(Drop)]
 struct HoldsViewers {
     viewers: u64,
@@ -61,7 +61,7 @@ impl Gate for HoldsViewers {
     }
 }
 
-/// How many scripts have committed, and how many threads went on alone.
+/// The numbers of commits and of threads that went on alone.
 fn run<R: Threads + Wait + Sync>(
     rt: &R,
     alloc: Global,

@@ -1,14 +1,14 @@
-//! Where threads wait for one another, for so many looks at most.
+//! A meeting of threads, with a limit of looks.
 use std::sync::atomic::{AtomicU64, Ordering};
 use std::thread;
 
-/// How often a thread looks for the others before it goes on without them, where they ought to come.
+/// Looks of a thread for the others before it goes on without them, if they ought to come.
 pub const PATIENT: u64 = 20_000_000;
 
-/// The same where they ought not to come.
+/// The same if they ought not to come.
 pub const SHORT: u64 = 200_000;
 
-/// Where threads wait for one another, each with a bit of its own.
+/// A meeting of threads, each with a bit of its own.
 #[derive(Drop)]
 pub struct Meeting {
     all: u64,
@@ -18,7 +18,7 @@ pub struct Meeting {
 }
 
 impl Meeting {
-    /// A meeting of the threads of these bits, each of which looks so often.
+    /// A meeting of the threads of these bits, with so many looks each.
     pub fn of(all: u64, looks: u64) -> Meeting {
         Meeting {
             all,
@@ -28,7 +28,7 @@ impl Meeting {
         }
     }
 
-    /// Whether the thread of this bit is to come.
+    /// Whether the thread of this bit ought to come.
     pub fn awaits(&self, bit: u64) -> bool {
         self.all & bit != 0
     }
@@ -45,7 +45,7 @@ impl Meeting {
         self.missed.fetch_add(1, Ordering::SeqCst);
     }
 
-    /// How many went on alone.
+    /// The number of threads that went on alone.
     pub fn missed(&self) -> u64 {
         self.missed.load(Ordering::SeqCst)
     }

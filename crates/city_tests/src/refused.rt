@@ -1,7 +1,6 @@
-//! What a refused growth, an allocation, leaves. `testing/refused_growths.py` runs each of these
-//! tests once for each growth that it makes, and refuses that one: a call that was refused can be
-//! made again, and what a run leaves is a serial history. A test that has no memory to begin with
-//! says so and does no more.
+//! Growths, allocations, are refused. `testing/refused_growths.py` runs each of these tests once for each of its
+//! growths, and refuses this one: then a refused call can be made again, and a run leaves a serial history. A test
+//! without memory to begin with says so and ends.
 ghost use Rattle.std.specs.Prelude.{◌≡◌, IfSome};
 
 use crate::board::{commit_next, counted, opened_to_one, shown, turn};
@@ -24,7 +23,7 @@ use std::sync::Wait;
 use std::test::Fail;
 use std::thread::Threads;
 
-/// Whether the mode is held once it was asked for, at the second try at the latest; a refused ask leaves what was held.
+/// Whether the mode is held after at most two tries. A refused ask leaves the held mode as it was.
 fn is_held_at_last(table: &mut LockTable, stamp: u64, id: &Text, mode: Mode) -> bool {
     let before = table.mode(stamp, id);
     let held = table.ask(stamp, id, mode).is_ok()
@@ -49,7 +48,7 @@ const HOUSES: &str = model!(
     "[]"
 );
 
-/// A script that puts, deletes, attaches, marks and goes back.
+/// A script with puts, deletes, attaches, and a way back to a mark.
 const REBUILD: &str = concat!(
     r#"[{"name":"s","commands":[{"read":"b"},{"mark":"m"},{"delete":"x"},{"put":"x","object":{"type":"Road"}},"#,
     r#"{"put":"q","object":{"type":"BuildingPart"}},{"back":"m"},{"delete":"p"},"#,
@@ -71,7 +70,7 @@ fn calls_of_a_core_can_be_made_again(rt: HostRuntime) -> Result<(), Fail> {
     Ok(())
 }
 
-/// A script that sets, unsets, reshapes, adds and expects, marks and goes back.
+/// A script with sets, unsets, reshapes, adds, an expect, and a way back to a mark.
 const AMEND: &str = concat!(
     r#"[{"name":"s","commands":[{"set":"b","attributes":{"n":1}},{"mark":"m"},"#,
     r#"{"set":"b","attributes":{"k":2,"n":3}},{"unset":"r","attributes":["z"]},{"reshape":"p","geometry":[]},"#,
@@ -94,7 +93,7 @@ fn edits_of_attributes_can_be_made_again(rt: HostRuntime) -> Result<(), Fail> {
     Ok(())
 }
 
-/// A put, and a read of what it puts.
+/// A put, and a read of its object.
 const PUT_AND_READ: &str = concat!(
     r#"[{"name":"s","commands":[{"put":"g","object":{"type":"Road","attributes":{"n":1}}},"#,
     r#"{"read":"g"},"commit"]}]"#
@@ -118,7 +117,7 @@ pub fn end_all<S: Shelf>(desk: &mut Desk<S>) {
     }
 }
 
-/// Whether ends and the city that they leave are those of scripts played one at a time.
+/// Whether ends and their city are a serial history.
 fn are_replayed(alloc: Global, run: &Run, city: &City, ends: &[End]) -> bool {
     let bytes = output_bytes(alloc, FIXED_SEED, city, ends, 0).or(output_bytes(
         alloc, FIXED_SEED, city, ends, 0,
@@ -126,7 +125,7 @@ fn are_replayed(alloc: Global, run: &Run, city: &City, ends: &[End]) -> bool {
     bytes.is_ok_and(|(bytes, _)| is_replayed(alloc, run, ends, bytes.as_slice()))
 }
 
-/// Whether the scripts of a desk, which take turns, leave what they leave one at a time.
+/// Whether the turns of a desk's scripts leave a serial history.
 fn leaves_a_history(mut desk: Desk<ListShelf>, alloc: Global, run: &Run) -> bool {
     end_all(&mut desk);
     match desk.finish() {
@@ -141,7 +140,7 @@ fn turns_leave(alloc: Global, run: &Run) -> Option<bool> {
     Some(leaves_a_history(desk, alloc, run))
 }
 
-/// Runs that put, delete, attach, abort and go back, and that wait and die.
+/// Runs with puts, deletes, attaches, aborts and ways back, and with waits and deaths.
 const RUNS: &[Run] = &[CHILD_OF_TWO, CUBE, ORPHAN, PLANNERS, TWO_READERS, UNDELETED];
 
 /// Why a test isn't taken.
@@ -171,7 +170,7 @@ fn going_back_takes_no_memory(rt: HostRuntime) -> Result<(), Fail> {
     Ok(())
 }
 
-/// How many scripts have committed at a desk.
+/// The number of a desk's commits.
 fn commits<S: Shelf>(desk: &Desk<S>) -> u64 {
     let mut commits = 0u64;
     for end in desk.ends() {
@@ -182,7 +181,7 @@ fn commits<S: Shelf>(desk: &Desk<S>) -> u64 {
     commits
 }
 
-/// The viewer, where it sees no change.
+/// The viewer, if it sees no change.
 fn unseeing(viewer: Viewer) -> Option<Viewer>
     ensures { IfSome result (λ v. v.name ≡ viewer.name) }
 {
@@ -192,7 +191,7 @@ fn unseeing(viewer: Viewer) -> Option<Viewer>
     }
 }
 
-/// How many changes a viewer sees once it has learnt of a show.
+/// The number of changes seen by a viewer after it has learnt of a show.
 fn seen_once_told(viewer: Viewer, note: &Note) -> Option<u64>
     requires { note.now.name ≡ viewer.name }
 {
@@ -200,7 +199,8 @@ fn seen_once_told(viewer: Viewer, note: &Note) -> Option<u64>
     Some(seen)
 }
 
-/// How many changes a viewer sees after a show, or after the next where that was refused and it saw nothing.
+/// The number of changes seen by a viewer after a show; or after a second show, if the first is refused and it sees
+/// none.
 fn seen_at_last<R: Wait + Drop, Q: Wait>(
     rt: &Q,
     desk: &mut Desk<Poster<R>>,
@@ -216,7 +216,7 @@ fn seen_at_last<R: Wait + Drop, Q: Wait>(
     seen_once_told(viewer, &note)
 }
 
-/// Whether a viewer sees nothing after a first show that is refused, and then what was committed, if anything was.
+/// Whether a viewer sees nothing after a refused first show, and then all commits.
 fn is_shown_at_last<R: Wait>(rt: &R, alloc: Global) -> Option<bool> {
     let (mut desk, viewer) = opened_to_one(rt, alloc)?;
     let _ended = commit_next(&mut desk);
@@ -263,13 +263,13 @@ fn a_run_of_two_workers_is_refused_or_leaves_a_serial_history(rt: HostRuntime) {
     assert!(&rt; is_serial_or_short(rt.alloc(), &TWO_READERS, ran));
 }
 
-/// Whether a city has this text, which is written at the second try at the latest.
+/// Whether a city has this text, written in at most two tries.
 fn is_written(alloc: Global, city: &City, text: &str) -> bool {
     let written = write_city(alloc, city).or(write_city(alloc, city));
     written.is_ok_and(|written| written.as_slice() == text.as_bytes())
 }
 
-/// Whether a document that is read in pieces is the city that it stands for, or memory ran out.
+/// Whether a document read in pieces gives its own text again, or memory ran out.
 fn is_read_or_short<R: Threads + Sync>(rt: &R, alloc: Global, document: &str) -> bool {
     let pieces = Pieces { count: 3, least: 1 };
     match read_city_by(rt, alloc, document.as_bytes(), pieces) {
@@ -284,7 +284,7 @@ fn a_document_in_pieces_is_read_or_memory_ran_out(rt: HostRuntime) {
     assert!(&rt; read);
 }
 
-/// Whether a city that is written in pieces has this text, or memory ran out.
+/// Whether a city written in pieces has this text, or memory ran out.
 fn is_written_or_short<R: Threads + Sync>(
     rt: &R,
     alloc: Global,

@@ -1,4 +1,4 @@
-//! A shelf that refuses a change.
+//! A shelf refuses a change.
 ghost use Rattle.std.specs.Prelude.{◌≡◌, []};
 
 use crate::refused::end_all;
@@ -11,7 +11,7 @@ use std::alloc::Global;
 use std::sync::Wait;
 use std::test::Fail;
 
-/// A list of changes that refuses the first one as if memory had run out.
+/// A list of changes. It refuses the first one as if memory had run out.
 #[derive(Drop)]
 pub struct Refusing {
     list: ListShelf,
@@ -57,7 +57,7 @@ impl Shelf for Refusing {
     }
 }
 
-/// What is written of a run whose shelf refuses a change.
+/// The output of a run with such a shelf.
 fn written(alloc: Global, run: &Run) -> Option<Vec<u8>> {
     let scripts = scripts_of(alloc, run.scripts)?;
     let city = city_of(alloc, run.document)?;

@@ -1,4 +1,4 @@
-//! What the steps of replacing a file do to the files of a folder.
+//! The steps of replacing a file, in a real folder.
 use city_serve::{OutputFiles, RuntimeFiles, read_file};
 use std::fs::{self, Files, Permissions};
 use std::io::{self, Write};
@@ -8,7 +8,7 @@ use std::test::Fail;
 /// The seed of the new files' names.
 const SEED: u64 = 7;
 
-/// A mode that no new file has by itself.
+/// A mode unlike a new file's.
 const MODE: u32 = 0o751;
 
 /// Whether a file has this text.
@@ -34,7 +34,7 @@ fn has_names(rt: &HostRuntime, folder: &str, count: usize) -> io::Result<bool> {
     Ok(left == 0)
 }
 
-/// Makes a folder with one file, which has this text and the mode.
+/// Makes a folder with one file of this text and the mode.
 fn make_file<R: Files + AllocGlobal>(
     rt: &R,
     folder: &str,
@@ -46,7 +46,7 @@ fn make_file<R: Files + AllocGlobal>(
     fs::set_permissions(rt, path, Permissions::from_mode(MODE))
 }
 
-/// Replaces the file of this path, in the steps of a run. Says whether each step succeeded.
+/// Replaces the file of this path, in the steps of a run. Returns whether each step succeeded.
 fn replace<R: Files + AllocGlobal>(rt: &R, path: &str, text: &str) -> bool {
     let mut files = RuntimeFiles::new(rt);
     let Some(mut new) = files.create(path, SEED) else {
@@ -59,7 +59,7 @@ fn replace<R: Files + AllocGlobal>(rt: &R, path: &str, text: &str) -> bool {
     files.rename(new, path) && files.sync_folder(path)
 }
 
-/// Makes a new file with a text for this path and gives it up. Says whether it was made.
+/// Makes a new file with a text for this path and gives it up. Returns whether it was made.
 fn begin_in_vain<R: Files + AllocGlobal>(rt: &R, path: &str, text: &str) -> bool {
     let mut files = RuntimeFiles::new(rt);
     let Some(mut new) = files.create(path, SEED) else {

@@ -6,7 +6,7 @@ use city_doc::FIXED_SEED;
 use city_model::end::{End, Outcome};
 use std::alloc::Global;
 
-/// Runs a script to its end, which takes at most 16 turns in the runs here.
+/// Runs a script to its end. No script here takes more than 16 turns.
 fn end(desk: &mut Desk<ListShelf>, script: usize) {
     for _ in 0..16 {
         if turn(desk, script) == Some(Turn::Ended) {
@@ -15,7 +15,7 @@ fn end(desk: &mut Desk<ListShelf>, script: usize) {
     }
 }
 
-/// Runs the scripts of these ends to theirs, in this order, but for those that ran out of memory.
+/// Runs the scripts of these ends again, in this order, except scripts out of memory.
 fn end_each(desk: &mut Desk<ListShelf>, ends: &[End]) {
     for one in ends {
         if !matches!(one.outcome, Outcome::NoMemory(_)) {
@@ -24,7 +24,7 @@ fn end_each(desk: &mut Desk<ListShelf>, ends: &[End]) {
     }
 }
 
-/// What is written if the scripts of these ends are played in this way; none if memory ran out.
+/// The output of the scripts of these ends, played in this way; None if memory ran out.
 fn written_again(alloc: Global, run: &Run, ends: &[End]) -> Option<Vec<u8>> {
     let mut desk = opened(alloc, run)?;
     end_each(&mut desk, ends);
@@ -38,7 +38,7 @@ fn written_again(alloc: Global, run: &Run, ends: &[End]) -> Option<Vec<u8>> {
     Some(bytes)
 }
 
-/// What is written of an output's lines, but for `since` and for scripts that ran out of memory.
+/// The lines of an output, without `since` and without scripts out of memory.
 fn without_since(alloc: Global, bytes: &[u8]) -> Option<String> {
     let mut text = String::new(alloc);
     for line in str::from_utf8(bytes).ok()?.lines() {
@@ -54,7 +54,7 @@ fn without_since(alloc: Global, bytes: &[u8]) -> Option<String> {
     Some(text)
 }
 
-/// Whether the scripts of these ends of a run, played in this way, give the same; none if memory ran out.
+/// Whether the scripts of a run's ends, played in this way, give the same; None if memory ran out.
 fn compared(alloc: Global, run: &Run, ends: &[End], bytes: &[u8]) -> Option<bool> {
     let again = written_again(alloc, run, ends)?;
     let wanted = without_since(alloc, again.as_slice())?;
@@ -62,7 +62,7 @@ fn compared(alloc: Global, run: &Run, ends: &[End], bytes: &[u8]) -> Option<bool
     Some(found.as_str() == wanted.as_str())
 }
 
-/// The same, where memory may run out the first time.
+/// The same, with a second try if memory runs out.
 pub fn is_replayed(alloc: Global, run: &Run, ends: &[End], bytes: &[u8]) -> bool {
     let first = compared(alloc, run, ends, bytes);
     first.or(compared(alloc, run, ends, bytes)) == Some(true)

@@ -1,4 +1,4 @@
-//! Runs that growths are refused in.
+//! Runs with refused growths.
 ghost use Rattle.std.specs.Prelude.{IfSome};
 ghost use Rattle.city_model.specs.CityMap.{object_at};
 ghost use Rattle.city_model.specs.Relations.{IsLawful};
@@ -73,7 +73,7 @@ pub const ORPHAN: Run = Run {
     ),
 };
 
-/// Two that set attributes of one building.
+/// Two set attributes of one building.
 pub const PLANNERS: Run = Run {
     document: model!(
         r#"{"b":{"attributes":{"name":"hall","storeys":2},"type":"Building"}}"#,
@@ -103,7 +103,7 @@ pub const CUBE: Run = Run {
     scripts: r#"[{"name":"a","commands":[{"read":"c"},"commit"]}]"#,
 };
 
-/// Roads, and land of points that each piece of the text names.
+/// Roads, and land with points in each piece of the text.
 pub const ROADS: &str = model!(
     r#"{"a":{"type":"Road"},"b":{"type":"Road"},"c":{"geometry":[{"boundaries":[[[0,1,2]]],"lod":"1","type":"MultiSurface"}],"type":"LandUse"},"d":{"type":"Road"},"e":{"attributes":{"n":[1]},"type":"Road"},"f":{"geometry":[{"boundaries":[[[2,3,0]]],"lod":"1","type":"MultiSurface"}],"type":"LandUse"}}"#,
     "[[0,0,0],[1,0,0],[0,1,0],[0,0,1]]"

@@ -1,4 +1,4 @@
-//! Points are hashed by the seed, which is drawn for each run.
+//! Points are hashed by the seed; each run draws one.
 use city_doc::VertexPool;
 use city_model::object::Point;
 use city_serve::drawn_seed;

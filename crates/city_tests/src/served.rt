@@ -1,4 +1,4 @@
-//! Runs through a gate, by the function that the program's own runs go through with the open one.
+//! Runs through a gate. The program's runs go through the same function, with the open gate.
 ghost use Rattle.std.specs.Prelude.{◌≤◌};
 
 use city_crew::Gate;
@@ -7,7 +7,7 @@ use city_model::OutOfMemory;
 use city_serve::serve_texts::serve_owned;
 use city_serve::{Device, Options};
 use std::alloc::Global;
-use std::fmt::Write;
+use std::fmt::{self, Display, Formatter, Write};
 use std::sync::Wait;
 use std::thread::Threads;
 
@@ -21,21 +21,29 @@ pub const TWO: &str = concat!(
     r#"{"name":"b","commands":[{"put":"y","object":{"type":"Road"}},"commit"]}]"#
 );
 
-/// A text of so many scripts, number n of which puts the road `rn` and commits.
-pub fn scripts_of_roads(alloc: Global, count: usize) -> Result<String, OutOfMemory> {
-    let mut text = String::new(alloc);
-    for number in 0..count {
-        let before = if number == 0 { "[" } else { "," };
-        let put = format!(in alloc; r#"{{"put":"r{number}","object":{{"type":"Road"}}}}"#)?;
-        let script = format!(in alloc; r#"{{"name":"r{number}","commands":[{put},"commit"]}}"#)?;
-        text.push_str(before)?;
-        text.push_str(script.as_str())?;
+/// The text of so many scripts: number n puts the road `rn` and commits.
+#[derive(Clone, Copy)]
+struct ScriptsOfRoads(usize);
+
+impl Display for ScriptsOfRoads {
+    fn fmt<W: Write>(&self, f: &mut Formatter<W>) -> fmt::Result {
+        for n in 0..self.0 {
+            f.write_str(if n == 0 { "[" } else { "," })?;
+            write!(
+                f,
+                r#"{{"name":"r{n}","commands":[{{"put":"r{n}","object":{{"type":"Road"}}}},"commit"]}}"#
+            )?;
+        }
+        f.write_str("]")
     }
-    text.push(']')?;
-    Ok(text)
 }
 
-/// What is written of a run and what each viewer saw, as `[[0, 1]]`; none where it isn't served.
+pub fn scripts_of_roads(alloc: Global, count: usize) -> Result<String, OutOfMemory> {
+    let scripts = ScriptsOfRoads(count);
+    format!(in alloc; "{scripts}")
+}
+
+/// The output of a run, and the numbers seen by each viewer, as `[[0, 1]]`; None if it isn't served.
 pub fn served<R: Threads + Wait + Sync, G: Gate + Sync>(
     rt: &R,
     alloc: Global,
@@ -77,7 +85,7 @@ fn told(alloc: Global, written: &[u8], seen: &[Vec<u64>]) -> Option<(String, Str
     Some((text, seen))
 }
 
-/// How many scripts have committed, by the report.
+/// The number of commits in the report.
 pub fn commits(text: &str) -> usize {
     text.lines()
         .filter(|line| line.contains(r#""outcome":"committed""#))

@@ -1,28 +1,33 @@
-//! Workers that sleep are woken, by each end and by each death, and pass no gate before. Each run has a limit of time.
+//! Sleeping workers are woken by each end and by each death, and pass no gate before. Each run has a time limit.
 use crate::meeting::PATIENT;
 use crate::served::{commits, served};
 use city_crew::Gate;
+use city_model::OutOfMemory;
 use std::alloc::Global;
-use std::fmt::Write;
+use std::fmt::{self, Display, Formatter, Write};
 use std::process::Abort;
 use std::sync::Wait;
 use std::sync::atomic::{AtomicBool, AtomicU64, Ordering};
+use std::test::Fail;
 use std::thread;
 use std::thread::{Threads, join};
 use std::time::{Clock, Duration};
 
-/// How often a thread yields until another that is about to sleep does so.
+/// Yields of a thread until another falls asleep.
 const HOLD: u64 = 20_000;
 
-/// A script, the number of a pass of it, from 1, and before it goes on: which pass of which other
-/// script has come, and how many times `HOLD` it waits then.
+/// A script and its pass, from 1, held until another script's pass has come and for so many times `HOLD` more. In
+/// order: the script, its pass, the other script, the other's pass, the holds.
 type Step = (usize, u64, usize, u64, u64);
+
+/// Why a test fails without an output.
+const NOT_SERVED: &str = "not served";
 
 /// Any number of replies.
 const ANY: usize = usize::MAX;
 
-/// Lets scripts pass in the order of its steps. Counts what is wrong: passes that waited in vain, and, where it is given
-/// how many replies each pass of a script has, passes that have other replies, or come after the last.
+/// Lets scripts pass in the order of its steps. Counts wrong passes: passes that waited in vain, and, if the replies of
+/// a script's passes are given, passes with other replies or after the last.
 #[derive(Drop)]
 struct InSteps<'a> {
     steps: &'a [Step],
@@ -50,7 +55,7 @@ impl<'a> InSteps<'a> {
         }
     }
 
-    /// Notes a pass of a script that has so many replies.
+    /// Notes a pass of a script with so many replies.
     fn note(&self, script: usize, pass: u64, replies: usize) {
         if let Some(wanted) = self.replies.get(script) {
             let right = match wanted.get(pass.wrapping_sub(1) as usize) {
@@ -63,7 +68,7 @@ impl<'a> InSteps<'a> {
         }
     }
 
-    /// How many passes of a script have come.
+    /// The number of a script's passes so far.
     fn passes(&self, script: usize) -> u64 {
         match self.passes.get(script) {
             Some(passes) => passes.load(Ordering::SeqCst),
@@ -117,7 +122,7 @@ impl Gate for InSteps<'_> {
     }
 }
 
-/// Ends the tests where a run isn't over within a minute.
+/// Ends the tests if a run isn't over within a minute.
 fn watch<R: Clock + Abort>(rt: &R, over: &AtomicBool) {
     for _ in 0..6_000 {
         if over.load(Ordering::SeqCst) {
@@ -128,7 +133,7 @@ fn watch<R: Clock + Abort>(rt: &R, over: &AtomicBool) {
     rt.panic("a run isn't over within a minute: was a worker that sleeps not woken?")
 }
 
-/// What is written of a run, and how often a pass was wrong, once it is over; none where it wasn't served.
+/// The output of a run and the number of wrong passes; None if it wasn't served. Notes the end of the run.
 fn run<R: Threads + Wait + Sync>(
     rt: &R,
     alloc: Global,
@@ -164,7 +169,7 @@ fn run_in_time<R: Threads + Wait + Clock + Abort + Sync>(
     came
 }
 
-/// How many scripts have committed in a run by three workers, and how often a pass was wrong.
+/// The numbers of commits and of wrong passes in a run by three workers.
 fn committed_in_time<R: Threads + Wait + Clock + Abort + Sync>(
     rt: &R,
     alloc: Global,
@@ -178,23 +183,57 @@ fn committed_in_time<R: Threads + Wait + Clock + Abort + Sync>(
 /// Two pieces of land.
 const LAND: &str = model!(r#"{"x":{"type":"LandUse"},"y":{"type":"LandUse"}}"#, "[]");
 
-/// So many puts of an id with a comma after each.
-fn puts(alloc: Global, id: &str, count: usize) -> Option<String> {
-    let mut text = String::new(alloc);
-    for _ in 0..count {
-        write!(text, r#"{{"put":"{id}","object":{{"type":"LandUse"}}}},"#).ok()?;
-    }
-    Some(text)
+/// An id of land: `x`, `y`, or `y0` and so on.
+#[derive(Clone, Copy)]
+enum Land {
+    X,
+    Y,
+    Numbered(usize),
 }
 
-/// Three scripts that put `x`: the first `count` times, before it ends with `end`.
-fn three_scripts(alloc: Global, count: usize, end: &str) -> Option<String> {
-    let (first, other) = (puts(alloc, "x", count)?, puts(alloc, "x", 1)?);
-    let mut text = String::new(alloc);
-    write!(text, r#"[{{"name":"a","commands":[{first}{end}]}},"#).ok()?;
-    write!(text, r#"{{"name":"b","commands":[{other}"commit"]}},"#).ok()?;
-    write!(text, r#"{{"name":"c","commands":[{other}"commit"]}}]"#).ok()?;
-    Some(text)
+impl Display for Land {
+    fn fmt<W: Write>(&self, f: &mut Formatter<W>) -> fmt::Result {
+        match *self {
+            Land::X => f.write_str("x"),
+            Land::Y => f.write_str("y"),
+            Land::Numbered(number) => write!(f, "y{number}"),
+        }
+    }
+}
+
+/// So many puts of an id, with a comma after each.
+#[derive(Clone, Copy)]
+struct Puts(Land, usize);
+
+impl Display for Puts {
+    fn fmt<W: Write>(&self, f: &mut Formatter<W>) -> fmt::Result {
+        let Puts(id, count) = *self;
+        for _ in 0..count {
+            write!(f, r#"{{"put":"{id}","object":{{"type":"LandUse"}}}},"#)?;
+        }
+        Ok(())
+    }
+}
+
+/// A script: its name, its puts, and its end.
+#[derive(Clone, Copy)]
+struct Script<'t>(&'t str, Puts, &'t str);
+
+impl Display for Script<'_> {
+    fn fmt<W: Write>(&self, f: &mut Formatter<W>) -> fmt::Result {
+        let Script(name, puts, end) = *self;
+        write!(f, r#"{{"name":"{name}","commands":[{puts}{end}]}}"#)
+    }
+}
+
+const COMMIT: &str = r#""commit""#;
+
+/// Three scripts with puts of `x`: `count` of them in the first, before its `end`.
+fn three_scripts(alloc: Global, count: usize, end: &str) -> Result<String, OutOfMemory> {
+    let first = Script("a", Puts(Land::X, count), end);
+    let second = Script("b", Puts(Land::X, 1), COMMIT);
+    let third = Script("c", Puts(Land::X, 1), COMMIT);
+    format!(in alloc; "[{first},{second},{third}]")
 }
 
 /// The first script has `x`; the others die, the last of them first, and sleep until it ends.
@@ -205,23 +244,23 @@ const LAST_SLEEPS_FIRST: &[Step] = &[
     (2, 1, 1, 2, 0),
 ];
 
-/// The same, but that the last of them dies last.
+/// The same, but the last of them dies last.
 const LAST_SLEEPS_LAST: &[Step] = &[(0, 3, 2, 2, 3), (1, 1, 0, 3, 0), (2, 1, 1, 2, 1)];
 
-/// The same where a worker passes the gate before many turns alone.
+/// The same for a gate passed only before many turns.
 const MANY_TURNS: &[Step] = &[(0, 2, 2, 1, 3), (1, 1, 0, 2, 0), (2, 1, 1, 1, 1)];
 
 /// The replies of the three at their passes: the others die at their second, unless they come late, and begin again once.
 const DIE_ONCE: &[&[usize]] = &[&[0, 0, 1], &[0, 0, ANY, 0, 1], &[0, 0, ANY, 0, 1]];
 
-/// How the first script ends, and how many scripts commit then.
+/// The end of the first script, and the number of commits then.
 const ENDS: &[(&str, usize)] = &[
     (r#""commit""#, 3),
     (r#""abort""#, 2),
     (r#"{"delete":"z"},"commit""#, 2),
 ];
 
-/// Steps, whether the gate says that it holds nobody, the replies at each pass, and how many puts the first script has.
+/// Steps, whether the gate is open, the replies at each pass, and the number of puts in the first script.
 type Sleep = (&'static [Step], bool, &'static [&'static [usize]], usize);
 
 const SLEEPS: &[Sleep] = &[
@@ -231,40 +270,30 @@ const SLEEPS: &[Sleep] = &[
 ];
 
 #[test]
-fn an_end_wakes_all_that_sleep(rt: HostRuntime) {
+fn an_end_wakes_all_that_sleep(rt: HostRuntime) -> Result<(), Fail> {
     for (end, commits) in ENDS {
         for (steps, open, replies, count) in SLEEPS {
             let gate = InSteps::of(steps, *open, replies);
-            let scripts = three_scripts(rt.alloc(), *count, end);
-            let scripts = scripts.as_ref().map_or("", |scripts| scripts.as_str());
-            let came = committed_in_time(&rt, rt.alloc(), &gate, scripts);
+            let scripts = three_scripts(rt.alloc(), *count, end)?;
+            let came = committed_in_time(&rt, rt.alloc(), &gate, scripts.as_str());
             assert_eq!(&rt; came, Some((*commits, 0)), "{end} {count}");
         }
     }
+    Ok(())
 }
 
-/// Two scripts that put these ids so often, and then these: the first, and the second.
-fn two_scripts(
-    alloc: Global,
-    first: [(&str, usize); 2],
-    second: [(&str, usize); 2],
-) -> Option<String> {
-    let mut text = String::new(alloc);
-    let (one, then) = (
-        puts(alloc, first[0].0, first[0].1)?,
-        puts(alloc, first[1].0, first[1].1)?,
-    );
-    write!(text, r#"[{{"name":"a","commands":[{one}{then}"commit"]}},"#).ok()?;
-    let (one, then) = (
-        puts(alloc, second[0].0, second[0].1)?,
-        puts(alloc, second[1].0, second[1].1)?,
-    );
-    write!(text, r#"{{"name":"b","commands":[{one}{then}"commit"]}}]"#).ok()?;
-    Some(text)
+/// Two scripts: the first puts `x` and `y`, the second `y` so often and then `x`.
+fn two_scripts(alloc: Global, count: usize) -> Result<String, OutOfMemory> {
+    let (x, y) = (Puts(Land::X, 1), Puts(Land::Y, 1));
+    let again = Puts(Land::Y, count);
+    format!(in alloc;
+        r#"[{{"name":"a","commands":[{x}{y}"commit"]}},{{"name":"b","commands":[{again}{x}"commit"]}}]"#
+    )
 }
 
-/// How often the second puts `y` before it puts `x`. The first waits for `y`, unless it comes late, and sleeps until the
-/// second dies at `x`; then the second sleeps until the first, which is held before its commit, has ended.
+/// The number of puts of `y` in the second script before its put of `x`, steps, and replies. The first waits for `y`,
+/// unless it comes late, and sleeps until the second dies at `x`. Then the second sleeps until the first has ended; the
+/// first is held before its commit.
 type Death = (usize, &'static [Step], &'static [&'static [usize]]);
 
 const DEATHS: &[Death] = &[
@@ -291,85 +320,92 @@ const DEATHS: &[Death] = &[
 ];
 
 #[test]
-fn a_death_wakes_one_that_waits(rt: HostRuntime) {
+fn a_death_wakes_one_that_waits(rt: HostRuntime) -> Result<(), Fail> {
     for (count, steps, replies) in DEATHS {
-        let scripts = two_scripts(rt.alloc(), [("x", 1), ("y", 1)], [("y", *count), ("x", 1)]);
-        let scripts = scripts.as_ref().map_or("", |scripts| scripts.as_str());
+        let scripts = two_scripts(rt.alloc(), *count)?;
         for _ in 0..2 {
             let gate = InSteps::of(steps, false, replies);
-            let came = committed_in_time(&rt, rt.alloc(), &gate, scripts);
+            let came = committed_in_time(&rt, rt.alloc(), &gate, scripts.as_str());
             assert_eq!(&rt; came, Some((2, 0)), "{count}");
         }
     }
+    Ok(())
 }
 
-/// A script that puts `x` so often, and others that each put an id of their own so often.
-pub fn one_and_others(alloc: Global, first: usize, others: usize, each: usize) -> Option<String> {
-    let first = puts(alloc, "x", first)?;
-    let mut text = String::new(alloc);
-    write!(text, r#"[{{"name":"first","commands":[{first}"commit"]}}"#).ok()?;
-    for number in 0..others {
-        let id = format!(in alloc; "y{number}").ok()?;
-        let its = puts(alloc, id.as_str(), each)?;
-        write!(text, r#",{{"name":"other","commands":[{its}"commit"]}}"#).ok()?;
+/// So many scripts with a comma before each, each with so many puts of an id of its own.
+#[derive(Clone, Copy)]
+struct Others(usize, usize);
+
+impl Display for Others {
+    fn fmt<W: Write>(&self, f: &mut Formatter<W>) -> fmt::Result {
+        let Others(count, each) = *self;
+        for number in 0..count {
+            let other = Script("other", Puts(Land::Numbered(number), each), COMMIT);
+            write!(f, ",{other}")?;
+        }
+        Ok(())
     }
-    text.push(']').ok()?;
-    Some(text)
 }
 
-/// Puts of the first script, and its passes once it has begun, of 256 turns each and one more. The second begins at the
-/// last of them, and goes by before that turn.
+/// A script with so many puts of `x`, and others, each with so many puts of an id of its own.
+pub fn one_and_others(
+    alloc: Global,
+    first: usize,
+    others: usize,
+    each: usize,
+) -> Result<String, OutOfMemory> {
+    let first = Script("first", Puts(Land::X, first), COMMIT);
+    let others = Others(others, each);
+    format!(in alloc; "[{first}{others}]")
+}
+
+/// Puts of the first script, and its passes once it has begun: one before each 256 turns, and a last one. The second
+/// begins at the last, and overtakes the first there.
 const LENGTHS: &[(usize, u64)] = &[(512, 3), (768, 4)];
 
 #[test]
-fn a_script_makes_few_turns_under_one_lock(rt: HostRuntime) {
+fn a_script_makes_few_turns_under_one_lock(rt: HostRuntime) -> Result<(), Fail> {
     for (first, passes) in LENGTHS {
         let steps = [(1, 1, 0, *passes, 0), (0, *passes, 1, 1, 3)];
         let gate = InSteps::of(&steps, true, &[]);
-        let scripts = one_and_others(rt.alloc(), *first, 1, 62);
-        let scripts = scripts.as_ref().map_or("", |scripts| scripts.as_str());
-        let (text, wrong) = run_in_time(&rt, rt.alloc(), &gate, scripts, 3).unwrap_or((
-            String::new(rt.alloc()),
-            1,
-        ));
+        let scripts = one_and_others(rt.alloc(), *first, 1, 62)?;
+        let ran = run_in_time(&rt, rt.alloc(), &gate, scripts.as_str(), 3);
+        let (text, wrong) = ran.ok_or(NOT_SERVED)?;
         assert!(&rt; text.as_str().starts_with(r#"{"name":"other""#), "{first}");
         assert_eq!(&rt; (gate.passes(0), wrong), (*passes, 0), "{first}");
     }
+    Ok(())
 }
 
-/// Puts of a script that begins beside an older one, its passes, and who ends first: with its commit it has 63
-/// commands, and goes by under one lock, or 64, and sleeps until it is the oldest.
+/// Puts of a script beside an older one, its passes, and the first to end. With its commit it has 63 commands, and goes
+/// by under one lock, or 64, and sleeps until it is the oldest.
 const BESIDE: &[(usize, u64, &str)] = &[(62, 1, "other"), (63, 2, "first")];
 
 #[test]
-fn a_long_script_sleeps_until_it_is_the_oldest(rt: HostRuntime) {
+fn a_long_script_sleeps_until_it_is_the_oldest(rt: HostRuntime) -> Result<(), Fail> {
     for (each, passes, ends) in BESIDE {
         let steps = [(1, 1, 0, 2, 0), (0, 2, 1, 1, 3)];
         let gate = InSteps::of(&steps, true, &[]);
-        let scripts = one_and_others(rt.alloc(), 300, 1, *each);
-        let scripts = scripts.as_ref().map_or("", |scripts| scripts.as_str());
-        let (text, wrong) = run_in_time(&rt, rt.alloc(), &gate, scripts, 3).unwrap_or((
-            String::new(rt.alloc()),
-            1,
-        ));
+        let scripts = one_and_others(rt.alloc(), 300, 1, *each)?;
+        let ran = run_in_time(&rt, rt.alloc(), &gate, scripts.as_str(), 3);
+        let (text, wrong) = ran.ok_or(NOT_SERVED)?;
         let ended = text.as_str().lines().next().unwrap_or("");
         assert!(&rt; ended.contains(*ends), "{each}");
         assert_eq!(&rt; (gate.passes(1), wrong), (*passes, 0), "{each}");
     }
+    Ok(())
 }
 
 #[test]
-fn short_scripts_go_by_under_one_lock(rt: HostRuntime) {
+fn short_scripts_go_by_under_one_lock(rt: HostRuntime) -> Result<(), Fail> {
     // four of 64 turns, while an older one is between its own; the fifth passes the gate
     let steps = [(1, 1, 0, 2, 0), (0, 2, 5, 1, 0)];
     let gate = InSteps::of(&steps, true, &[]);
-    let scripts = one_and_others(rt.alloc(), 300, 5, 62);
-    let scripts = scripts.as_ref().map_or("", |scripts| scripts.as_str());
-    let (text, wrong) = run_in_time(&rt, rt.alloc(), &gate, scripts, 2).unwrap_or((
-        String::new(rt.alloc()),
-        1,
-    ));
+    let scripts = one_and_others(rt.alloc(), 300, 5, 62)?;
+    let ran = run_in_time(&rt, rt.alloc(), &gate, scripts.as_str(), 2);
+    let (text, wrong) = ran.ok_or(NOT_SERVED)?;
     let passes = [1, 2, 3, 4, 5].map(|script| gate.passes(script));
     assert_eq!(&rt; (commits(text.as_str()), wrong), (6, 0));
     assert_eq!(&rt; passes, [1, 0, 0, 0, 1]);
+    Ok(())
 }

@@ -3,18 +3,18 @@ use crate::meeting::PATIENT;
 use crate::served::{EMPTY, TWO, commits, scripts_of_roads, served};
 use city_crew::Gate;
 use std::alloc::Global;
-use std::fmt::Write;
+use std::fmt::{self, Display, Formatter, Write};
 use std::sync::Wait;
 use std::sync::atomic::{AtomicU64, Ordering};
 use std::thread;
 use std::thread::Threads;
 
-/// Holds script n before it begins until each viewer has seen n changes.
+/// Holds script n before its start until each viewer has seen n changes.
 #[derive(Drop)]
 struct EachSeesEach {
     viewers: usize,
     open: bool,
-    /// For each viewer one more than the number of changes that it saw last; 0 before its first look.
+    /// For each viewer one more than the number of changes it saw last; 0 before its first look.
     seen: [AtomicU64; 4],
     missed: AtomicU64,
 }
@@ -68,23 +68,43 @@ impl Gate for EachSeesEach {
     }
 }
 
-/// What is wanted of so many viewers and scripts: each number from 0 to the last, all committed, none held in vain, as
-/// `[[0, 1], [0, 1]] 1 0`.
-fn each_number(alloc: Global, viewers: usize, last: usize) -> Option<String> {
-    let mut numbers = "0".to_string(alloc).ok()?;
-    for number in 1..=last {
-        write!(numbers, ", {number}").ok()?;
+/// The numbers from 0 to the last, as `[0, 1]`.
+#[derive(Clone, Copy)]
+struct Numbers(usize);
+
+impl Display for Numbers {
+    fn fmt<W: Write>(&self, f: &mut Formatter<W>) -> fmt::Result {
+        f.write_str("[0")?;
+        for number in 1..=self.0 {
+            write!(f, ", {number}")?;
+        }
+        f.write_str("]")
     }
-    let mut all = "[".to_string(alloc).ok()?;
-    for viewer in 0..viewers {
-        let between = if viewer == 0 { "" } else { ", " };
-        write!(all, "{between}[{numbers}]").ok()?;
-    }
-    write!(all, "] {last} 0").ok()?;
-    Some(all)
 }
 
-/// What the viewers saw, how many scripts committed, and how many the gate held in vain.
+/// So many times the same numbers, as `[[0, 1], [0, 1]]`.
+#[derive(Clone, Copy)]
+struct Each(usize, Numbers);
+
+impl Display for Each {
+    fn fmt<W: Write>(&self, f: &mut Formatter<W>) -> fmt::Result {
+        let Each(viewers, numbers) = *self;
+        for viewer in 0..viewers {
+            f.write_str(if viewer == 0 { "[" } else { ", " })?;
+            write!(f, "{numbers}")?;
+        }
+        f.write_str("]")
+    }
+}
+
+/// The wanted numbers, commits and misses: each viewer sees each number from 0 to the last, all scripts commit, and none
+/// is held in vain.
+fn each_number(alloc: Global, viewers: usize, last: usize) -> Option<String> {
+    let all = Each(viewers, Numbers(last));
+    format!(in alloc; "{all} {last} 0").ok()
+}
+
+/// The numbers seen by the viewers, and the numbers of commits and of scripts held in vain.
 fn seen_of<R: Threads + Wait + Sync>(
     rt: &R,
     alloc: Global,
@@ -100,7 +120,7 @@ fn seen_of<R: Threads + Wait + Sync>(
     format!(in alloc; "{seen} {committed} {missed}").ok()
 }
 
-/// Workers, viewers and scripts, and whether the gate says that it holds nobody.
+/// Workers, viewers and scripts, and whether the gate is open.
 type Case = (usize, usize, usize, bool);
 
 const CASES: &[Case] = &[
@@ -112,7 +132,7 @@ const CASES: &[Case] = &[
     (16, 4, 70, false),
 ];
 
-/// What was seen in a case.
+/// The numbers seen in a case.
 fn seen_in<R: Threads + Wait + Sync>(rt: &R, alloc: Global, case: &Case) -> Option<String> {
     let (workers, viewers, scripts, open) = *case;
     let texts = scripts_of_roads(alloc, scripts).ok()?;

@@ -9,15 +9,15 @@ use std::sync::atomic::{AtomicU64, Ordering};
 use std::test::Fail;
 use std::thread::Threads;
 
-/// The first scripts meet: before they begin, or after their first replies. The gate may say that it holds nobody:
-/// then a worker passes it before many turns, as it does where the program runs.
+/// The first scripts meet: before they begin, or after their first replies. If the gate is open, a worker passes it
+/// before many turns, as in the program.
 #[derive(Drop)]
 struct ScriptsMeet {
     meeting: Meeting,
     replies: usize,
     open: bool,
     inside: AtomicU64,
-    /// How many were at the gate at once.
+    /// Most scripts at the gate at once.
     most: AtomicU64,
 }
 
@@ -51,8 +51,8 @@ impl Gate for ScriptsMeet {
     }
 }
 
-/// What came of so many scripts that meet, by so many workers: how many committed, were at the gate at once, and went
-/// on alone; none where the run wasn't served.
+/// Runs so many scripts by so many workers. Returns the numbers of commits, of scripts at the gate at once, and of
+/// scripts gone on alone; None if the run wasn't served.
 fn met<R: Threads + Wait + Sync>(
     rt: &R,
     alloc: Global,
@@ -162,8 +162,8 @@ fn a_worker_leaves_the_lock_after_many_short_scripts(rt: HostRuntime) -> Result<
         count: AtomicU64::new(0),
         last: AtomicU64::new(0),
     };
-    // of 64 turns each, but for the first, which has begun before: 16,384 turns are over when 257 have ended
-    let texts = one_and_others(rt.alloc(), 62, 299, 62).ok_or("no texts")?;
+    // (each has 64 turns, but the first has begun before: 16,384 turns are over when 257 scripts have ended)
+    let texts = one_and_others(rt.alloc(), 62, 299, 62)?;
     let output = run_crew(
         &rt,
         rt.alloc(),

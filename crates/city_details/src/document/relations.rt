@@ -1,4 +1,4 @@
-//! Which rule on parents and children an object doesn't meet.
+//! Broken rules on an object's parents and children.
 use crate::diagnostic::Diagnostic;
 use crate::document::relatives::{Relatives, RelativesById, list_at, repeated_in};
 use crate::quoted::Quoted;
@@ -6,6 +6,7 @@ use city_model::OutOfMemory;
 use city_model::object_type::{ObjectType, family, is_same, level, name};
 use serde_json::Value;
 use std::alloc::Global;
+use std::fmt::{self, Display, Formatter, Write};
 
 /// One of the two lists of ids of an object.
 #[derive(Clone, Copy)]
@@ -22,7 +23,7 @@ impl IdList {
         }
     }
 
-    /// What one of the list is called.
+    /// The word for one item of the list.
     fn one(self) -> &'static str {
         match self {
             IdList::Parents => "parent",
@@ -30,7 +31,7 @@ impl IdList {
         }
     }
 
-    /// The list that has to have the object, of one that this list has.
+    /// The list on the other side of a relation.
     fn other_side(self) -> IdList {
         match self {
             IdList::Parents => IdList::Children,
@@ -39,7 +40,7 @@ impl IdList {
     }
 }
 
-/// A rule that isn't met, with the other object of it.
+/// A broken rule, with the other object.
 #[derive(Clone, Copy)]
 enum Broken<'t> {
     NoListOfIds(IdList),
@@ -49,7 +50,7 @@ enum Broken<'t> {
     Itself(&'t str),
     Missing(IdList, &'t str),
     NotMutual(IdList, &'t str),
-    /// The object's type, and that of this parent.
+    /// The object's type, and the type of this parent.
     OtherFamily(ObjectType, ObjectType, &'t str),
 }
 
@@ -88,46 +89,52 @@ impl<'t> Broken<'t> {
             | Broken::OtherFamily(_, _, other) => Some(other),
         }
     }
+}
 
-    /// What is wrong, in a sentence.
-    fn message(&self, alloc: Global) -> Result<String, OutOfMemory> {
-        let list = self.list();
-        let names = list.name();
-        let one = list.one();
-        let other = Quoted(self.other().unwrap_or(""));
+impl Display for Broken<'_> {
+    fn fmt<W: Write>(&self, f: &mut Formatter<W>) -> fmt::Result {
         match *self {
-            Broken::NoListOfIds(_) => { format!(in alloc; "Its {names} aren't an array of texts.") }
-            Broken::Repeated(_, _) => format!(in alloc; "Its {names} have {other} twice."),
-            Broken::FirstLevelWithParents(kind, _) => {
-                let kind = name(kind);
-                format!(in alloc;
-                    "An object of type {kind} has no parents, but it has the parent {other}."
+            Broken::NoListOfIds(list) => {
+                let names = list.name();
+                write!(f, "Its {names} aren't an array of texts.")
+            }
+            Broken::Repeated(list, id) => {
+                let (names, id) = (list.name(), Quoted(id));
+                write!(f, "Its {names} have {id} twice.")
+            }
+            Broken::FirstLevelWithParents(kind, id) => {
+                let (kind, id) = (name(kind), Quoted(id));
+                write!(
+                    f,
+                    "An object of type {kind} has no parents, but it has the parent {id}."
                 )
             }
             Broken::NoParents(kind) => {
                 let kind = name(kind);
-                format!(in alloc; "An object of type {kind} has a parent, but it has none.")
+                write!(f, "An object of type {kind} has a parent, but it has none.")
             }
-            Broken::Itself(_) => "It is its own parent.".to_string(alloc),
-            Broken::Missing(_, _) => {
-                format!(in alloc; "Its {one} {other} is no object that can be read.")
+            Broken::Itself(_) => write!(f, "It is its own parent."),
+            Broken::Missing(list, id) => {
+                let (one, id) = (list.one(), Quoted(id));
+                write!(f, "Its {one} {id} is no object that can be read.")
             }
-            Broken::NotMutual(_, _) => {
+            Broken::NotMutual(list, id) => {
+                let (one, id) = (list.one(), Quoted(id));
                 let back = list.other_side().name();
-                format!(in alloc; "Its {one} {other} doesn't have it in its {back}.")
+                write!(f, "Its {one} {id} doesn't have it in its {back}.")
             }
-            Broken::OtherFamily(own, kind, _) => {
-                let own = name(own);
-                let kind = name(kind);
-                format!(in alloc;
-                    "Its parent {other} is of type {kind}, another family than that of {own}."
+            Broken::OtherFamily(own, kind, id) => {
+                let (own, kind, id) = (name(own), name(kind), Quoted(id));
+                write!(
+                    f,
+                    "Its parent {id} is of type {kind}, another family than that of {own}."
                 )
             }
         }
     }
 }
 
-/// Says which rule on its parents and children an object doesn't meet.
+/// Tells the first broken rule on an object's parents and children.
 pub fn tell_relations(
     alloc: Global,
     objects: &RelativesById,
@@ -143,12 +150,12 @@ pub fn tell_relations(
     if let Some(other) = broken.other() {
         diagnostic.details.text("other", other)?;
     }
-    let message = broken.message(alloc)?;
-    diagnostic.tell(message, "Correct both sides of the relation.");
+    write!(diagnostic.message, "{broken}")?;
+    diagnostic.cure = "Correct both sides of the relation.";
     Ok(())
 }
 
-/// The first rule that isn't met.
+/// The first broken rule, if any.
 fn first_broken<'t>(
     alloc: Global,
     objects: &RelativesById,
@@ -179,7 +186,7 @@ fn first_broken<'t>(
     }
 }
 
-/// Whether there are parents, by what the level of the type asks for.
+/// The rule broken by an object's parents at its level: the second has parents, the first has none.
 fn broken_by_level(kind: ObjectType, parents: &[Value]) -> Option<Broken<'_>> {
     match parents.first() {
         None if level(kind) == 2 => Some(Broken::NoParents(kind)),

@@ -1,4 +1,4 @@
-//! The parents and children of objects, in sets, so that each is found as quickly in a long list.
+//! The parents and children of objects, in sets: a long list is searched as fast as a short one.
 use city_doc::ReadFault;
 use city_model::OutOfMemory;
 use city_model::object_type::{ObjectType, type_named};
@@ -6,7 +6,7 @@ use serde_json::{Map, Value};
 use std::alloc::Global;
 use std::collections::{BTreeMap, BTreeSet};
 
-/// The type of an object that can be read, and the ids of its relatives.
+/// The type of a readable object, and the ids of its relatives.
 #[derive(Drop)]
 pub struct Relatives {
     pub kind: ObjectType,
@@ -14,10 +14,10 @@ pub struct Relatives {
     pub children: BTreeSet<String>,
 }
 
-/// The objects that can be read, by their ids.
+/// Readable objects by their ids.
 pub type RelativesById = BTreeMap<String, Relatives>;
 
-/// The items of a list of ids, of which there are none where it is absent; None where it isn't an array of texts.
+/// The items of a list of ids: none if the list is absent. Returns None if it isn't an array of texts.
 pub fn list_at<'t>(object: &'t Value, name: &str) -> Option<&'t [Value]> {
     let Some(value) = object.get(name) else {
         return Some(&[]);
@@ -30,7 +30,7 @@ pub fn list_at<'t>(object: &'t Value, name: &str) -> Option<&'t [Value]> {
     }
 }
 
-/// The relatives of all objects that can be read, of a document that has these faults.
+/// The relatives of all readable objects of a document with these faults.
 pub fn all_relatives(
     alloc: Global,
     tree: &Value,
@@ -45,7 +45,7 @@ pub fn all_relatives(
     }
 }
 
-/// The ids of objects that can't be read.
+/// The ids of unreadable objects.
 fn unread_ids(alloc: Global, faults: &[ReadFault]) -> Result<BTreeSet<String>, OutOfMemory> {
     let mut ids = BTreeSet::new(alloc);
     for fault in faults {
@@ -104,7 +104,7 @@ fn id_set(alloc: Global, list: &[Value]) -> Result<BTreeSet<String>, OutOfMemory
     Ok(ids)
 }
 
-/// The first id of a list that stands in it before.
+/// The first repeated id of a list.
 pub fn repeated_in(alloc: Global, list: &[Value]) -> Result<Option<&str>, OutOfMemory> {
     let mut ids = BTreeSet::new(alloc);
     for item in list {

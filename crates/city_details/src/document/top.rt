@@ -1,15 +1,14 @@
-//! What is told of a member of the top that isn't that of a document.
+//! Diagnostics of missing or wrong members of the top.
 use crate::diagnostic::Diagnostic;
 use crate::path::{Step, path_text};
 use crate::quoted::Quoted;
 use city_model::OutOfMemory;
 use city_tokens::{triple_at, triple_of};
-use serde_json::Value;
+use serde_json::{Map, Value};
 use std::alloc::Global;
+use std::fmt::Write;
 
-const CURE: &str = "Upgrade to CityJSON 2.0, and drop extensions.";
-
-/// Says what is wrong with a member of this name, the first that is wrong.
+/// Says what is wrong with the member of this name, the first wrong one.
 pub fn tell_wrong_member(
     alloc: Global,
     tree: &Value,
@@ -18,13 +17,15 @@ pub fn tell_wrong_member(
 ) -> Result<(), OutOfMemory> {
     if tree.is_array() {
         diagnostic.details.text("form", "scripts")?;
-        let message = "The text is an array, as scripts are, and no document.".to_string(alloc)?;
-        diagnostic.tell(message, "Give MODEL before SCRIPTS.");
-        return Ok(());
+        return diagnostic.tell(
+            "The text is an array, as scripts are, and no document.",
+            "Give MODEL before SCRIPTS.",
+        );
     }
+    diagnostic.cure = "Upgrade to CityJSON 2.0, and drop extensions.";
     let Some(member) = tree.get(name) else {
-        let message = format!(in alloc; "The document has no {name}.")?;
-        return tell_at(alloc, &[Step::Member(name)], message, diagnostic);
+        write!(diagnostic.message, "The document has no {name}.")?;
+        return tell_path(alloc, &[Step::Member(name)], diagnostic);
     };
     if let Some(given) = member.as_str() {
         diagnostic.details.text("given", given)?;
@@ -34,40 +35,50 @@ pub fn tell_wrong_member(
         "CityObjects" => tell_objects(alloc, member, diagnostic),
         "vertices" => tell_vertices(alloc, member, diagnostic),
         "extensions" => {
-            let message = "The document has extensions, which are never read.".to_string(alloc)?;
-            tell_at(alloc, &[Step::Member(name)], message, diagnostic)
+            write!(
+                diagnostic.message,
+                "The document has extensions, which are never read."
+            )?;
+            tell_path(alloc, &[Step::Member(name)], diagnostic)
         }
         _ => {
-            let message = wrong_text(alloc, name, member.as_str())?;
-            tell_at(alloc, &[Step::Member(name)], message, diagnostic)
+            tell_wrong_text(name, member.as_str(), diagnostic)?;
+            tell_path(alloc, &[Step::Member(name)], diagnostic)
         }
     }
 }
 
-/// Says that this is wrong at a path.
-fn tell_at(
+/// Narrows the place to a path, and adds the path.
+fn tell_path(
     alloc: Global,
     steps: &[Step<'_>],
-    message: String,
     diagnostic: &mut Diagnostic,
 ) -> Result<(), OutOfMemory> {
     let path = path_text(alloc, steps)?;
-    diagnostic.narrow(path.as_str())?;
-    diagnostic.details.text("path", path.as_str())?;
-    diagnostic.tell(message, CURE);
-    Ok(())
+    diagnostic.narrowed()?.push_str(path.as_str())?;
+    diagnostic.details.text("path", path.as_str())
 }
 
-/// What is wrong with the type or the version, by the text that it is.
-fn wrong_text(alloc: Global, name: &str, given: Option<&str>) -> Result<String, OutOfMemory> {
+/// Says what is wrong with the type or the version, by its text.
+fn tell_wrong_text(
+    name: &str,
+    given: Option<&str>,
+    diagnostic: &mut Diagnostic,
+) -> Result<(), OutOfMemory> {
+    let Some(given) = given else {
+        write!(
+            diagnostic.message,
+            "The {name} of the document isn't a text."
+        )?;
+        return Ok(());
+    };
+    let given = Quoted(given);
     let wanted = if name == "type" { "CityJSON" } else { "2.0" };
-    match given {
-        None => format!(in alloc; "The {name} of the document isn't a text."),
-        Some(given) => {
-            let given = Quoted(given);
-            format!(in alloc; "The {name} of the document is {given}, and not \"{wanted}\".")
-        }
-    }
+    write!(
+        diagnostic.message,
+        "The {name} of the document is {given}, and not \"{wanted}\"."
+    )?;
+    Ok(())
 }
 
 fn tell_transform(
@@ -77,18 +88,19 @@ fn tell_transform(
 ) -> Result<(), OutOfMemory> {
     let top = Step::Member("transform");
     if !transform.is_object() {
-        let message = "The transform isn't an object.".to_string(alloc)?;
-        return tell_at(alloc, &[top], message, diagnostic);
+        write!(diagnostic.message, "The transform isn't an object.")?;
+        return tell_path(alloc, &[top], diagnostic);
     }
     let name = if triple_at(transform, "scale").is_none() {
         "scale"
     } else {
         "translate"
     };
-    let message = format!(in alloc;
+    write!(
+        diagnostic.message,
         "The {name} of the transform isn't an array of three numbers."
     )?;
-    tell_at(alloc, &[top, Step::Member(name)], message, diagnostic)
+    tell_path(alloc, &[top, Step::Member(name)], diagnostic)
 }
 
 fn tell_objects(
@@ -98,18 +110,30 @@ fn tell_objects(
 ) -> Result<(), OutOfMemory> {
     let top = Step::Member("CityObjects");
     let Some(members) = objects.as_object() else {
-        let message = "CityObjects isn't an object.".to_string(alloc)?;
-        return tell_at(alloc, &[top], message, diagnostic);
+        write!(diagnostic.message, "CityObjects isn't an object.")?;
+        return tell_path(alloc, &[top], diagnostic);
     };
-    for (id, object) in members.iter() {
-        if !object.is_object() {
-            let shown = Quoted(id.as_str());
-            let message = format!(in alloc; "The city object {shown} isn't an object.")?;
-            let steps = [top, Step::Member(id.as_str())];
-            return tell_at(alloc, &steps, message, diagnostic);
+    match first_other(members) {
+        None => Ok(()),
+        Some(id) => {
+            let shown = Quoted(id);
+            write!(
+                diagnostic.message,
+                "The city object {shown} isn't an object."
+            )?;
+            tell_path(alloc, &[top, Step::Member(id)], diagnostic)
         }
     }
-    Ok(())
+}
+
+/// The name of the first member other than an object.
+fn first_other(members: &Map<String, Value>) -> Option<&str> {
+    for (name, member) in members.iter() {
+        if !member.is_object() {
+            return Some(name.as_str());
+        }
+    }
+    None
 }
 
 fn tell_vertices(
@@ -119,17 +143,17 @@ fn tell_vertices(
 ) -> Result<(), OutOfMemory> {
     let top = Step::Member("vertices");
     let Some(items) = vertices.as_array() else {
-        let message = "The vertices aren't an array.".to_string(alloc)?;
-        return tell_at(alloc, &[top], message, diagnostic);
+        write!(diagnostic.message, "The vertices aren't an array.")?;
+        return tell_path(alloc, &[top], diagnostic);
     };
-    for number in 0..items.len() {
-        if triple_of(&items[number]).is_none() {
-            let message = format!(in alloc;
+    match items.iter().position(|item| triple_of(item).is_none()) {
+        None => Ok(()),
+        Some(number) => {
+            write!(
+                diagnostic.message,
                 "Vertex {number} isn't an array of three whole numbers."
             )?;
-            let steps = [top, Step::Item(number)];
-            return tell_at(alloc, &steps, message, diagnostic);
+            tell_path(alloc, &[top, Step::Item(number)], diagnostic)
         }
     }
-    Ok(())
 }

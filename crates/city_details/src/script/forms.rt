@@ -1,9 +1,9 @@
 //! The forms of commands: the words, and the objects with their members.
 //!
-//! A new command is a line of one of the two tables, and nothing else of what is told changes.
+//! A new command is a line in one of the two tables; no other diagnostic changes.
 use serde_json::{Map, Value};
 
-/// What a member of a command is.
+/// The kind of a command's member.
 #[derive(Clone, Copy, PartialEq, Eq)]
 pub enum Kind {
     Text,
@@ -17,14 +17,14 @@ pub enum Kind {
     Geometry,
 }
 
-/// A command that is an object. The member of the command's name is a text.
+/// A command in the form of an object. The member of the command's name is a text.
 pub struct Form {
     pub name: &'static str,
-    /// Its other members, in the order in which they are looked for.
+    /// Its other members, in the order of the search for missing ones.
     pub others: &'static [(&'static str, Kind)],
 }
 
-/// The commands that are objects. One that has the names of several is taken for the first of them.
+/// The commands in the form of objects. An object with the names of several commands is the first of them.
 pub const FORMS: &[Form] = &[
     Form {
         name: "read",
@@ -76,7 +76,7 @@ pub const FORMS: &[Form] = &[
     },
 ];
 
-/// The commands that are words, which end a script.
+/// The commands in the form of words. They end a script.
 pub const WORDS: &[&str] = &["commit", "abort"];
 
 /// Whether a word is a command by itself.
@@ -84,7 +84,7 @@ pub fn is_word(word: &str) -> bool {
     WORDS.iter().any(|name| *name == word)
 }
 
-/// The command of this name that is an object.
+/// The object command of this name.
 pub fn form_named(name: &str) -> Option<&'static Form> {
     for form in FORMS {
         if form.name == name {
@@ -94,7 +94,7 @@ pub fn form_named(name: &str) -> Option<&'static Form> {
     None
 }
 
-/// The command that an object's members name.
+/// The first object command named by these members.
 pub fn form_in(members: &Map<String, Value>) -> Option<&'static Form> {
     for form in FORMS {
         if members.contains_key(form.name) {
@@ -105,7 +105,7 @@ pub fn form_in(members: &Map<String, Value>) -> Option<&'static Form> {
 }
 
 impl Form {
-    /// The first of its members that isn't there.
+    /// The first missing member.
     pub fn missing(&self, members: &Map<String, Value>) -> Option<&'static str> {
         for (name, _) in self.others {
             if !members.contains_key(*name) {
@@ -115,7 +115,7 @@ impl Form {
         None
     }
 
-    /// The first member, in byte order, that it doesn't have.
+    /// The first unknown member, in byte order.
     pub fn other_member<'t>(&self, members: &'t Map<String, Value>) -> Option<&'t str> {
         for (name, _) in members.iter() {
             if !self.has(name.as_str()) {
@@ -130,7 +130,7 @@ impl Form {
         self.name == name || self.others.iter().any(|(other, _)| *other == name)
     }
 
-    /// The first of its members that has to be a text, and isn't one.
+    /// The first member that has to be a text but isn't.
     pub fn not_text(&self, members: &Map<String, Value>) -> Option<&'static str> {
         if !is_text(members, self.name) {
             return Some(self.name);
@@ -143,7 +143,7 @@ impl Form {
         None
     }
 
-    /// What it gives an object: its member that isn't a text, by the name and the kind.
+    /// The name and the kind of its member other than a text, which it gives to an object.
     pub fn given(&self) -> Option<(&'static str, Kind)> {
         for (name, kind) in self.others {
             if *kind != Kind::Text {

@@ -1,4 +1,4 @@
-//! What a command gives an object, where it is refused: an object, geometries, or attributes.
+//! Refused parts of commands: an object, geometries, or attributes.
 use crate::diagnostic::Diagnostic;
 use crate::quoted::Quoted;
 use crate::script::attributes::{tell_no_names, tell_no_values};
@@ -7,14 +7,14 @@ use crate::shape::{is_unsupported, tell_bad_geometry, tell_unknown_type, tell_un
 use city_model::OutOfMemory;
 use city_model::object_type::type_named;
 use serde_json::Value;
-use std::alloc::Global;
+use std::fmt::Write;
 
-/// The form of a command that is an object.
+/// The form of an object command.
 fn form_of(command: &Value) -> Option<&'static Form> {
     form_in(command.as_object()?)
 }
 
-/// The tree in which the geometries stand that a command gives: the object that it gives, or its own.
+/// The tree with a command's geometries: its object's, or its own.
 pub fn shaped_tree(command: &Value) -> Option<&Value> {
     match form_of(command)?.given()? {
         (name, Kind::Object) => command.get(name),
@@ -22,77 +22,64 @@ pub fn shaped_tree(command: &Value) -> Option<&Value> {
     }
 }
 
-/// Narrows the place to the object of this id that a command is about.
-pub fn narrow_to_object(
-    alloc: Global,
-    command: &Value,
-    diagnostic: &mut Diagnostic,
-) -> Result<(), OutOfMemory> {
-    let Some(id) = object_id(command) else {
-        return Ok(());
-    };
-    let id = Quoted(id);
-    let words = format!(in alloc; "object {id}")?;
-    diagnostic.narrow(words.as_str())
+/// Narrows the place to the object of a command.
+pub fn narrow_to_object(command: &Value, diagnostic: &mut Diagnostic) -> Result<(), OutOfMemory> {
+    if let Some(id) = object_id(command) {
+        let id = Quoted(id);
+        write!(diagnostic.narrowed()?, "object {id}")?;
+    }
+    Ok(())
 }
 
-/// The id of the object that a command is about, where it is a text.
+/// The id of a command's object, if it is a text.
 fn object_id(command: &Value) -> Option<&str> {
     command.get(form_of(command)?.name)?.as_str()
 }
 
-/// Says which rule is broken by what a command gives.
-pub fn tell_bad_given(
-    alloc: Global,
-    command: &Value,
-    diagnostic: &mut Diagnostic,
-) -> Result<(), OutOfMemory> {
-    narrow_to_object(alloc, command, diagnostic)?;
+/// Tells the first rule broken by a part of a command.
+pub fn tell_bad_given(command: &Value, diagnostic: &mut Diagnostic) -> Result<(), OutOfMemory> {
+    narrow_to_object(command, diagnostic)?;
     let Some(form) = form_of(command) else {
         return Ok(());
     };
     let Some((name, kind)) = form.given() else {
         return Ok(());
     };
-    let nothing = Value::Null;
-    let given = command.get(name).unwrap_or(&nothing);
+    let Some(given) = command.get(name) else {
+        return Ok(());
+    };
     match kind {
-        Kind::Values => tell_no_values(alloc, diagnostic),
-        Kind::Names => tell_no_names(alloc, given, diagnostic),
-        Kind::Geometry => tell_unreadable_geometry(alloc, command, diagnostic),
-        _ => tell_bad_object(alloc, form.name, given, diagnostic),
+        Kind::Values => tell_no_values(diagnostic),
+        Kind::Names => tell_no_names(given, diagnostic),
+        Kind::Geometry => tell_unreadable_geometry(command, diagnostic),
+        _ => tell_bad_object(form.name, given, diagnostic),
     }
 }
 
-/// Says which rule the object breaks that a command of this name gives.
+/// Tells the first rule broken by the object in a command of this name.
 fn tell_bad_object(
-    alloc: Global,
     command: &str,
     object: &Value,
     diagnostic: &mut Diagnostic,
 ) -> Result<(), OutOfMemory> {
     if !object.is_object() {
-        return tell_no_object(alloc, command, diagnostic);
+        return tell_no_object(command, diagnostic);
     }
     match relation_in(object) {
-        Some(member) => tell_relation(alloc, command, member, diagnostic),
-        None => tell_unreadable(alloc, object, diagnostic),
+        Some(member) => tell_relation(command, member, diagnostic),
+        None => tell_unreadable(object, diagnostic),
     }
 }
 
-fn tell_no_object(
-    alloc: Global,
-    command: &str,
-    diagnostic: &mut Diagnostic,
-) -> Result<(), OutOfMemory> {
+fn tell_no_object(command: &str, diagnostic: &mut Diagnostic) -> Result<(), OutOfMemory> {
     diagnostic.details.text("rule", "no object")?;
     let done = done(command);
-    let message = format!(in alloc; "What is {done} isn't an object.")?;
-    diagnostic.tell(message, object_cure(command));
+    write!(diagnostic.message, "What is {done} isn't an object.")?;
+    diagnostic.cure = object_cure(command);
     Ok(())
 }
 
-/// What a put and an add have done to their object, in a word.
+/// The participle of a put or an add.
 fn done(command: &str) -> &'static str {
     if command == "add" { "added" } else { "put" }
 }
@@ -105,7 +92,7 @@ fn object_cure(command: &str) -> &'static str {
     }
 }
 
-/// The list of relations that an object has.
+/// The name of an object's first list of relations.
 fn relation_in(object: &Value) -> Option<&'static str> {
     for member in ["parents", "children"] {
         if object.get(member).is_some() {
@@ -116,7 +103,6 @@ fn relation_in(object: &Value) -> Option<&'static str> {
 }
 
 fn tell_relation(
-    alloc: Global,
     command: &str,
     member: &str,
     diagnostic: &mut Diagnostic,
@@ -124,40 +110,33 @@ fn tell_relation(
     diagnostic.details.text("rule", "relations")?;
     diagnostic.details.text("member", member)?;
     let done = done(command);
-    let message = format!(in alloc; "The object that is {done} has the member \"{member}\".")?;
-    diagnostic.tell(
-        message,
-        "Leave parents and children out, and attach the object by a command of its own.",
-    );
+    write!(
+        diagnostic.message,
+        "The object that is {done} has the member \"{member}\"."
+    )?;
+    diagnostic.cure =
+        "Leave parents and children out, and attach the object by a command of its own.";
     Ok(())
 }
 
 /// Says why an object without relations can't be read.
-fn tell_unreadable(
-    alloc: Global,
-    object: &Value,
-    diagnostic: &mut Diagnostic,
-) -> Result<(), OutOfMemory> {
+fn tell_unreadable(object: &Value, diagnostic: &mut Diagnostic) -> Result<(), OutOfMemory> {
     if !has_known_type(object) {
         diagnostic.details.text("rule", "type")?;
-        return tell_unknown_type(alloc, object, diagnostic);
+        return tell_unknown_type(object, diagnostic);
     }
-    tell_unreadable_geometry(alloc, object, diagnostic)
+    tell_unreadable_geometry(object, diagnostic)
 }
 
 /// Says why the geometries in a tree can't be read.
-fn tell_unreadable_geometry(
-    alloc: Global,
-    tree: &Value,
-    diagnostic: &mut Diagnostic,
-) -> Result<(), OutOfMemory> {
+fn tell_unreadable_geometry(tree: &Value, diagnostic: &mut Diagnostic) -> Result<(), OutOfMemory> {
     if is_unsupported(tree) {
         diagnostic.details.text("rule", "unsupported")?;
-        return tell_unsupported(alloc, tree, diagnostic);
+        return tell_unsupported(tree, diagnostic);
     }
-    // (what is told can't be read, so a geometry is wrong)
+    // (the tree is unreadable, so a geometry is wrong)
     diagnostic.details.text("rule", "geometry")?;
-    tell_bad_geometry(alloc, tree, diagnostic)
+    tell_bad_geometry(tree, diagnostic)
 }
 
 fn has_known_type(object: &Value) -> bool {

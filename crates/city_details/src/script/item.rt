@@ -1,12 +1,12 @@
-//! Items that aren't scripts.
+//! Items other than scripts.
 use crate::diagnostic::Diagnostic;
 use crate::quoted::Quoted;
 use city_model::OutOfMemory;
 use city_tokens::triple_of;
 use serde_json::{Map, Value};
-use std::alloc::Global;
+use std::fmt::{self, Display, Formatter, Write};
 
-/// What keeps an item from being a script.
+/// A rule for scripts, broken by an item.
 #[derive(Clone, Copy)]
 pub enum BrokenRule<'t> {
     NoObject,
@@ -16,16 +16,16 @@ pub enum BrokenRule<'t> {
     CommandsNoArray,
     /// No command ends the script.
     NoEnd,
-    /// The first command that ends the script, which isn't the last one.
+    /// This first end isn't the last command.
     EndNotLast(usize),
     VerticesNoArray,
-    /// The first vertex that isn't three whole numbers.
+    /// This vertex, the first such, isn't three whole numbers.
     NoVertex(usize),
-    /// A member that a script doesn't have.
+    /// An unknown member.
     OtherMember(&'t str),
 }
 
-/// The first rule that keeps an item from being a script, or none where it is one.
+/// The first rule broken by an item; none if it is a script.
 pub fn broken_rule(item: &Value) -> Option<BrokenRule<'_>> {
     let Some(members) = item.as_object() else {
         return Some(BrokenRule::NoObject);
@@ -52,7 +52,7 @@ fn broken_commands(members: &Map<String, Value>) -> Option<BrokenRule<'static>> 
     }
 }
 
-/// What is wrong where not exactly the last of the commands ends the script.
+/// The fault of commands unless exactly the last one ends the script.
 fn broken_end(commands: &[Value]) -> Option<BrokenRule<'static>> {
     match commands.iter().position(is_end) {
         None => Some(BrokenRule::NoEnd),
@@ -81,7 +81,7 @@ fn broken_vertex(vertices: &[Value]) -> Option<BrokenRule<'static>> {
     Some(BrokenRule::NoVertex(vertex))
 }
 
-/// The first member, in byte order, that a script doesn't have.
+/// The first unknown member, in byte order.
 fn other_member(members: &Map<String, Value>) -> Option<BrokenRule<'_>> {
     for (name, _) in members.iter() {
         if !matches!(name.as_str(), "name" | "commands" | "vertices") {
@@ -91,21 +91,21 @@ fn other_member(members: &Map<String, Value>) -> Option<BrokenRule<'_>> {
     None
 }
 
-/// Says which rule an item breaks.
+/// Tells the first rule broken by an item.
 pub fn tell_bad_script(
-    alloc: Global,
-    item: &Value,
+    item: Option<&Value>,
     diagnostic: &mut Diagnostic,
 ) -> Result<(), OutOfMemory> {
-    // (an item that is told breaks some rule)
-    let rule = broken_rule(item).unwrap_or(BrokenRule::NoObject);
+    // (the item breaks some rule)
+    let rule = item.and_then(broken_rule).unwrap_or(BrokenRule::NoObject);
     diagnostic.details.text("rule", rule.name())?;
     match rule {
         BrokenRule::EndNotLast(command) => diagnostic.details.number("command", command)?,
         BrokenRule::OtherMember(member) => diagnostic.details.text("member", member)?,
         _ => {}
     }
-    diagnostic.tell(rule.message(alloc)?, rule.cure());
+    write!(diagnostic.message, "{rule}")?;
+    diagnostic.cure = rule.cure();
     Ok(())
 }
 
@@ -122,31 +122,6 @@ impl BrokenRule<'_> {
         }
     }
 
-    fn message(&self, alloc: Global) -> Result<String, OutOfMemory> {
-        let message = match self {
-            BrokenRule::NoObject => "It isn't an object.",
-            BrokenRule::NoName => "It has no name.",
-            BrokenRule::NameNoText => "Its name isn't a text.",
-            BrokenRule::NoCommands => "It has no commands.",
-            BrokenRule::CommandsNoArray => "Its commands aren't an array.",
-            BrokenRule::NoEnd => "None of its commands is \"commit\" or \"abort\".",
-            BrokenRule::VerticesNoArray => "Its vertices aren't an array.",
-            BrokenRule::EndNotLast(command) => {
-                return format!(in alloc; "Its command {command} ends it, and isn't the last one.");
-            }
-            BrokenRule::NoVertex(vertex) => {
-                return format!(in alloc;
-                    "Its vertex {vertex} isn't an array of three whole numbers."
-                );
-            }
-            BrokenRule::OtherMember(member) => {
-                let member = Quoted(member);
-                return format!(in alloc; "It has the member {member}, which no script has.");
-            }
-        };
-        message.to_string(alloc)
-    }
-
     fn cure(&self) -> &'static str {
         match self {
             BrokenRule::NoObject => "Write each script as an object with a name and commands.",
@@ -161,5 +136,33 @@ impl BrokenRule<'_> {
             }
             BrokenRule::OtherMember(_) => "Drop the member, or correct its name.",
         }
+    }
+}
+
+impl Display for BrokenRule<'_> {
+    fn fmt<W: Write>(&self, f: &mut Formatter<W>) -> fmt::Result {
+        let message = match *self {
+            BrokenRule::NoObject => "It isn't an object.",
+            BrokenRule::NoName => "It has no name.",
+            BrokenRule::NameNoText => "Its name isn't a text.",
+            BrokenRule::NoCommands => "It has no commands.",
+            BrokenRule::CommandsNoArray => "Its commands aren't an array.",
+            BrokenRule::NoEnd => "None of its commands is \"commit\" or \"abort\".",
+            BrokenRule::VerticesNoArray => "Its vertices aren't an array.",
+            BrokenRule::EndNotLast(command) => {
+                return write!(f, "Its command {command} ends it, and isn't the last one.");
+            }
+            BrokenRule::NoVertex(vertex) => {
+                return write!(
+                    f,
+                    "Its vertex {vertex} isn't an array of three whole numbers."
+                );
+            }
+            BrokenRule::OtherMember(member) => {
+                let member = Quoted(member);
+                return write!(f, "It has the member {member}, which no script has.");
+            }
+        };
+        f.write_str(message)
     }
 }

@@ -5,27 +5,23 @@ use crate::script::place::narrow_to_script;
 use city_model::OutOfMemory;
 use city_tokens::{MAX_COMMANDS, MAX_SCRIPTS};
 use serde_json::Value;
-use std::alloc::Global;
+use std::fmt::Write;
 
-/// Says how many scripts there are, where they are too many; else which is the first script that has too many commands.
-pub fn tell_too_many(
-    alloc: Global,
-    tree: &Value,
-    diagnostic: &mut Diagnostic,
-) -> Result<(), OutOfMemory> {
+/// Tells the number of scripts if it is too large, else the first script with too many commands.
+pub fn tell_too_many(tree: &Value, diagnostic: &mut Diagnostic) -> Result<(), OutOfMemory> {
     let Some(items) = tree.as_array() else {
-        return tell_scripts(alloc, 0, diagnostic);
+        return tell_scripts(0, diagnostic);
     };
     if items.len() <= MAX_SCRIPTS {
         if let Some((script, commands)) = first_too_long(items.as_slice()) {
-            narrow_to_script(alloc, tree, script, diagnostic)?;
-            return tell_commands(alloc, script, commands, diagnostic);
+            narrow_to_script(tree, script, diagnostic)?;
+            return tell_commands(script, commands, diagnostic);
         }
     }
-    tell_scripts(alloc, items.len(), diagnostic)
+    tell_scripts(items.len(), diagnostic)
 }
 
-/// The first script that has too many commands, and how many it has.
+/// The first script with too many commands, and their number.
 fn first_too_long(items: &[Value]) -> Option<(usize, usize)> {
     for (script, item) in items.iter().enumerate() {
         let commands = command_count(item);
@@ -36,7 +32,7 @@ fn first_too_long(items: &[Value]) -> Option<(usize, usize)> {
     None
 }
 
-/// How many commands an item has.
+/// The number of an item's commands.
 fn command_count(item: &Value) -> usize {
     match item.get("commands").and_then(Value::as_array) {
         Some(commands) => commands.len(),
@@ -44,33 +40,27 @@ fn command_count(item: &Value) -> usize {
     }
 }
 
-fn tell_scripts(
-    alloc: Global,
-    scripts: usize,
-    diagnostic: &mut Diagnostic,
-) -> Result<(), OutOfMemory> {
+fn tell_scripts(scripts: usize, diagnostic: &mut Diagnostic) -> Result<(), OutOfMemory> {
     diagnostic.details.number("scripts", scripts)?;
-    let message = format!(in alloc;
+    write!(
+        diagnostic.message,
         "There are {scripts} scripts, and a text may have {MAX_SCRIPTS}."
     )?;
-    diagnostic.tell(
-        message,
-        "Split the text, and run its parts one after the other.",
-    );
+    diagnostic.cure = "Split the text, and run its parts one after the other.";
     Ok(())
 }
 
 fn tell_commands(
-    alloc: Global,
     script: usize,
     commands: usize,
     diagnostic: &mut Diagnostic,
 ) -> Result<(), OutOfMemory> {
     diagnostic.details.number("script", script)?;
     diagnostic.details.number("commands", commands)?;
-    let message = format!(in alloc;
+    write!(
+        diagnostic.message,
         "It has {commands} commands, and a script may have {MAX_COMMANDS}."
     )?;
-    diagnostic.tell(message, "Split the script into several.");
+    diagnostic.cure = "Split the script into several.";
     Ok(())
 }

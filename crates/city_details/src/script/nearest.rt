@@ -1,25 +1,25 @@
-//! The command that a misspelt word may stand for.
+//! The command nearest to a misspelt word.
 use crate::script::forms::{FORMS, WORDS};
 use city_model::OutOfMemory;
 use std::alloc::Global;
 use strsim::osa_distance;
 
-/// How many bytes a word may have that is compared with the names of commands. A longer one is far from all of them.
+/// Most bytes of a word compared with the names of commands. A longer one is far from all of them.
 const LONGEST: usize = 32;
 
-/// How many letters of a word may be wrong, missing, too many, or swapped with the next.
+/// Most letters of a word that may be wrong, missing, too many, or swapped with the next.
 const MOST_EDITS: usize = 2;
 
-/// The name of a command, and how many edits of a word lead to it.
+/// The name of a command, and its distance in edits from a word.
 #[derive(Clone, Copy)]
 struct Found {
     name: &'static str,
     edits: usize,
 }
 
-/// The name of the command that is nearest to a word, where one is near; of several the first in byte order.
+/// Returns the name of a command nearest to a word, if one is near: among several the first in byte order.
 ///
-/// A name is near where it differs by at most two letters, and by fewer than the word has.
+/// A near name differs by at most two letters, and by fewer than the word has.
 pub fn nearest(alloc: Global, word: &str) -> Result<Option<&'static str>, OutOfMemory> {
     if word.len() > LONGEST {
         return Ok(None);
@@ -41,7 +41,7 @@ pub fn nearest(alloc: Global, word: &str) -> Result<Option<&'static str>, OutOfM
 }
 
 impl Found {
-    /// Takes a name that is nearer to the word, or as near and earlier in byte order.
+    /// Takes a name if it is nearer to the word, or as near and earlier in byte order.
     fn look_at(
         &mut self,
         alloc: Global,

@@ -1,14 +1,14 @@
-//! What is told of a geometry that can't be read.
+//! Diagnostics of unreadable geometries.
 use crate::diagnostic::Diagnostic;
 use crate::quoted::Quoted;
 use crate::shape::nesting::Nesting;
 use city_model::OutOfMemory;
 use serde_json::Value;
-use std::alloc::Global;
+use std::fmt::{self, Display, Formatter, Write};
 
 const CURE: &str = "Repair the geometry; a lod is a text.";
 
-/// What is wrong with a geometry.
+/// A fault of a geometry.
 #[derive(Clone, Copy)]
 enum Wrong<'v> {
     NoObject,
@@ -18,12 +18,12 @@ enum Wrong<'v> {
     TypeNoText,
     UnknownType(&'v str),
     NoBoundaries,
-    /// The boundaries aren't nested as this type says.
+    /// The boundaries don't have the nesting of this type.
     Nested(&'v str, Nesting),
 }
 
 impl Wrong<'_> {
-    /// The part of the geometry that is wrong.
+    /// The wrong part of the geometry.
     fn part(&self) -> &'static str {
         match self {
             Wrong::NoObject => "geometry",
@@ -32,23 +32,33 @@ impl Wrong<'_> {
             Wrong::NoBoundaries | Wrong::Nested(_, _) => "boundaries",
         }
     }
+}
 
-    /// What is wrong, in a sentence, with the geometry of this number.
-    fn message(&self, alloc: Global, n: usize) -> Result<String, OutOfMemory> {
-        match *self {
-            Wrong::NoObject => format!(in alloc; "Geometry {n} isn't an object."),
-            Wrong::NoLod => format!(in alloc; "Geometry {n} has no lod."),
-            Wrong::LodNoText => format!(in alloc; "The lod of geometry {n} isn't a text."),
-            Wrong::NoType => format!(in alloc; "Geometry {n} has no type."),
-            Wrong::TypeNoText => format!(in alloc; "The type of geometry {n} isn't a text."),
+/// Shows a geometry's number and its fault.
+#[derive(Clone, Copy)]
+struct Message<'v>(usize, Wrong<'v>);
+
+impl Display for Message<'_> {
+    fn fmt<W: Write>(&self, f: &mut Formatter<W>) -> fmt::Result {
+        let n = self.0;
+        match self.1 {
+            Wrong::NoObject => write!(f, "Geometry {n} isn't an object."),
+            Wrong::NoLod | Wrong::NoType | Wrong::NoBoundaries => {
+                let part = self.1.part();
+                write!(f, "Geometry {n} has no {part}.")
+            }
+            Wrong::LodNoText | Wrong::TypeNoText => {
+                let part = self.1.part();
+                write!(f, "The {part} of geometry {n} isn't a text.")
+            }
             Wrong::UnknownType(kind) => {
                 let kind = Quoted(kind);
-                format!(in alloc; "Geometry {n} is of type {kind}, which isn't read.")
+                write!(f, "Geometry {n} is of type {kind}, which isn't read.")
             }
-            Wrong::NoBoundaries => format!(in alloc; "Geometry {n} has no boundaries."),
             Wrong::Nested(kind, nesting) => {
                 let depth = nesting.depth();
-                format!(in alloc;
+                write!(
+                    f,
                     "The boundaries of geometry {n}, a {kind}, aren't positions in {depth} arrays."
                 )
             }
@@ -56,47 +66,37 @@ impl Wrong<'_> {
     }
 }
 
-/// Says which geometry can't be read, and which part of it is wrong.
-pub fn tell_bad_geometry(
-    alloc: Global,
-    object: &Value,
-    diagnostic: &mut Diagnostic,
-) -> Result<(), OutOfMemory> {
+/// Tells the first unreadable geometry, and its wrong part.
+pub fn tell_bad_geometry(object: &Value, diagnostic: &mut Diagnostic) -> Result<(), OutOfMemory> {
     let Some(geometry) = object.get("geometry") else {
         return Ok(());
     };
     let Some(geometries) = geometry.as_array() else {
         diagnostic.details.text("part", "geometry")?;
-        let message = "Its geometry isn't an array.".to_string(alloc)?;
-        diagnostic.tell(message, CURE);
-        return Ok(());
+        return diagnostic.tell("Its geometry isn't an array.", CURE);
     };
     for number in 0..geometries.len() {
         if let Some(wrong) = wrong_with(&geometries[number]) {
-            return tell(alloc, number, wrong, diagnostic);
+            return tell(number, wrong, diagnostic);
         }
     }
     Ok(())
 }
 
-fn tell(
-    alloc: Global,
-    number: usize,
-    wrong: Wrong<'_>,
-    diagnostic: &mut Diagnostic,
-) -> Result<(), OutOfMemory> {
-    let place = format!(in alloc; "geometry {number}")?;
-    diagnostic.narrow(place.as_str())?;
+fn tell(number: usize, wrong: Wrong<'_>, diagnostic: &mut Diagnostic) -> Result<(), OutOfMemory> {
+    write!(diagnostic.narrowed()?, "geometry {number}")?;
     diagnostic.details.number("geometry", number)?;
     diagnostic.details.text("part", wrong.part())?;
     if let Wrong::UnknownType(kind) = wrong {
         diagnostic.details.text("given", kind)?;
     }
-    diagnostic.tell(wrong.message(alloc, number)?, CURE);
+    let message = Message(number, wrong);
+    write!(diagnostic.message, "{message}")?;
+    diagnostic.cure = CURE;
     Ok(())
 }
 
-/// What is wrong with a geometry, if anything.
+/// The first fault of a geometry, if any.
 fn wrong_with(geometry: &Value) -> Option<Wrong<'_>> {
     if !geometry.is_object() {
         return Some(Wrong::NoObject);
@@ -108,7 +108,7 @@ fn wrong_with(geometry: &Value) -> Option<Wrong<'_>> {
     }
 }
 
-/// What is wrong with a geometry whose lod is right.
+/// The first fault of a geometry with a valid lod, if any.
 fn wrong_with_type(geometry: &Value) -> Option<Wrong<'_>> {
     let Some(kind) = geometry.get("type") else {
         return Some(Wrong::NoType);

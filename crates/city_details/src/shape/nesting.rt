@@ -1,7 +1,7 @@
 //! How the boundaries of a geometry are nested, by its type (CityJSON 2.0, section 3).
 use serde_json::Value;
 
-/// What the outermost array of boundaries is a list of.
+/// The items of the outermost array of boundaries.
 #[derive(Clone, Copy)]
 pub enum Nesting {
     Surfaces,
@@ -10,7 +10,7 @@ pub enum Nesting {
 }
 
 impl Nesting {
-    /// That of a type of geometry.
+    /// Returns the nesting of a type of geometry.
     pub fn of_type(kind: &str) -> Option<Nesting> {
         match kind {
             "MultiSurface" | "CompositeSurface" => Some(Nesting::Surfaces),
@@ -20,7 +20,7 @@ impl Nesting {
         }
     }
 
-    /// Within how many arrays positions are.
+    /// The number of arrays around a position.
     pub fn depth(self) -> usize {
         match self {
             Nesting::Surfaces => 3,
@@ -31,36 +31,28 @@ impl Nesting {
 
     /// Whether boundaries are numbers, nested like this.
     pub fn has(self, boundaries: &Value) -> bool {
-        match self {
-            Nesting::Surfaces => is_shell(boundaries),
-            Nesting::Shells => is_solid(boundaries),
-            Nesting::Solids => is_array_of(boundaries, |solid| is_solid(solid)),
-        }
+        is_nested(boundaries, self.depth())
     }
 }
 
-/// Whether a value is an array of what has a form.
-fn is_array_of<F: Fn(&Value) -> bool>(value: &Value, has_form: F) -> bool
-    requires { F.IsAlwaysCallable has_form }
-{
+/// Whether a value is numbers within `depth` arrays.
+#[cycle(nested)]
+fn is_nested(value: &Value, depth: usize) -> bool {
+    if depth == 0 {
+        return value.is_number();
+    }
     match value.as_array() {
         None => false,
-        Some(items) => items.iter().all(|item| has_form(item)),
+        Some(items) => are_nested(items.as_slice(), depth - 1),
     }
 }
 
-fn is_solid(value: &Value) -> bool {
-    is_array_of(value, |shell| is_shell(shell))
-}
-
-fn is_shell(value: &Value) -> bool {
-    is_array_of(value, |surface| is_surface(surface))
-}
-
-fn is_surface(value: &Value) -> bool {
-    is_array_of(value, |ring| is_ring(ring))
-}
-
-fn is_ring(value: &Value) -> bool {
-    is_array_of(value, |position| position.is_number())
+#[cycle(nested)]
+fn are_nested(items: &[Value], depth: usize) -> bool {
+    for item in items {
+        if !is_nested(item, depth) {
+            return false;
+        }
+    }
+    true
 }

@@ -1,77 +1,40 @@
-//! Where in the geometries of an object something is.
+//! The place of a shell or a ring in an object's geometries.
 use crate::diagnostic::Diagnostic;
 use crate::quoted::Quoted;
 use crate::shape::walk::{Ring, Surfaces};
 use city_model::OutOfMemory;
 use serde_json::Value;
-use std::alloc::Global;
+use std::fmt::Write;
 
-/// Numbers, from the geometry down to a ring, as far as they are known.
-#[derive(Clone, Copy)]
-pub struct Place<'v> {
-    geometry: usize,
-    lod: &'v str,
-    solid: Option<usize>,
-    shell: Option<usize>,
-    surface: Option<usize>,
-    ring: Option<usize>,
+/// Narrows the place of a diagnostic to surfaces, and adds their numbers.
+pub fn narrow_to_surfaces(
+    surfaces: &Surfaces<'_>,
+    diagnostic: &mut Diagnostic,
+) -> Result<(), OutOfMemory> {
+    let number = surfaces.geometry.number;
+    let lod = surfaces.geometry.value.get("lod").and_then(Value::as_str);
+    let lod = lod.unwrap_or("");
+    diagnostic.details.number("geometry", number)?;
+    diagnostic.details.text("lod", lod)?;
+    let lod = Quoted(lod);
+    write!(diagnostic.narrowed()?, "geometry {number} (lod {lod})")?;
+    narrow_to_part("solid", surfaces.solid, diagnostic)?;
+    narrow_to_part("shell", surfaces.shell, diagnostic)
 }
 
-impl<'v> Place<'v> {
-    /// A geometry, with its number.
-    pub fn new(number: usize, geometry: &'v Value) -> Place<'v> {
-        Place {
-            geometry: number,
-            lod: geometry.get("lod").and_then(Value::as_str).unwrap_or(""),
-            solid: None,
-            shell: None,
-            surface: None,
-            ring: None,
-        }
-    }
-
-    /// The shell of these surfaces, where they have one.
-    pub fn at_shell(self, surfaces: &Surfaces<'_>) -> Place<'v> {
-        Place {
-            geometry: self.geometry,
-            lod: self.lod,
-            solid: surfaces.solid,
-            shell: surfaces.shell,
-            surface: None,
-            ring: None,
-        }
-    }
-
-    /// A ring there.
-    pub fn at_ring(self, ring: &Ring<'_>) -> Place<'v> {
-        Place {
-            geometry: self.geometry,
-            lod: self.lod,
-            solid: self.solid,
-            shell: self.shell,
-            surface: Some(ring.surface),
-            ring: ring.ring,
-        }
-    }
-
-    /// Narrows the place of a diagnostic to this one, and adds its numbers.
-    pub fn tell(&self, alloc: Global, diagnostic: &mut Diagnostic) -> Result<(), OutOfMemory> {
-        let number = self.geometry;
-        let lod = Quoted(self.lod);
-        let words = format!(in alloc; "geometry {number} (lod {lod})")?;
-        diagnostic.narrow(words.as_str())?;
-        diagnostic.details.number("geometry", number)?;
-        diagnostic.details.text("lod", self.lod)?;
-        tell_number(alloc, "solid", self.solid, diagnostic)?;
-        tell_number(alloc, "shell", self.shell, diagnostic)?;
-        tell_number(alloc, "surface", self.surface, diagnostic)?;
-        tell_number(alloc, "ring", self.ring, diagnostic)
-    }
+/// Narrows the place of a diagnostic to a ring of surfaces, and adds its numbers.
+pub fn narrow_to_ring(
+    surfaces: &Surfaces<'_>,
+    ring: &Ring<'_>,
+    diagnostic: &mut Diagnostic,
+) -> Result<(), OutOfMemory> {
+    narrow_to_surfaces(surfaces, diagnostic)?;
+    narrow_to_part("surface", Some(ring.surface), diagnostic)?;
+    narrow_to_part("ring", ring.ring, diagnostic)
 }
 
-/// Narrows the place to the part of this number, where there is one.
-fn tell_number(
-    alloc: Global,
+/// Narrows the place to the part of this number, if there is one, and adds the number.
+fn narrow_to_part(
     part: &str,
     number: Option<usize>,
     diagnostic: &mut Diagnostic,
@@ -79,7 +42,6 @@ fn tell_number(
     let Some(number) = number else {
         return Ok(());
     };
-    let words = format!(in alloc; "{part} {number}")?;
-    diagnostic.narrow(words.as_str())?;
+    write!(diagnostic.narrowed()?, "{part} {number}")?;
     diagnostic.details.number(part, number)
 }

@@ -1,4 +1,4 @@
-//! Points as they stand in rings and messages.
+//! Points of rings, and in messages.
 use city_model::OutOfMemory;
 use city_model::object::Point;
 use serde_json::Value;
@@ -16,7 +16,7 @@ impl Display for Coordinates {
     }
 }
 
-/// The points that the positions of a ring name; a position that names none is left out.
+/// The points at a ring's positions, without positions out of range.
 pub fn points_of(
     alloc: Global,
     positions: &[Value],

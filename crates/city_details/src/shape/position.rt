@@ -1,101 +1,77 @@
-//! What is told of a position that names no vertex.
+//! Diagnostics of positions without a vertex.
 use crate::diagnostic::Diagnostic;
-use crate::shape::place::Place;
-use crate::shape::walk::{Surfaces, geometries_of, rings_of, surfaces_of};
+use crate::shape::place::narrow_to_ring;
+use crate::shape::walk::{Surfaces, rings_of, surfaces_of};
 use city_model::OutOfMemory;
 use serde_json::Value;
 use std::alloc::Global;
+use std::fmt::Write;
 
-/// A position, and where it stands.
+/// A position of a ring, and its place in it.
 #[derive(Clone, Copy)]
-struct Found<'v> {
-    place: Place<'v>,
-    /// Its place in the ring.
+struct Found {
     item: usize,
     position: i64,
 }
 
-/// Says which position names none of so many vertices.
+/// Tells the first position out of the range of `count` vertices.
 pub fn tell_bad_vertex(
     alloc: Global,
     object: &Value,
     count: usize,
     diagnostic: &mut Diagnostic,
 ) -> Result<(), OutOfMemory> {
-    let geometries = geometries_of(object);
-    for number in 0..geometries.len() {
-        let geometry = &geometries[number];
-        if let Some(found) = in_geometry(alloc, Place::new(number, geometry), geometry, count)? {
-            return tell(alloc, &found, count, diagnostic);
+    let lists = surfaces_of(alloc, object)?;
+    for surfaces in &lists {
+        if is_told(alloc, surfaces, count, diagnostic)? {
+            return Ok(());
         }
     }
     Ok(())
 }
 
-fn tell(
+/// Tells the first such position of surfaces. Returns whether there is one.
+fn is_told(
     alloc: Global,
-    found: &Found<'_>,
+    surfaces: &Surfaces<'_>,
     count: usize,
     diagnostic: &mut Diagnostic,
-) -> Result<(), OutOfMemory> {
-    found.place.tell(alloc, diagnostic)?;
-    diagnostic.details.number("item", found.item)?;
-    diagnostic.details.integer("position", found.position)?;
+) -> Result<bool, OutOfMemory> {
+    let rings = rings_of(alloc, surfaces)?;
+    for ring in &rings {
+        if let Some(found) = in_ring(ring.positions, count) {
+            narrow_to_ring(surfaces, ring, diagnostic)?;
+            tell(found, count, diagnostic)?;
+            return Ok(true);
+        }
+    }
+    Ok(false)
+}
+
+fn tell(found: Found, count: usize, diagnostic: &mut Diagnostic) -> Result<(), OutOfMemory> {
+    let Found { item, position } = found;
+    diagnostic.details.number("item", item)?;
+    diagnostic.details.integer("position", position)?;
     diagnostic.details.number("vertices", count)?;
-    let item = found.item;
-    let position = found.position;
-    let message = if position < 0 {
-        format!(in alloc; "Item {item} of the ring is {position}, but no position is negative.")?
+    write!(
+        diagnostic.message,
+        "Item {item} of the ring is {position}, but "
+    )?;
+    if position < 0 {
+        write!(diagnostic.message, "no position is negative.")?;
     } else {
-        format!(in alloc;
-            "Item {item} of the ring is {position}, but there are {count} vertices, from 0 on."
-        )?
-    };
-    diagnostic.tell(message, "Repair the positions.");
+        write!(diagnostic.message, "there are {count} vertices, from 0 on.")?;
+    }
+    diagnostic.cure = "Repair the positions.";
     Ok(())
 }
 
-fn in_geometry<'v>(
-    alloc: Global,
-    place: Place<'v>,
-    geometry: &'v Value,
-    count: usize,
-) -> Result<Option<Found<'v>>, OutOfMemory> {
-    let lists = surfaces_of(alloc, geometry)?;
-    for surfaces in &lists {
-        let place = place.at_shell(surfaces);
-        if let Some(found) = in_surfaces(alloc, place, surfaces, count)? {
-            return Ok(Some(found));
-        }
-    }
-    Ok(None)
-}
-
-fn in_surfaces<'v>(
-    alloc: Global,
-    place: Place<'v>,
-    surfaces: &Surfaces<'v>,
-    count: usize,
-) -> Result<Option<Found<'v>>, OutOfMemory> {
-    let rings = rings_of(alloc, surfaces)?;
-    for ring in &rings {
-        if let Some((item, position)) = in_ring(ring.positions, count) {
-            return Ok(Some(Found {
-                place: place.at_ring(ring),
-                item,
-                position,
-            }));
-        }
-    }
-    Ok(None)
-}
-
-/// The first position that names none of so many vertices, and its place in the ring.
-fn in_ring(positions: &[Value], count: usize) -> Option<(usize, i64)> {
-    for item in 0..positions.len() {
-        if let Some(position) = positions[item].as_i64() {
+/// The first position out of the range of `count` vertices.
+fn in_ring(positions: &[Value], count: usize) -> Option<Found> {
+    for (item, position) in positions.iter().enumerate() {
+        if let Some(position) = position.as_i64() {
             if !is_below(position, count) {
-                return Some((item, position));
+                return Some(Found { item, position });
             }
         }
     }

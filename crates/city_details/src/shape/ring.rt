@@ -1,14 +1,15 @@
-//! What is told of a ring that is too short or has equal neighbours, and of a surface without rings.
+//! Diagnostics of short rings, of rings with equal neighbours, and of surfaces without rings.
 use crate::diagnostic::Diagnostic;
-use crate::shape::place::Place;
+use crate::shape::place::narrow_to_ring;
 use crate::shape::points::{Coordinates, points_of};
-use crate::shape::walk::{Ring, Surfaces, geometries_of, rings_of, surfaces_of};
+use crate::shape::walk::{Ring, Surfaces, rings_of, surfaces_of};
 use city_model::OutOfMemory;
 use city_model::object::Point;
 use serde_json::Value;
 use std::alloc::Global;
+use std::fmt::{self, Display, Formatter, Write};
 
-/// What is wrong with a ring.
+/// A fault of a ring.
 #[derive(Clone, Copy)]
 enum Wrong {
     /// This surface has no ring.
@@ -27,89 +28,73 @@ impl Wrong {
             Wrong::Equal(_, _, _) => "equal neighbours",
         }
     }
+}
 
-    fn message(&self, alloc: Global) -> Result<String, OutOfMemory> {
+impl Display for Wrong {
+    fn fmt<W: Write>(&self, f: &mut Formatter<W>) -> fmt::Result {
         match *self {
-            Wrong::NoRing(surface) => format!(in alloc; "Surface {surface} has no ring."),
+            Wrong::NoRing(surface) => write!(f, "Surface {surface} has no ring."),
             Wrong::Short(points) => {
-                format!(in alloc; "The ring has {points} of the three points that it needs.")
+                write!(
+                    f,
+                    "The ring has {points} of the three points that it needs."
+                )
             }
             Wrong::Equal(one, next, point) => {
                 let point = Coordinates(point);
-                format!(in alloc; "The neighbours {one} and {next} of the ring are equal: {point}.")
+                write!(
+                    f,
+                    "The neighbours {one} and {next} of the ring are equal: {point}."
+                )
             }
         }
     }
 }
 
-/// Says which ring is too short or has equal neighbours, or which surface has none.
+/// Tells the first ring that is too short or has equal neighbours, or the first surface without rings.
 pub fn tell_bad_ring(
     alloc: Global,
     object: &Value,
     vertices: &[Point],
     diagnostic: &mut Diagnostic,
 ) -> Result<(), OutOfMemory> {
-    let geometries = geometries_of(object);
-    for number in 0..geometries.len() {
-        let geometry = &geometries[number];
-        let place = Place::new(number, geometry);
-        if let Some((place, wrong)) = in_geometry(alloc, place, geometry, vertices)? {
-            return tell(alloc, &place, &wrong, diagnostic);
+    let lists = surfaces_of(alloc, object)?;
+    for surfaces in &lists {
+        if is_told(alloc, surfaces, vertices, diagnostic)? {
+            return Ok(());
         }
     }
     Ok(())
 }
 
-fn tell(
+/// Tells the first wrong ring of surfaces. Returns whether there is one.
+fn is_told(
     alloc: Global,
-    place: &Place<'_>,
-    wrong: &Wrong,
+    surfaces: &Surfaces<'_>,
+    vertices: &[Point],
     diagnostic: &mut Diagnostic,
-) -> Result<(), OutOfMemory> {
-    place.tell(alloc, diagnostic)?;
+) -> Result<bool, OutOfMemory> {
+    let rings = rings_of(alloc, surfaces)?;
+    for ring in &rings {
+        if let Some(wrong) = wrong_with(alloc, ring, vertices)? {
+            narrow_to_ring(surfaces, ring, diagnostic)?;
+            tell(wrong, diagnostic)?;
+            return Ok(true);
+        }
+    }
+    Ok(false)
+}
+
+fn tell(wrong: Wrong, diagnostic: &mut Diagnostic) -> Result<(), OutOfMemory> {
     diagnostic.details.text("rule", wrong.rule())?;
-    match *wrong {
+    match wrong {
         Wrong::NoRing(_) => {}
         Wrong::Short(points) => diagnostic.details.number("points", points)?,
         Wrong::Equal(_, _, point) => diagnostic.details.point("point", point)?,
     }
-    let message = wrong.message(alloc)?;
-    diagnostic.tell(
-        message,
-        "Drop repeated points, and rings that are too short.",
-    );
+    write!(diagnostic.message, "{wrong}")?;
+    diagnostic.cure = "Drop repeated points, and rings that are too short.";
     Ok(())
-}
-
-fn in_geometry<'v>(
-    alloc: Global,
-    place: Place<'v>,
-    geometry: &'v Value,
-    vertices: &[Point],
-) -> Result<Option<(Place<'v>, Wrong)>, OutOfMemory> {
-    let lists = surfaces_of(alloc, geometry)?;
-    for surfaces in &lists {
-        let place = place.at_shell(surfaces);
-        if let Some(found) = in_surfaces(alloc, place, surfaces, vertices)? {
-            return Ok(Some(found));
-        }
-    }
-    Ok(None)
-}
-
-fn in_surfaces<'v>(
-    alloc: Global,
-    place: Place<'v>,
-    surfaces: &Surfaces<'_>,
-    vertices: &[Point],
-) -> Result<Option<(Place<'v>, Wrong)>, OutOfMemory> {
-    let rings = rings_of(alloc, surfaces)?;
-    for ring in &rings {
-        if let Some(wrong) = wrong_with(alloc, ring, vertices)? {
-            return Ok(Some((place.at_ring(ring), wrong)));
-        }
-    }
-    Ok(None)
 }
 
 fn wrong_with(
@@ -127,7 +112,7 @@ fn wrong_with(
     Ok(equal_neighbours(points.as_slice()))
 }
 
-/// The first point that is equal to the next one, the first being next to the last.
+/// The first point equal to the next one; the last point is followed by the first.
 fn equal_neighbours(points: &[Point]) -> Option<Wrong> {
     for next in 1..points.len() {
         if points[next - 1] == points[next] {

@@ -1,17 +1,18 @@
-//! What is told of a shell that isn't closed: its open edges.
+//! Diagnostics of open shells, with their open edges.
 ghost use Rattle.std.specs.Prelude.{◌<◌, length};
 
 use crate::details::Details;
 use crate::diagnostic::Diagnostic;
-use crate::shape::place::Place;
+use crate::shape::place::narrow_to_surfaces;
 use crate::shape::points::{Coordinates, points_of};
-use crate::shape::walk::{Ring, geometries_of, rings_of, surfaces_of};
+use crate::shape::walk::{Ring, Surfaces, rings_of, surfaces_of};
 use city_model::OutOfMemory;
 use city_model::object::Point;
 use serde_json::Value;
 use std::alloc::Global;
+use std::fmt::Write;
 
-/// Of so many open edges each is told; of the others only how many there are.
+/// Most open edges told one by one; the others are counted.
 const MOST_TOLD: usize = 100;
 
 /// A point of a ring and the next one.
@@ -26,83 +27,59 @@ struct OpenEdges {
     told: Vec<Details>,
 }
 
-/// Says which shell isn't closed, and which edges of it are open.
+/// Tells the first open shell, and its open edges.
 pub fn tell_open_shell(
     alloc: Global,
     object: &Value,
     vertices: &[Point],
     diagnostic: &mut Diagnostic,
 ) -> Result<(), OutOfMemory> {
-    let geometries = geometries_of(object);
-    for number in 0..geometries.len() {
-        let geometry = &geometries[number];
-        let place = Place::new(number, geometry);
-        if let Some((place, edges)) = in_geometry(alloc, place, geometry, vertices)? {
-            return tell(alloc, &place, edges, diagnostic);
-        }
-    }
-    Ok(())
-}
-
-fn tell(
-    alloc: Global,
-    place: &Place<'_>,
-    edges: OpenEdges,
-    diagnostic: &mut Diagnostic,
-) -> Result<(), OutOfMemory> {
-    let OpenEdges { first, count, told } = edges;
-    place.tell(alloc, diagnostic)?;
-    if count > MOST_TOLD {
-        diagnostic.details.number("more", count - MOST_TOLD)?;
-    }
-    diagnostic.details.list("edges", told)?;
-    if let Some((from, to)) = first {
-        let from = Coordinates(from);
-        let to = Coordinates(to);
-        let message = format!(in alloc;
-            "The shell has {count} open edges, the first from {from} to {to}."
-        )?;
-        diagnostic.tell(
-            message,
-            "Close it, turn the face that is the wrong way round, or make it a MultiSurface.",
-        );
-    }
-    Ok(())
-}
-
-/// The first open shell of a geometry, and its open edges.
-fn in_geometry<'v>(
-    alloc: Global,
-    place: Place<'v>,
-    geometry: &'v Value,
-    vertices: &[Point],
-) -> Result<Option<(Place<'v>, OpenEdges)>, OutOfMemory> {
-    let lists = surfaces_of(alloc, geometry)?;
+    let lists = surfaces_of(alloc, object)?;
     for surfaces in &lists {
         if surfaces.shell.is_some() {
-            let rings = rings_of(alloc, surfaces)?;
-            let edges = open_edges(alloc, rings.as_slice(), vertices)?;
+            let edges = open_edges(alloc, surfaces, vertices)?;
             if edges.count > 0 {
-                return Ok(Some((place.at_shell(surfaces), edges)));
+                narrow_to_surfaces(surfaces, diagnostic)?;
+                return tell(edges, diagnostic);
             }
         }
     }
-    Ok(None)
+    Ok(())
 }
 
-/// The open edges of these rings: those that don't occur once, or whose reverse doesn't.
+fn tell(edges: OpenEdges, diagnostic: &mut Diagnostic) -> Result<(), OutOfMemory> {
+    let OpenEdges { first, count, told } = edges;
+    diagnostic.details.list("edges", told)?;
+    if count > MOST_TOLD {
+        diagnostic.details.number("more", count - MOST_TOLD)?;
+    }
+    if let Some((from, to)) = first {
+        let from = Coordinates(from);
+        let to = Coordinates(to);
+        write!(
+            diagnostic.message,
+            "The shell has {count} open edges, the first from {from} to {to}."
+        )?;
+        diagnostic.cure =
+            "Close it, turn the face that is the wrong way round, or make it a MultiSurface.";
+    }
+    Ok(())
+}
+
+/// Returns the open edges of a shell. An edge is closed if it and its reverse occur once each.
 fn open_edges(
     alloc: Global,
-    rings: &[Ring<'_>],
+    surfaces: &Surfaces<'_>,
     vertices: &[Point],
 ) -> Result<OpenEdges, OutOfMemory> {
-    let edges = sorted_edges(alloc, rings, vertices)?;
+    let rings = rings_of(alloc, surfaces)?;
+    let edges = sorted_edges(alloc, rings.as_slice(), vertices)?;
     let mut found = OpenEdges {
         first: None,
         count: 0,
         told: Vec::new(alloc),
     };
-    for ring in rings {
+    for ring in &rings {
         let points = points_of(alloc, ring.positions, vertices)?;
         push_open(alloc, ring, points.as_slice(), edges.as_slice(), &mut found)?;
     }
@@ -143,7 +120,7 @@ fn edge_at(points: &[Point], at: usize) -> Edge
     }
 }
 
-/// Adds the open ones of a ring's edges; those of all rings are sorted.
+/// Adds the open edges of a ring, by the sorted edges of all rings.
 fn push_open(
     alloc: Global,
     ring: &Ring<'_>,

@@ -1,10 +1,10 @@
-//! The walk through boundaries: the lists of surfaces of a geometry, and the rings of such a list.
+//! The walk through boundaries: the lists of surfaces of an object, and the rings of such a list.
 use crate::shape::nesting::Nesting;
 use city_model::OutOfMemory;
 use serde_json::Value;
 use std::alloc::Global;
 
-/// The items of a value; none where it isn't an array.
+/// The items of a value; none if it isn't an array.
 pub fn items_of(value: &Value) -> &[Value] {
     match value.as_array() {
         None => &[],
@@ -12,7 +12,7 @@ pub fn items_of(value: &Value) -> &[Value] {
     }
 }
 
-/// The items of a member; none where it isn't an array.
+/// The items of a member; none if it isn't an array.
 fn items_at<'v>(object: &'v Value, name: &str) -> &'v [Value] {
     match object.get(name) {
         None => &[],
@@ -25,60 +25,75 @@ pub fn geometries_of(object: &Value) -> &[Value] {
     items_at(object, "geometry")
 }
 
-/// Surfaces of a shell, or of a geometry without shells.
+/// A geometry of an object, with its number.
+#[derive(Clone, Copy)]
+pub struct Geometry<'v> {
+    pub number: usize,
+    pub value: &'v Value,
+}
+
+/// The surfaces of a shell, or of a geometry without shells.
 #[derive(Clone, Copy)]
 pub struct Surfaces<'v> {
-    /// The number of the solid, where the geometry has several.
+    pub geometry: Geometry<'v>,
+    /// The number of the solid, if the geometry has several.
     pub solid: Option<usize>,
-    /// The number of the shell, where there are shells.
+    /// The number of the shell, if there are shells.
     pub shell: Option<usize>,
     pub items: &'v [Value],
 }
 
-/// The lists of surfaces of a geometry: one for each shell, or one where it has no shells.
-pub fn surfaces_of<'v>(
-    alloc: Global,
-    geometry: &'v Value,
-) -> Result<Vec<Surfaces<'v>>, OutOfMemory> {
+/// The lists of surfaces of an object's geometries: one for each shell, and one for a geometry without shells.
+pub fn surfaces_of<'v>(alloc: Global, object: &'v Value) -> Result<Vec<Surfaces<'v>>, OutOfMemory> {
     let mut lists = Vec::new(alloc);
-    let kind = geometry.get("type").and_then(Value::as_str);
-    let items = items_at(geometry, "boundaries");
-    match kind.and_then(Nesting::of_type) {
-        None => {}
-        Some(Nesting::Surfaces) => lists.push(Surfaces {
-            solid: None,
-            shell: None,
-            items,
-        })?,
-        Some(Nesting::Shells) => push_shells(None, items, &mut lists)?,
-        Some(Nesting::Solids) => push_solids(items, &mut lists)?,
+    for (number, value) in geometries_of(object).iter().enumerate() {
+        push_geometry(Geometry { number, value }, &mut lists)?;
     }
     Ok(lists)
 }
 
-fn push_solids<'v>(solids: &'v [Value], lists: &mut Vec<Surfaces<'v>>) -> Result<(), OutOfMemory> {
-    for number in 0..solids.len() {
-        push_shells(Some(number), items_of(&solids[number]), lists)?;
+fn push_geometry<'v>(
+    geometry: Geometry<'v>,
+    lists: &mut Vec<Surfaces<'v>>,
+) -> Result<(), OutOfMemory> {
+    let kind = geometry.value.get("type").and_then(Value::as_str);
+    let items = items_at(geometry.value, "boundaries");
+    match kind.and_then(Nesting::of_type) {
+        None => {}
+        Some(Nesting::Surfaces) => lists.push(Surfaces {
+            geometry,
+            solid: None,
+            shell: None,
+            items,
+        })?,
+        Some(Nesting::Shells) => push_shells(geometry, None, items, lists)?,
+        Some(Nesting::Solids) => {
+            for (solid, shells) in items.iter().enumerate() {
+                push_shells(geometry, Some(solid), items_of(shells), lists)?;
+            }
+        }
     }
     Ok(())
 }
 
 fn push_shells<'v>(
+    geometry: Geometry<'v>,
     solid: Option<usize>,
     shells: &'v [Value],
     lists: &mut Vec<Surfaces<'v>>,
 ) -> Result<(), OutOfMemory> {
-    for number in 0..shells.len() {
+    for (shell, surfaces) in shells.iter().enumerate() {
         lists.push(Surfaces {
+            geometry,
             solid,
-            shell: Some(number),
-            items: items_of(&shells[number]),
+            shell: Some(shell),
+            items: items_of(surfaces),
         })?;
     }
     Ok(())
 }
 
-/// A ring, or that a surface has none.
+/// A ring, or a surface without rings.
 #[derive(Clone, Copy)]
 pub struct Ring<'v> {
     /// The number of the surface.
@@ -90,10 +105,9 @@ pub struct Ring<'v> {
 
 /// The rings of surfaces, in order.
 pub fn rings_of<'v>(alloc: Global, surfaces: &Surfaces<'v>) -> Result<Vec<Ring<'v>>, OutOfMemory> {
-    let surfaces = surfaces.items;
     let mut rings = Vec::new(alloc);
-    for surface in 0..surfaces.len() {
-        push_rings(surface, items_of(&surfaces[surface]), &mut rings)?;
+    for (surface, value) in surfaces.items.iter().enumerate() {
+        push_rings(surface, items_of(value), &mut rings)?;
     }
     Ok(rings)
 }
@@ -110,11 +124,11 @@ fn push_rings<'v>(
             positions: items,
         })?;
     }
-    for number in 0..items.len() {
+    for (number, ring) in items.iter().enumerate() {
         rings.push(Ring {
             surface,
             ring: Some(number),
-            positions: items_of(&items[number]),
+            positions: items_of(ring),
         })?;
     }
     Ok(())

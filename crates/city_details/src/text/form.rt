@@ -1,11 +1,11 @@
-//! Forms of texts that aren't JSON.
+//! Forms of texts other than JSON.
 
-/// What a text is that isn't JSON, where that says more than the place where reading it stopped.
+/// A form of text other than JSON, more telling than the place of the first error.
 #[derive(Clone, Copy, PartialEq, Eq)]
 pub enum TextForm {
     /// No byte but white space.
     Empty,
-    /// It begins with the byte order mark of UTF-8.
+    /// Begins with the byte order mark of UTF-8.
     ByteOrderMark,
     Utf16,
 }

@@ -1,11 +1,11 @@
-//! The first number of a tree that isn't a whole number of 64 bits.
+//! The first number of a tree outside the whole numbers of 64 bits.
 use crate::path::Step;
 use city_model::OutOfMemory;
 use serde_json::{Map, Value};
 use std::alloc::Global;
 
-/// The path to the first number that isn't a whole number of 64 bits: members in byte order of their names, items in
-/// their order. No steps where there is none.
+/// Returns the path to the first number outside the whole numbers of 64 bits; no steps if there is none. Members come
+/// in byte order of their names, items in their order.
 pub fn path_to_fraction(alloc: Global, tree: &Value) -> Result<Vec<Step<'_>>, OutOfMemory> {
     let mut steps = Vec::new(alloc);
     let _found = add_steps(tree, &mut steps)?;
@@ -13,7 +13,7 @@ pub fn path_to_fraction(alloc: Global, tree: &Value) -> Result<Vec<Step<'_>>, Ou
     Ok(steps)
 }
 
-/// Adds the steps to the first such number, the last one first. Whether there is one.
+/// Adds the steps to the first such number, last step first. Returns whether there is one.
 #[cycle(fraction)]
 fn add_steps<'t>(value: &'t Value, steps: &mut Vec<Step<'t>>) -> Result<bool, OutOfMemory> {
     match value {

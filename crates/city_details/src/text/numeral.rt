@@ -1,4 +1,4 @@
-//! A number as it is written in a text.
+//! A number as written in a text.
 ghost use Rattle.std.specs.Prelude.{◌<◌, length, OnOk};
 
 use crate::path::Step;
@@ -7,7 +7,7 @@ use json::{Invalid, MAX_DEPTH, Reader, Scratch, Token};
 use std::alloc::Global;
 use std::str;
 
-/// The number that a path leads to, as the text has it. Of the members of one name the last one counts.
+/// Returns the number at the end of a path, as written in the text. Among members with one name the last counts.
 ///
 /// The text is read once, token by token.
 pub fn numeral_at(
@@ -27,7 +27,7 @@ pub fn numeral_at(
     }
 }
 
-/// Passes a value, and answers the number in it that these steps lead to.
+/// Passes a value, and returns the number in it at the end of these steps.
 #[cycle(numeral)]
 fn in_value<'t>(reader: &mut Reader<'t>, steps: &[Step<'_>]) -> Result<Option<&'t str>, Invalid>
     ensures shorter { OnOk result (length reader.new < length reader.old) }
@@ -40,7 +40,7 @@ fn in_value<'t>(reader: &mut Reader<'t>, steps: &[Step<'_>]) -> Result<Option<&'
     }
 }
 
-/// The same, in an object whose brace is read.
+/// The same, in an object behind its brace.
 #[cycle(numeral)]
 fn in_object<'t>(reader: &mut Reader<'t>, steps: &[Step<'_>]) -> Result<Option<&'t str>, Invalid>
     ensures shorter { OnOk result (length reader.new < length reader.old) }
@@ -55,7 +55,7 @@ fn in_object<'t>(reader: &mut Reader<'t>, steps: &[Step<'_>]) -> Result<Option<&
     Ok(found)
 }
 
-/// The same, in an array whose bracket is read.
+/// The same, in an array behind its bracket.
 #[cycle(numeral)]
 fn in_array<'t>(reader: &mut Reader<'t>, steps: &[Step<'_>]) -> Result<Option<&'t str>, Invalid>
     ensures shorter { OnOk result (length reader.new < length reader.old) }
