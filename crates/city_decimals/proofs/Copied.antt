@@ -253,7 +253,7 @@ number_some : (s : List ℕ) → IsNumber s → 0 < length s
 unfolding after_number
 number_some s h = grind arith
 
-value_some : (j : Json) → HasNumbers j → 0 < length (value_text j)
+pub value_some : (j : Json) → HasNumbers j → 0 < length (value_text j)
 value_some null h = omega arith
 value_some (boolean true) h = omega arith
 value_some (boolean false) h = omega arith

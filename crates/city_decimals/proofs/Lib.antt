@@ -12,8 +12,10 @@ pub mod Forms
 pub mod Insides
 pub mod JsonLines
 pub mod Kept
+pub mod Lanes
 pub mod Objects
 pub mod OneLine
+pub mod PassedItems
 pub mod PlainNumbers
 pub mod Prelude
 pub mod Puts

@@ -7,5 +7,6 @@ pub mod Forms
 pub mod Inner
 pub mod Newlines
 pub mod Objects
+pub mod Passed
 pub mod PlainNumbers
 pub mod Streams

@@ -108,13 +108,10 @@ fn copy_items(copier: &mut Copier<'_>, depth: usize, way: Direction) -> Option<(
     ensures before { copier.new.0 ≡ copier.old.0 }
     ensures copied { IfSome result (λ _. AreItemsCopied (items_changed way) false depth copier.old copier.new) }
 {
-    let mut later = false;
-    'numbers: while copier.take_plain(later) {
-        later = true;
-    }
+    let mut later = copier.pass_whole_items(false, depth);
     'items: while !copier.take(b']') {
         copy_item(copier, later, depth, way)?;
-        later = true;
+        later = copier.pass_whole_items(true, depth);
     }
     Some(())
 }

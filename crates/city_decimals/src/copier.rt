@@ -3,13 +3,19 @@ ghost use Rattle.std.specs.Prelude.{◌≡◌, ◌∷◌, ◌++◌, ◌+◌, ◌
 ghost use Rattle.std.specs.Prelude.{drop, IfOk, IfErr, IfSome};
 ghost use Rattle.std.specs.Bool.{OnTrue};
 ghost use Rattle.std.specs.Str.{IsUtf8};
+ghost use Rattle.json.specs.Json.{Items};
 ghost use Rattle.json.specs.Print.{IsNumber, escape};
+ghost use Rattle.json.specs.Tree.{items_depth};
 ghost use Rattle.city_decimals.specs.internal.Copies.{Moves, IsEscaped, IsPlainByte};
 ghost use Rattle.city_decimals.specs.internal.Compact.{comma_if, IsKeyPassed};
+ghost use Rattle.city_decimals.specs.internal.Passed.{AreSame, front_text, later_after};
 ghost use Rattle.city_decimals.specs.internal.PlainNumbers.{IsPlain};
 
+use crate::arrays::{comma_len, has_comma, whole_items_len};
 use crate::numbers::{is_number, plain_len};
+use crate::runs::plain_end;
 use crate::text::{is_text, text_of};
+
 use std::marker::Model;
 
 /// A text read in part, and the output for that part. Contracts see the old bytes of the buffer,
@@ -261,6 +267,20 @@ impl<'a> Copier<'a> {
         true
     }
 
+    /// Copies whole numbers and arrays of them, as far as there are such items; returns whether there
+    /// are any, or `later`.
+    #[inline(always)]
+    pub(crate) fn pass_whole_items(&mut self, later: bool, depth: usize) -> bool
+        ensures before { self.new.0 ≡ self.old.0 }
+        ensures moves { (js : Items) × AreSame js × (items_depth js ≤ depth)
+            × Moves self.old self.new (front_text later js) (front_text later js)
+            × (result ≡ later_after later js) }
+    {
+        let len = whole_items_len(self.rest(), later, depth);
+        self.advance(len);
+        later || len > 0
+    }
+
     /// Copies a number.
     #[inline(always)]
     pub(crate) fn pass_number(&mut self) -> Option<()>
@@ -310,22 +330,6 @@ fn is_number_text(bytes: &[u8]) -> bool
     }
 }
 
-/// Whether a comma is next, or none is needed.
-#[inline(always)]
-fn has_comma(text: &[u8], later: bool) -> bool
-    ensures len { OnTrue result (length (comma_if later) ≤ length text.now) }
-    ensures value { OnTrue result (take (length (comma_if later)) text.now ≡ comma_if later) }
-{
-    !later || (!text.is_empty() && text[0] == b',')
-}
-
-#[inline(always)]
-fn comma_len(later: bool) -> usize
-    ensures { result ≡ length (comma_if later) }
-{
-    if later { 1 } else { 0 }
-}
-
 /// The end of the bytes that may be in a number.
 fn number_end(text: &[u8]) -> usize
     ensures within { result ≤ length text.now }
@@ -361,27 +365,15 @@ fn string_end(text: &[u8]) -> Option<usize>
     ensures inside { IfSome result (λ end. (s : List ℕ) × (take end text.now ≡ escape s)
         × (take (end + 1) text.now ≡ escape s ++ 34 ∷ [])) }
 {
-    let mut at = 0;
+    let mut at = plain_end(text, 0);
     while at < text.len() {
-        let byte = text[at];
-        if byte > b'\\' {
-            at += 1;
-            continue;
-        }
-        if byte == b'"' {
+        if text[at] == b'"' {
             return Some(at);
         }
-        if byte < 0x20 {
+        if text[at] != b'\\' || at + 1 >= text.len() || !is_escaped(text[at + 1]) {
             return None;
         }
-        if byte == b'\\' {
-            if at + 1 >= text.len() || !is_escaped(text[at + 1]) {
-                return None;
-            }
-            at += 2;
-        } else {
-            at += 1;
-        }
+        at = plain_end(text, at + 2);
     }
     None
 }

@@ -9,6 +9,7 @@
 //! - a `transform` at the top is framed: the identity stands there, with the transform under `#`
 #![tactic(auto)]
 
+mod arrays;
 mod compact;
 mod copier;
 mod decoding;
@@ -18,6 +19,7 @@ mod fault;
 mod laws;
 mod lines;
 mod numbers;
+mod runs;
 mod shapes;
 mod text;
 mod transcode;

@@ -49,7 +49,7 @@ pub(crate) fn transcode_top(
 }
 
 /// Writes the next value, changed. Arrays and objects may nest `depth` deep.
-#[cycle(change)]
+#[cycle(transcode)]
 #[inline(always)]
 fn transcode_value(
     alloc: Global,
@@ -68,7 +68,7 @@ fn transcode_value(
 }
 
 /// Writes the value beginning with the token, changed.
-#[cycle(change)]
+#[cycle(transcode)]
 #[inline(always)]
 fn transcode_from(
     alloc: Global,
@@ -109,7 +109,7 @@ fn transcode_from(
 }
 
 /// Writes the remaining items, changed, and the closing bracket.
-#[cycle(change)]
+#[cycle(transcode)]
 #[inline(never)]
 fn transcode_items(
     alloc: Global,
@@ -133,7 +133,7 @@ fn transcode_items(
 }
 
 /// Writes the result of changing the remaining members: an object, or the number they encode.
-#[cycle(change)]
+#[cycle(transcode)]
 #[inline(never)]
 fn transcode_object(
     alloc: Global,
@@ -166,7 +166,7 @@ fn transcode_object(
 }
 
 /// Writes the decoding of the members; the first has this name. Makes a tree of its value.
-#[cycle(change)]
+#[cycle(transcode)]
 #[inline(always)]
 fn decode_tagged(
     alloc: Global,
@@ -191,7 +191,7 @@ fn decode_tagged(
 }
 
 /// Writes the members, changed, and the closing brace; the first has this name.
-#[cycle(change)]
+#[cycle(transcode)]
 #[inline(always)]
 fn transcode_members(
     alloc: Global,
@@ -215,7 +215,7 @@ fn transcode_members(
 }
 
 /// Writes the remaining members, changed, and the closing brace.
-#[cycle(change)]
+#[cycle(transcode)]
 #[inline(always)]
 fn transcode_more(
     alloc: Global,
@@ -241,7 +241,7 @@ fn transcode_more(
 }
 
 /// Writes the value of a member of this name, changed and into or out of its form.
-#[cycle(change)]
+#[cycle(transcode)]
 #[inline(always)]
 fn transcode_member(
     alloc: Global,
@@ -267,7 +267,7 @@ fn transcode_member(
 }
 
 /// Writes the value of a member `attributes`, changed and into or out of its shield.
-#[cycle(change)]
+#[cycle(transcode)]
 #[inline(never)]
 fn transcode_attributes(
     alloc: Global,
@@ -296,7 +296,7 @@ fn transcode_attributes(
 
 /// Writes the remaining items of the array under `attributes`, changed and into or out of its
 /// shield. Makes a tree of the first item.
-#[cycle(change)]
+#[cycle(transcode)]
 #[inline(always)]
 fn transcode_attributes_items(
     alloc: Global,

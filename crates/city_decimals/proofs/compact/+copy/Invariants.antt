@@ -29,15 +29,6 @@ decreases-copy_items l = 8 * l.depth + 5
 abbrev pub decreases-copy_members : goal.decreases-copy_members
 decreases-copy_members l = 8 * l.depth + 5
 
-abbrev pub invariant-copy_items-numbers : goal.invariant-copy_items-numbers
-invariant-copy_items-numbers l =
-    (l.copier.0 ≡ l.initial.copier.0) × ((end : State)
-    → AreItemsCopied (items_changed l.way) l.later l.depth l.copier end
-    → AreItemsCopied (items_changed l.way) false l.depth l.initial.copier end)
-
-abbrev pub decreases-copy_items-numbers : goal.decreases-copy_items-numbers
-decreases-copy_items-numbers l = length l.copier.2
-
 abbrev pub invariant-copy_items-items : goal.invariant-copy_items-items
 invariant-copy_items-items l =
     (l.copier.0 ≡ l.fn.copier.0) × ((end : State) → AreItemsCopied (items_changed l.way) l.later l.depth l.copier end

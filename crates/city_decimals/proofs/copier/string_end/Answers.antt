@@ -1,33 +1,18 @@
-use Rattle.city_decimals.proofs.Prelude.{◌+◌, ◌<◌, length, refl, arith}
+use Rattle.city_decimals.proofs.Prelude.{◌+◌, ◌<◌, [], length, refl, arith}
 use Rattle.city_decimals.proofs.Copies.{plain_inside, escape_inside}
 use Rattle.city_decimals.proofs.copier.string_end.Goals as goal
 
-pub loop-at-preserved-then-byte-gt92 : goal.loop-at-preserved-then-byte-gt92
-loop-at-preserved-then-byte-gt92 c =
-    let text = c.args.text.now in
-    let l = c.loop-at in
-    let h : l.at < length text = omega arith in
-    let above = c.if-byte-gt92.true in (
-      omega (arith, h),
-      plain_inside text l.at _ l.invariant.1 h refl (λ e. omega (arith, above, e)) (λ e. omega (arith, above, e))
-          (omega (arith, above)),
-    )
-
-pub loop-at-preserved-then-byte-eq92 : goal.loop-at-preserved-then-byte-eq92
-loop-at-preserved-then-byte-eq92 c =
-    let text = c.args.text.now in
-    let l = c.loop-at in
-    let h : l.at + 1 < length text = omega arith in (
-      omega (arith, h),
-      escape_inside text l.at _ _ l.invariant.1 h refl c.if-byte-eq92.true refl c.if-not-is_escaped.ensures,
-    )
+pub loop-at-init : goal.loop-at-init
+loop-at-init c =
+    let end = c.plain_end-at in
+    (end.ensures.bound, plain_inside c.args.text.now 0 end.result ([], refl) end.ensures.value)
 
 pub loop-at-preserved : goal.loop-at-preserved
 loop-at-preserved c =
     let text = c.args.text.now in
     let l = c.loop-at in
-    let h : l.at < length text = omega arith in (
-      omega (arith, h),
-      plain_inside text l.at _ l.invariant.1 h refl c.if-byte-eq34.false c.if-byte-eq92.false
-          c.if-byte-lt32.false,
+    let end = c.plain_end-at-in-loop-at in (
+      end.ensures.bound,
+      plain_inside text (l.at + 2) end.result (escape_inside text l.at _ _ l.invariant.1 c.if-at-text.false refl
+          c.if-text-at-ne92.false refl c.if-not-is_escaped.ensures) end.ensures.value,
     )
