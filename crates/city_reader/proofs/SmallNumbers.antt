@@ -2,7 +2,7 @@
 use Rattle.std.proofs.Common.{◌≡◌, ℕ, ℤ, ◌+◌, ◌<◌, ◌≤◌, true, false, cond, ◌&&◌, ◌||◌, ◌==◌, nat_lt, List, length}
 use Rattle.std.proofs.Common.{take, drop, get_or, Some, None, ◌⊎◌, inl, inr, sym, ap, ap₂, ◌∙◌, arith, get_or-take}
 use Rattle.std.proofs.Common.{drop-drop}
-use Rattle.std.proofs.lemmas.Bool.{true≢false, eqb-true, eq-eqb, ltb-false, leb-true, le-leb, ne_eqb, and_parts}
+use Rattle.std.proofs.lemmas.Bool.{true≢false, eqb-true, eq-eqb, ltb-false, ltb-true, leb-true, le-leb, ne_eqb, and_parts}
 use Rattle.std.proofs.lemmas.Bool.{cases_Bool}
 use Rattle.std.proofs.lemmas.List.{drop-take, get_or_default, length-take-le}
 use Rattle.std.proofs.lemmas.List.Sums.{prefix_len_is}
@@ -30,13 +30,29 @@ no_digit x h = go (cases_Bool (is_ascii_digit x))
         absurd (true≢false (sym (ap₂ (λ a b. a && b) e h) ∙ same_is _ _ never))
 
 module _ (t : List ℕ) (count : ℕ) (le : count ≤ length t) where
+  digit : AllDigits 10 (take count t) → (k : ℕ) → k < count → is_ascii_digit (get_or t k 0) ≡ true
+  digit all k l =
+      let r = digit_at (take count t) k all (omega (arith, length-take-le count t le, l)) in
+      ap is_ascii_digit (sym (get_or-take count t k 0 l)) ∙ ap₂ (λ a b. a && b) (le-leb 48 _ r.0) (le-leb _ 57 r.1)
+
   run : AllDigits 10 (take count t) → ends_word (drop count t) ≡ true → prefix_len is_ascii_digit t ≡ count
   run all ended =
-      prefix_len_is is_ascii_digit t count 0 le
-      (λ k l. let r = digit_at (take count t) k all (omega (arith, length-take-le count t le, l)) in
-      ap is_ascii_digit (sym (get_or-take count t k 0 l)) ∙ ap₂ (λ a b. a && b) (le-leb 48 _ r.0) (le-leb _ 57 r.1))
+      prefix_len_is is_ascii_digit t count 0 le (digit all)
       (λ l. no_digit (get_or t count 0)
       (ap (λ x. is_operator x || is_space x) (sym (head_at t count ∙ get_or_default t count 32 0 l)) ∙ ended))
+
+  -- no other digit follows a zero
+  pub needless : AllDigits 10 (take count t) → ((head t == 48) && is_ascii_digit (head (drop 1 t))) ≡ false
+      → 0 < count → head t ≡ 48 → count ≡ 1
+  needless all none some zero = go (cases_Bool (nat_lt 1 count))
+    where
+      go : (nat_lt 1 count ≡ true) ⊎ (nat_lt 1 count ≡ false) → count ≡ 1
+      go (inr e) = omega (arith, ltb-false 1 count e)
+      go (inl e) =
+          let more : 1 < count = ltb-true 1 count e in
+          let second =
+              ap is_ascii_digit (head_at t 1 ∙ get_or_default t 1 32 0 (omega (arith, le, more))) ∙ digit all 1 more in
+          absurd (true≢false (sym (ap₂ (λ a b. a && b) (eq-eqb (head t) 48 zero) second) ∙ none))
 
   -- digits standing alone are a whole number
   pub alone : AllDigits 10 (take count t) → 0 < count → (head t ≡ 48 → count ≡ 1) → ends_word (drop count t) ≡ true
@@ -82,10 +98,3 @@ signed_is t count n e le is =
     let s = take (1 + count) t in
     let sign : (get_or s 0 0 == 45) ≡ true = ap (λ x. x == 45) (first t (1 + count) (omega arith) le) ∙ e in
     rw (sign, drop-take 1 count t) is
-
-pub needless : (count x : ℕ) → (nat_lt 1 count && (x == 48)) ≡ false → 0 < count → x ≡ 48 → count ≡ 1
-needless count x none some zero = go (cases_Bool (nat_lt 1 count))
-  where
-    go : (nat_lt 1 count ≡ true) ⊎ (nat_lt 1 count ≡ false) → count ≡ 1
-    go (inl e) = absurd (true≢false (sym (ap₂ (λ a b. a && b) e (eq-eqb x 48 zero)) ∙ none))
-    go (inr e) = omega (arith, ltb-false 1 count e)

@@ -135,17 +135,17 @@ impl<'t> Cursor<'t> {
         Some(&text[start..end])
     }
 
-    /// Takes the next whole number, of at most 18 digits. If anything else is next, returns `None`
-    /// and takes nothing.
+    /// Takes the next whole number, of at most 18 digits, and returns it with the byte behind it. If
+    /// anything else is next, returns `None` and takes nothing.
     #[inline(always)]
-    pub fn take_whole(&mut self) -> Option<i64>
-        ensures { MatchOption result (self.new ≡ self.old) (λ n. (s : List ℕ)
-            × IsLexeme self.old (token (number s)) self.new × IsWholeText s n) }
+    pub fn take_whole(&mut self) -> Option<(i64, u8)>
+        ensures { MatchOption result (self.new ≡ self.old) (λ r. (s : List ℕ)
+            × IsLexeme self.old (token (number s)) self.new × IsWholeText s r.0 × (r.1 ≡ head self.new)) }
     {
         let rest = &self.text.as_bytes()[self.at..];
-        let (n, len) = small_whole(rest)?;
+        let (n, len, next) = small_whole(rest)?;
         self.at += len;
-        Some(n)
+        Some((n, next))
     }
 
     /// Passes this word; `None` if another is next.

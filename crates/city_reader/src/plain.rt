@@ -82,6 +82,19 @@ fn after_value(cursor: &mut Cursor<'_>) -> Place
     }
 }
 
+/// The same, with the byte that is next.
+#[inline(always)]
+fn after_whole(cursor: &mut Cursor<'_>, next: u8) -> Place
+    requires { head cursor.old ≡ next }
+    ensures { tokens_at result cursor.new ≡ punctuate after_value (lex between cursor.old) }
+{
+    if next == b',' {
+        cursor.skip();
+        return Place::AfterComma;
+    }
+    after_value(cursor)
+}
+
 /// The key or the string at the next quote.
 #[inline(always)]
 fn text<'t>(cursor: &mut Cursor<'t>) -> Option<(Token<'t>, Place)>
@@ -235,15 +248,15 @@ impl<'t> PlainReader<'t> {
     }
 
     #[inline(always)]
-    fn take_whole(&mut self) -> Option<i64>
+    pub fn take_whole(&mut self) -> Option<i64>
         ensures { MatchOption result (self.new ≡ self.old) (IsWholeTaken self.old self.new) }
     {
         if !self.place.may_begin() {
             return None;
         }
         let _ = self.cursor.peek();
-        let n = self.cursor.take_whole()?;
-        self.place = after_value(&mut self.cursor);
+        let (n, next) = self.cursor.take_whole()?;
+        self.place = after_whole(&mut self.cursor, next);
         Some(n)
     }
 
@@ -258,6 +271,7 @@ impl<'t> PlainReader<'t> {
     }
 
     /// The same, with the digits first read as a text.
+    #[cold]
     fn long_whole(&mut self) -> Option<i64>
         ensures { IfSome result (IsWholeTaken self.old self.new) }
     {
@@ -271,7 +285,10 @@ impl<'t> PlainReader<'t> {
     pub fn take_end_array(&mut self) -> bool
         ensures { MatchBool result (after_end_array self.old ≡ Some self.new) (self.new ≡ self.old) }
     {
-        if (self.cursor.peek() != b']') | !self.place.may_close() {
+        if !self.place.may_close() {
+            return false;
+        }
+        if self.cursor.peek() != b']' {
             return false;
         }
         self.cursor.skip();

@@ -1,5 +1,5 @@
 //! Reads the tokens of a text.
-ghost use Rattle.std.specs.Prelude.{◌≡◌, [], ◌∷◌, option_map, Some, IfSome, IsTrue};
+ghost use Rattle.std.specs.Prelude.{◌≡◌, [], ◌∷◌, option_map, Some, IfSome, IsTrue, MatchOption};
 ghost use Rattle.std.specs.Bool.{MatchBool};
 ghost use Rattle.json.specs.Lex.{tokens};
 ghost use Rattle.json.specs.Json.{after_end_array, read_key};
@@ -21,6 +21,22 @@ enum Source<'t> {
     /// One without escapes.
     Plain(PlainReader<'t>),
     Escaped(json::Reader<'t>),
+}
+
+/// The next token of a text with escapes. Never inlined, which keeps the other reader's callers small.
+#[inline(never)]
+fn next_escaped<'t>(reader: &mut json::Reader<'t>) -> Option<Token<'t>>
+    ensures { IfSome result (λ t. reader.old ≡ token_of t ∷ reader.new) }
+{
+    reader.next()
+}
+
+/// Takes the closing bracket of an array in a text with escapes, if it is next.
+#[inline(never)]
+fn take_end_array_escaped(reader: &mut json::Reader<'_>) -> bool
+    ensures { MatchBool result (after_end_array reader.old ≡ Some reader.new) (reader.new ≡ reader.old) }
+{
+    reader.take_end_array()
 }
 
 /// Reads the tokens of a text, one after another, and gives up if anything is odd. Contracts see
@@ -96,7 +112,7 @@ impl<'t> Reader<'t> {
     {
         match &mut self.source {
             Source::Plain(reader) => reader.next(),
-            Source::Escaped(reader) => reader.next(),
+            Source::Escaped(reader) => next_escaped(reader),
         }
     }
 
@@ -107,10 +123,22 @@ impl<'t> Reader<'t> {
     {
         match &mut self.source {
             Source::Plain(reader) => reader.whole(),
-            Source::Escaped(reader) => match reader.next()? {
+            Source::Escaped(reader) => match next_escaped(reader)? {
                 Token::Number(text) => whole_of(text),
                 _ => None,
             },
+        }
+    }
+
+    /// Takes the next token, if it is a whole number of at most 18 digits. If it is anything else, or
+    /// the text has escapes, returns `None` and takes nothing.
+    #[inline(always)]
+    pub fn take_whole(&mut self) -> Option<i64>
+        ensures { MatchOption result (self.new ≡ self.old) (IsWholeTaken self.old self.new) }
+    {
+        match &mut self.source {
+            Source::Plain(reader) => reader.take_whole(),
+            Source::Escaped(_) => None,
         }
     }
 
@@ -135,7 +163,7 @@ impl<'t> Reader<'t> {
     {
         match &mut self.source {
             Source::Plain(reader) => reader.take_end_array(),
-            Source::Escaped(reader) => reader.take_end_array(),
+            Source::Escaped(reader) => take_end_array_escaped(reader),
         }
     }
 

@@ -1,7 +1,8 @@
 //! Reads whole numbers of a few digits.
-ghost use Rattle.std.specs.Prelude.{◌≡◌, ◌<◌, ◌≤◌, ◌^◌, ◌&&◌, ◌==◌, nat_lt, length, take, true, false, Some, IfSome, IsTrue};
+ghost use Rattle.std.specs.Prelude.{◌≡◌, ◌<◌, ◌≤◌, ◌^◌, ◌&&◌, ◌||◌, ◌==◌, length, take, drop, true, false, Some, IfSome, IsTrue};
+ghost use Rattle.std.specs.Char.{is_ascii_digit};
 ghost use Rattle.std.specs.Str.Parse.{AllDigits};
-ghost use Rattle.json.specs.Word.{head};
+ghost use Rattle.json.specs.Word.{head, is_operator, is_space};
 ghost use Rattle.fast_float.specs.Text.{scan, digits_of, IsInteger};
 ghost use Rattle.serde_json.specs.Find.{as_i64, of_integer};
 ghost use Rattle.serde_json.specs.Read.{number_from};
@@ -16,11 +17,12 @@ const FEW: usize = 18;
 /// The value of the digits at the front of a text, of at most 18, and their count.
 #[inline(always)]
 fn few_digits(text: &[u8]) -> (u64, usize)
+    requires { 18 < length text.now }
     ensures { AreDigits text.now result.1 result.0 }
 {
     let mut n: u64 = 0;
     let mut count = 0;
-    while count < text.len() && count < FEW {
+    while count < FEW {
         let digit = text[count].wrapping_sub(b'0');
         if digit > 9 {
             return (n, count);
@@ -31,83 +33,106 @@ fn few_digits(text: &[u8]) -> (u64, usize)
     (n, count)
 }
 
-/// Whether the first of several digits is a zero.
+/// Whether a zero and another digit begin a text.
 #[inline(always)]
-fn has_needless_zero(text: &[u8], count: usize) -> bool
-    ensures { result ≡ (nat_lt 1 count && (head text.now == 48)) }
+fn has_needless_zero(text: &[u8]) -> bool
+    ensures { result ≡ ((head text.now == 48) && is_ascii_digit (head (drop 1 text.now))) }
 {
-    count > 1 && byte_at(text, 0) == b'0'
+    byte_at(text, 0) == b'0' && byte_at(text, 1).is_ascii_digit()
 }
 
-/// Whether so many digits at the front are a whole number by themselves.
+/// The same as `is_delimiter`. Never inlined: most numbers end at a comma.
+#[inline(never)]
+fn is_other_delimiter(byte: u8) -> bool
+    ensures { result ≡ (is_operator byte || is_space byte) }
+{
+    is_delimiter(byte)
+}
+
+/// Whether a number ends before this byte.
 #[inline(always)]
-fn stands_alone(text: &[u8], count: usize) -> bool
-    requires { (count ≤ length text.now) × AllDigits 10 (take count text.now) }
+fn ends_number(byte: u8) -> bool
+    ensures { result ≡ (is_operator byte || is_space byte) }
+{
+    byte == b',' || is_other_delimiter(byte)
+}
+
+/// Whether so many digits before this byte are a whole number by themselves.
+#[inline(always)]
+fn stands_alone(text: &[u8], count: usize, next: u8) -> bool
+    requires digits { (count ≤ length text.now) × AllDigits 10 (take count text.now) }
+    requires zero { ((head text.now == 48) && is_ascii_digit (head (drop 1 text.now))) ≡ false }
+    requires next { next ≡ head (drop count text.now) }
     ensures { IsTrue result → IsWholeFront text.now count }
 {
     if count == 0 {
         return false;
     }
-    if has_needless_zero(text, count) {
-        return false;
-    }
-    is_delimiter(byte_at(text, count))
+    ends_number(next)
 }
 
-/// The number of a few digits at the front of a text, and their count; `None` if there are more, or
-/// anything else is there.
+/// The number of a few digits at the front of a text, their count, and the byte behind them; `None`
+/// if there are more, if anything else is there, or if at most 18 bytes are left.
 #[inline(always)]
-fn digits_at_front(text: &[u8]) -> Option<(u64, usize)>
+fn digits_at_front(text: &[u8]) -> Option<(u64, usize, u8)>
     ensures integer { IfSome result (λ r. IsInteger (scan (take r.1 text.now))) }
     ensures value { IfSome result (λ r. digits_of (scan (take r.1 text.now)) ≡ r.0) }
     ensures small { IfSome result (λ r. r.0 < 10 ^ 18) }
     ensures front { IfSome result (λ r. IsWholeFront text.now r.1) }
+    ensures next { IfSome result (λ r. r.2 ≡ head (drop r.1 text.now)) }
 {
+    if text.len() <= FEW || has_needless_zero(text) {
+        return None;
+    }
     let (n, count) = few_digits(text);
-    if stands_alone(text, count) {
-        Some((n, count))
+    let next = byte_at(text, count);
+    if stands_alone(text, count, next) {
+        Some((n, count, next))
     } else {
         None
     }
 }
 
 #[inline(always)]
-fn below_zero(text: &[u8]) -> Option<(i64, usize)>
+fn below_zero(text: &[u8]) -> Option<(i64, usize, u8)>
     ensures value { IfSome result
         (λ r. number_from true (scan (take r.1 text.now)) ≡ Some (of_integer r.0)) }
     ensures in_range { IfSome result (λ r. as_i64 (of_integer r.0) ≡ Some r.0) }
     ensures front { IfSome result (λ r. IsWholeFront text.now r.1) }
+    ensures next { IfSome result (λ r. r.2 ≡ head (drop r.1 text.now)) }
 {
-    let (n, count) = digits_at_front(text)?;
+    let (n, count, next) = digits_at_front(text)?;
     if n == 0 {
         None
     } else {
-        Some((-(n as i64), count))
+        Some((-(n as i64), count, next))
     }
 }
 
 #[inline(always)]
-fn not_below_zero(text: &[u8]) -> Option<(i64, usize)>
+fn not_below_zero(text: &[u8]) -> Option<(i64, usize, u8)>
     ensures value { IfSome result
         (λ r. number_from false (scan (take r.1 text.now)) ≡ Some (of_integer r.0)) }
     ensures in_range { IfSome result (λ r. as_i64 (of_integer r.0) ≡ Some r.0) }
     ensures front { IfSome result (λ r. IsWholeFront text.now r.1) }
+    ensures next { IfSome result (λ r. r.2 ≡ head (drop r.1 text.now)) }
 {
-    let (n, count) = digits_at_front(text)?;
-    Some((n as i64, count))
+    let (n, count, next) = digits_at_front(text)?;
+    Some((n as i64, count, next))
 }
 
-/// The whole number of at most 18 digits at the front of a text, and its count of bytes; `None` if
-/// anything else is there.
+/// The whole number of at most 18 digits at the front of a text, its count of bytes, and the byte
+/// behind it; `None` if anything else is there.
 #[inline(always)]
-pub fn small_whole(text: &[u8]) -> Option<(i64, usize)>
-    ensures { IfSome result (λ r. IsSmallWhole text.now r.1 r.0) }
+pub fn small_whole(text: &[u8]) -> Option<(i64, usize, u8)>
+    ensures whole { IfSome result (λ r. IsSmallWhole text.now r.1 r.0) }
+    ensures next { IfSome result (λ r. r.2 ≡ head (drop r.1 text.now)) }
 {
     if byte_at(text, 0) == b'-' {
-        let (n, count) = below_zero(&text[1..])?;
-        Some((n, 1 + count))
+        let (n, count, next) = below_zero(&text[1..])?;
+        Some((n, 1 + count, next))
     } else {
-        let (n, count) = not_below_zero(text)?;
-        Some((n, count))
+        let (n, count, next) = not_below_zero(text)?;
+        Some((n, count, next))
     }
 }

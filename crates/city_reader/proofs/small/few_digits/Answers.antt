@@ -1,4 +1,4 @@
-use Rattle.std.proofs.Common.{arith}
+use Rattle.std.proofs.Common.{◌<◌, length, arith}
 use Rattle.city_reader.proofs.Digits.{digit_of, more, below}
 use Rattle.city_reader.proofs.small.few_digits.Goals as goal
 
@@ -17,6 +17,7 @@ overflow_add-n c =
 pub loop-count-preserved : goal.loop-count-preserved
 loop-count-preserved c =
     let i = c.loop-count.invariant in
-    let next = more c.args.text.now c.loop-count.count c.loop-count.n _ c.loop-count-test.true i.2 i.3
+    let within : c.loop-count.count < length c.args.text.now = omega arith in
+    let next = more c.args.text.now c.loop-count.count c.loop-count.n _ within i.2 i.3
     (digit_of _ (grind arith) (grind arith)) in
     (omega arith, omega arith, next.0, next.1)

@@ -1,5 +1,5 @@
 use Rattle.std.proofs.Common.{◌≡◌, ◌+◌, ◌-◌, ◌≤◌, ◌==◌, length, take, drop, true, false, w64, ap, sym, ◌∙◌, subst}
-use Rattle.std.proofs.Common.{arith, rules, take_all, length-drop}
+use Rattle.std.proofs.Common.{arith, rules, take_all, length-drop, drop-drop}
 use Rattle.std.proofs.lemmas.Bool.{eq-eqb, ne_eqb}
 use mir.Val.{of_z, to_z}
 use Rattle.fast_float.specs.Text.{scan}
@@ -20,7 +20,10 @@ returns-in_ok-n c =
     let signed : (head t == 45) ≡ true = eq-eqb (head t) 45 (omega (arith, c.byte_at.ensures.head)) in
     let ends = signed_ends t n.count signed front in
     let long : 1 + n.count ≤ length t = omega (arith, front.0, front.1, length-drop 1 t) in
-    (long, ends.0, ends.1, rw same (signed_is t n.count n.n signed long value, n.ensures.in_range))
+    record {
+      whole = (long, ends.0, ends.1, rw same (signed_is t n.count n.n signed long value, n.ensures.in_range));
+      next = n.ensures.next ∙ ap (λ r. head (drop n.count r)) rest ∙ ap head (drop-drop n.count 1 t)
+    }
 
 pub returns-in_ok-n-2 : goal.returns-in_ok-n-2
 returns-in_ok-n-2 c =
@@ -28,9 +31,9 @@ returns-in_ok-n-2 c =
     let n = c.in_ok-n-2 in
     let same : to_z w64 (of_z w64 n.n) ≡ n.n = search rules in
     let unsigned : (head t == 45) ≡ false = ne_eqb (head t) 45 (λ e. omega (arith, c.byte_at.ensures.head, e)) in
-    let front = n.ensures.front in (
-      front.1,
-      unsigned_ends t n.count unsigned front,
-      front.3,
-      rw same (unsigned_is t n.count n.n unsigned front n.ensures.value, n.ensures.in_range),
-    )
+    let front = n.ensures.front in
+    let is = unsigned_is t n.count n.n unsigned front n.ensures.value in
+    record {
+      whole = (front.1, unsigned_ends t n.count unsigned front, front.3, rw same (is, n.ensures.in_range));
+      next = n.ensures.next
+    }

@@ -14,5 +14,5 @@ returns c =
     let same : to_z w64 (of_z w64 n.n) ≡ n.n = search rules in
     let may : begins_at a.place ≡ true = grind arith in
     let first = number_next c.peek.new.self c.take_whole.new.self n.ensures.0 p n.ensures.1 may in
-    let left = ap (λ ts. number n.ensures.0 ∷ ts) (sym c.after_value-self-inside.ensures) in
+    let left = ap (λ ts. number n.ensures.0 ∷ ts) (sym c.after_whole-self-inside.ensures) in
     (n.ensures.0, sym c.self.view_is ∙ ap (punctuate p) (sym c.peek.ensures.same) ∙ first ∙ left, rw same n.ensures.2)
