@@ -103,8 +103,11 @@ pub items_passed : (way : Direction) (later : Bool) (limit : ℕ) (js : Items) (
 items_passed way later limit no_items a b d h low moves rest =
     record {
       js = rest.js;
-      moves = (moves.0 ∙ rest.moves.0, rest.moves.1 ∙ ap (λ w. w ++ items_text later (items_changed way rest.js))
-          (moves.1 ∙ append-nil a.1));
+      moves = (
+        moves.0 ∙ rest.moves.0,
+        rest.moves.1 ∙ ap (λ w. w ++ items_text later (items_changed way rest.js))
+            (moves.1 ∙ append-nil a.1),
+      );
       numbers = rest.numbers;
       shallow = rest.shallow;
     }
@@ -206,6 +209,8 @@ comma_at text at level limit end h is rest =
 pub passed_whole : (text : List ℕ) (at level : ℕ) (later : Bool) (limit : ℕ) → at ≤ length text → level ≡ 0
     → ((end : List ℕ) → GoesOn level true limit (drop at text) end → GoesOn 0 later limit text end)
     → ArePassed later limit text at
-passed_whole text at level later limit h none goes =
-    (h, goes (drop at text) (subst (λ k. GoesOn k true limit (drop at text) (drop at text)) (sym none)
-    (nothing_goes true limit (drop at text))))
+passed_whole text at level later limit h none goes = (
+  h,
+  goes (drop at text) (subst (λ k. GoesOn k true limit (drop at text) (drop at text)) (sym none)
+      (nothing_goes true limit (drop at text))),
+)

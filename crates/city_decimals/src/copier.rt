@@ -15,7 +15,6 @@ use crate::arrays::{comma_len, has_comma, whole_items_len};
 use crate::numbers::{is_number, plain_len};
 use crate::runs::plain_end;
 use crate::text::{is_text, text_of};
-
 use std::marker::Model;
 
 /// A text read in part, and the output for that part. Contracts see the old bytes of the buffer,

@@ -51,7 +51,7 @@ module _ (t : List ℕ) (count : ℕ) (le : count ≤ length t) where
       go (inl e) =
           let more : 1 < count = ltb-true 1 count e in
           let second =
-              ap is_ascii_digit (head_at t 1 ∙ get_or_default t 1 32 0 (omega (arith, le, more))) ∙ digit all 1 more in
+          ap is_ascii_digit (head_at t 1 ∙ get_or_default t 1 32 0 (omega (arith, le, more))) ∙ digit all 1 more in
           absurd (true≢false (sym (ap₂ (λ a b. a && b) (eq-eqb (head t) 48 zero) second) ∙ none))
 
   -- digits standing alone are a whole number

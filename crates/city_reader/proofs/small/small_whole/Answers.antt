@@ -22,7 +22,7 @@ returns-in_ok-n c =
     let long : 1 + n.count ≤ length t = omega (arith, front.0, front.1, length-drop 1 t) in
     record {
       whole = (long, ends.0, ends.1, rw same (signed_is t n.count n.n signed long value, n.ensures.in_range));
-      next = n.ensures.next ∙ ap (λ r. head (drop n.count r)) rest ∙ ap head (drop-drop n.count 1 t)
+      next = n.ensures.next ∙ ap (λ r. head (drop n.count r)) rest ∙ ap head (drop-drop n.count 1 t);
     }
 
 pub returns-in_ok-n-2 : goal.returns-in_ok-n-2
@@ -35,5 +35,5 @@ returns-in_ok-n-2 c =
     let is = unsigned_is t n.count n.n unsigned front n.ensures.value in
     record {
       whole = (front.1, unsigned_ends t n.count unsigned front, front.3, rw same (is, n.ensures.in_range));
-      next = n.ensures.next
+      next = n.ensures.next;
     }
