@@ -8,7 +8,6 @@ use std::fmt::{self, Display, Formatter, Write};
 use std::process::Abort;
 use std::sync::Wait;
 use std::sync::atomic::{AtomicBool, AtomicU64, Ordering};
-use std::test::Fail;
 use std::thread;
 use std::thread::{Threads, join};
 use std::time::{Clock, Duration};
@@ -19,9 +18,6 @@ const HOLD: u64 = 20_000;
 /// A script and its pass, from 1, held until another script's pass has come and for so many times `HOLD` more. In
 /// order: the script, its pass, the other script, the other's pass, the holds.
 type Step = (usize, u64, usize, u64, u64);
-
-/// Why a test fails without an output.
-const NOT_SERVED: &str = "not served";
 
 /// Any number of replies.
 const ANY: usize = usize::MAX;
@@ -169,15 +165,31 @@ fn run_in_time<R: Threads + Wait + Clock + Abort + Sync>(
     came
 }
 
-/// The numbers of commits and of wrong passes in a run by three workers.
+/// The numbers of commits and of wrong passes in a run of these scripts.
 fn committed_in_time<R: Threads + Wait + Clock + Abort + Sync>(
     rt: &R,
     alloc: Global,
     gate: &InSteps,
-    scripts: &str,
+    scripts: Result<String, OutOfMemory>,
+    workers: usize,
 ) -> Option<(usize, u64)> {
-    let (text, wrong) = run_in_time(rt, alloc, gate, scripts, 3)?;
+    let scripts = scripts.ok()?;
+    let (text, wrong) = run_in_time(rt, alloc, gate, scripts.as_str(), workers)?;
     Some((commits(text.as_str()), wrong))
+}
+
+/// Whether a script of this name ends first in a run by three workers, and the number of wrong passes.
+fn ends_first<R: Threads + Wait + Clock + Abort + Sync>(
+    rt: &R,
+    alloc: Global,
+    gate: &InSteps,
+    scripts: Result<String, OutOfMemory>,
+    name: &str,
+) -> Option<(bool, u64)> {
+    let scripts = scripts.ok()?;
+    let (text, wrong) = run_in_time(rt, alloc, gate, scripts.as_str(), 3)?;
+    let first = text.as_str().lines().next()?;
+    Some((first.contains(name), wrong))
 }
 
 /// Two pieces of land.
@@ -270,16 +282,15 @@ const SLEEPS: &[Sleep] = &[
 ];
 
 #[test]
-fn an_end_wakes_all_that_sleep(rt: HostRuntime) -> Result<(), Fail> {
+fn an_end_wakes_all_that_sleep(rt: HostRuntime) {
     for (end, commits) in ENDS {
         for (steps, open, replies, count) in SLEEPS {
             let gate = InSteps::of(steps, *open, replies);
-            let scripts = three_scripts(rt.alloc(), *count, end)?;
-            let came = committed_in_time(&rt, rt.alloc(), &gate, scripts.as_str());
+            let scripts = three_scripts(rt.alloc(), *count, end);
+            let came = committed_in_time(&rt, rt.alloc(), &gate, scripts, 3);
             assert_eq!(&rt; came, Some((*commits, 0)), "{end} {count}");
         }
     }
-    Ok(())
 }
 
 /// Two scripts: the first puts `x` and `y`, the second `y` so often and then `x`.
@@ -320,16 +331,15 @@ const DEATHS: &[Death] = &[
 ];
 
 #[test]
-fn a_death_wakes_one_that_waits(rt: HostRuntime) -> Result<(), Fail> {
+fn a_death_wakes_one_that_waits(rt: HostRuntime) {
     for (count, steps, replies) in DEATHS {
-        let scripts = two_scripts(rt.alloc(), *count)?;
         for _ in 0..2 {
             let gate = InSteps::of(steps, false, replies);
-            let came = committed_in_time(&rt, rt.alloc(), &gate, scripts.as_str());
+            let scripts = two_scripts(rt.alloc(), *count);
+            let came = committed_in_time(&rt, rt.alloc(), &gate, scripts, 3);
             assert_eq!(&rt; came, Some((2, 0)), "{count}");
         }
     }
-    Ok(())
 }
 
 /// So many scripts with a comma before each, each with so many puts of an id of its own.
@@ -364,17 +374,18 @@ pub fn one_and_others(
 const LENGTHS: &[(usize, u64)] = &[(512, 3), (768, 4)];
 
 #[test]
-fn a_script_makes_few_turns_under_one_lock(rt: HostRuntime) -> Result<(), Fail> {
+fn a_script_makes_few_turns_under_one_lock(rt: HostRuntime) {
     for (first, passes) in LENGTHS {
         let steps = [(1, 1, 0, *passes, 0), (0, *passes, 1, 1, 3)];
         let gate = InSteps::of(&steps, true, &[]);
-        let scripts = one_and_others(rt.alloc(), *first, 1, 62)?;
-        let ran = run_in_time(&rt, rt.alloc(), &gate, scripts.as_str(), 3);
-        let (text, wrong) = ran.ok_or(NOT_SERVED)?;
-        assert!(&rt; text.as_str().starts_with(r#"{"name":"other""#), "{first}");
-        assert_eq!(&rt; (gate.passes(0), wrong), (*passes, 0), "{first}");
+        let scripts = one_and_others(rt.alloc(), *first, 1, 62);
+        let came = ends_first(&rt, rt.alloc(), &gate, scripts, "other");
+        assert_eq!(&rt;
+            (came, gate.passes(0)),
+            (Some((true, 0)), *passes),
+            "{first}"
+        );
     }
-    Ok(())
 }
 
 /// Puts of a script beside an older one, its passes, and the first to end. With its commit it has 63 commands, and goes
@@ -382,30 +393,27 @@ fn a_script_makes_few_turns_under_one_lock(rt: HostRuntime) -> Result<(), Fail> 
 const BESIDE: &[(usize, u64, &str)] = &[(62, 1, "other"), (63, 2, "first")];
 
 #[test]
-fn a_long_script_sleeps_until_it_is_the_oldest(rt: HostRuntime) -> Result<(), Fail> {
-    for (each, passes, ends) in BESIDE {
+fn a_long_script_sleeps_until_it_is_the_oldest(rt: HostRuntime) {
+    for (each, passes, name) in BESIDE {
         let steps = [(1, 1, 0, 2, 0), (0, 2, 1, 1, 3)];
         let gate = InSteps::of(&steps, true, &[]);
-        let scripts = one_and_others(rt.alloc(), 300, 1, *each)?;
-        let ran = run_in_time(&rt, rt.alloc(), &gate, scripts.as_str(), 3);
-        let (text, wrong) = ran.ok_or(NOT_SERVED)?;
-        let ended = text.as_str().lines().next().unwrap_or("");
-        assert!(&rt; ended.contains(*ends), "{each}");
-        assert_eq!(&rt; (gate.passes(1), wrong), (*passes, 0), "{each}");
+        let scripts = one_and_others(rt.alloc(), 300, 1, *each);
+        let came = ends_first(&rt, rt.alloc(), &gate, scripts, name);
+        assert_eq!(&rt;
+            (came, gate.passes(1)),
+            (Some((true, 0)), *passes),
+            "{each}"
+        );
     }
-    Ok(())
 }
 
 #[test]
-fn short_scripts_go_by_under_one_lock(rt: HostRuntime) -> Result<(), Fail> {
-    // four of 64 turns, while an older one is between its own; the fifth passes the gate
+fn short_scripts_go_by_under_one_lock(rt: HostRuntime) {
+    // (four have 64 turns each, while an older one is between its own; the fifth passes the gate)
     let steps = [(1, 1, 0, 2, 0), (0, 2, 5, 1, 0)];
     let gate = InSteps::of(&steps, true, &[]);
-    let scripts = one_and_others(rt.alloc(), 300, 5, 62)?;
-    let ran = run_in_time(&rt, rt.alloc(), &gate, scripts.as_str(), 2);
-    let (text, wrong) = ran.ok_or(NOT_SERVED)?;
+    let scripts = one_and_others(rt.alloc(), 300, 5, 62);
+    let came = committed_in_time(&rt, rt.alloc(), &gate, scripts, 2);
     let passes = [1, 2, 3, 4, 5].map(|script| gate.passes(script));
-    assert_eq!(&rt; (commits(text.as_str()), wrong), (6, 0));
-    assert_eq!(&rt; passes, [1, 0, 0, 0, 1]);
-    Ok(())
+    assert_eq!(&rt; (came, passes), (Some((6, 0)), [1, 0, 0, 0, 1]));
 }

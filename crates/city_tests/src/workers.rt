@@ -3,10 +3,10 @@ use crate::meeting::{Meeting, PATIENT, SHORT};
 use crate::served::{EMPTY, TWO, commits, scripts_of_roads, served};
 use crate::sleepers::one_and_others;
 use city_crew::{Gate, run_crew};
+use city_desk::Output;
 use std::alloc::Global;
 use std::sync::Wait;
 use std::sync::atomic::{AtomicU64, Ordering};
-use std::test::Fail;
 use std::thread::Threads;
 
 /// The first scripts meet: before they begin, or after their first replies. If the gate is open, a worker passes it
@@ -101,13 +101,22 @@ const TWO_LEFT: &str = model!(
     "[]"
 );
 
+/// Whether two workers leave the model of two scripts, and the number of commits.
+fn left_by_two<R: Threads + Wait + Sync>(
+    rt: &R,
+    alloc: Global,
+    gate: &ScriptsMeet,
+) -> Option<(bool, usize)> {
+    let (text, _) = served(rt, alloc, gate, (EMPTY, TWO), 2, 0)?;
+    let text = text.as_str();
+    Some((text.trim_end().ends_with(TWO_LEFT), commits(text)))
+}
+
 #[test]
-fn two_workers_run_two_scripts_at_once(rt: HostRuntime) -> Result<(), Fail> {
+fn two_workers_run_two_scripts_at_once(rt: HostRuntime) {
     let gate = ScriptsMeet::of(2, PATIENT, false);
-    let (text, _) = served(&rt, rt.alloc(), &gate, (EMPTY, TWO), 2, 0).ok_or("not served")?;
-    assert!(rt; text.as_str().trim_end().ends_with(TWO_LEFT));
-    assert_eq!(rt; (commits(text.as_str()), gate.meeting.missed()), (2, 0));
-    Ok(())
+    let left = left_by_two(&rt, rt.alloc(), &gate);
+    assert_eq!(&rt; (left, gate.meeting.missed()), (Some((true, 2)), 0));
 }
 
 /// The report of one worker of the crew.
@@ -118,22 +127,28 @@ const IN_TURN: &str = concat!(
     "\n"
 );
 
+/// The output of one worker of the crew.
+fn written_by_one<R: Threads + Wait + Sync, G: Gate + Sync>(
+    rt: &R,
+    alloc: Global,
+    gate: &G,
+    scripts: &str,
+) -> Option<Output> {
+    run_crew(rt, alloc, EMPTY.as_bytes(), scripts.as_bytes(), 1, 0, gate).ok()
+}
+
+/// Whether one worker writes the report of two scripts in turn, and then their model.
+fn is_in_turn<R: Threads + Wait + Sync>(rt: &R, alloc: Global, gate: &ScriptsMeet) -> Option<bool> {
+    let output = written_by_one(rt, alloc, gate, TWO)?;
+    let wanted = format!(in alloc; "{IN_TURN}{TWO_LEFT}\n").ok()?;
+    Some(output.bytes.as_slice() == wanted.as_bytes())
+}
+
 #[test]
-fn one_worker_runs_one_script_after_the_other(rt: HostRuntime) -> Result<(), Fail> {
+fn one_worker_runs_one_script_after_the_other(rt: HostRuntime) {
     let gate = ScriptsMeet::of(2, SHORT, false);
-    let output = run_crew(
-        &rt,
-        rt.alloc(),
-        EMPTY.as_bytes(),
-        TWO.as_bytes(),
-        1,
-        0,
-        &gate,
-    );
-    let wanted = format!(in rt.alloc(); "{IN_TURN}{TWO_LEFT}\n")?;
-    assert!(&rt; output.is_ok_and(|output| output.bytes.as_slice() == wanted.as_bytes()));
-    assert_eq!(&rt; gate.meeting.missed(), 1);
-    Ok(())
+    let in_turn = is_in_turn(&rt, rt.alloc(), &gate);
+    assert_eq!(&rt; (in_turn, gate.meeting.missed()), (Some(true), 1));
 }
 
 /// Counts the passes of scripts, and notes the last.
@@ -156,28 +171,22 @@ impl Gate for Passes {
     }
 }
 
+/// The number of ends of 300 short scripts, run by one worker.
+fn ends_of_many<R: Threads + Wait + Sync>(rt: &R, alloc: Global, gate: &Passes) -> Option<usize> {
+    let scripts = one_and_others(alloc, 62, 299, 62).ok()?;
+    let output = written_by_one(rt, alloc, gate, scripts.as_str())?;
+    Some(output.ends.as_slice().len())
+}
+
 #[test]
-fn a_worker_leaves_the_lock_after_many_short_scripts(rt: HostRuntime) -> Result<(), Fail> {
+fn a_worker_leaves_the_lock_after_many_short_scripts(rt: HostRuntime) {
     let gate = Passes {
         count: AtomicU64::new(0),
         last: AtomicU64::new(0),
     };
+    let ends = ends_of_many(&rt, rt.alloc(), &gate);
+    let count = gate.count.load(Ordering::SeqCst);
+    let last = gate.last.load(Ordering::SeqCst);
     // (each has 64 turns, but the first has begun before: 16,384 turns are over when 257 scripts have ended)
-    let texts = one_and_others(rt.alloc(), 62, 299, 62)?;
-    let output = run_crew(
-        &rt,
-        rt.alloc(),
-        EMPTY.as_bytes(),
-        texts.as_bytes(),
-        1,
-        0,
-        &gate,
-    );
-    assert!(&rt; output.is_ok_and(|output| output.ends.as_slice().len() == 300));
-    let passes = (
-        gate.count.load(Ordering::SeqCst),
-        gate.last.load(Ordering::SeqCst),
-    );
-    assert_eq!(&rt; passes, (2, 257));
-    Ok(())
+    assert_eq!(&rt; (ends, count, last), (Some(300), 2, 257));
 }
