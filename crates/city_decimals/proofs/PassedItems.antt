@@ -1,8 +1,8 @@
 -- Items that are passed unchanged, one after another and within one another.
-use Rattle.city_decimals.proofs.Prelude.{◌≡◌, ℕ, ◌+◌, ◌-◌, ◌<◌, ◌≤◌, suc, List, [], ◌∷◌, ◌++◌, length, drop, Bool, true, false}
+use Rattle.city_decimals.proofs.Prelude.{◌≡◌, ℕ, ◌+◌, ◌-◌, ◌<◌, ◌≤◌, suc, List, ◌∷◌, ◌++◌, length, drop, Bool, true, false}
 use Rattle.city_decimals.proofs.Prelude.{cond, refl, sym, ap, ap₂, ◌∙◌, arith, append_assoc, length-drop, Json, number, array}
-use Rattle.city_decimals.proofs.Prelude.{Items, no_items, item, IsNumber, ItemsHaveNumbers, depth, encoded, encoded_items}
-use Rattle.city_decimals.proofs.Prelude.{decoded, decoded_items, tagged, is_whole, Moves, State, value_text, items_text}
+use Rattle.city_decimals.proofs.Prelude.{Items, no_items, item, IsNumber, ItemsHaveNumbers, depth, encoded_items}
+use Rattle.city_decimals.proofs.Prelude.{decoded_items, tagged, is_whole, Moves, State, value_text, items_text}
 use Rattle.city_decimals.proofs.Prelude.{comma_if, AreItemsCopied, changed, items_changed, Direction, Encode, Decode}
 use Rattle.city_decimals.proofs.Prelude.{append-nil, get_or, take, subst}
 use Rattle.std.proofs.Math.Seq.{take-append_seam}
@@ -103,8 +103,11 @@ pub items_passed : (way : Direction) (later : Bool) (limit : ℕ) (js : Items) (
 items_passed way later limit no_items a b d h low moves rest =
     record {
       js = rest.js;
-      moves = (moves.0 ∙ rest.moves.0, rest.moves.1 ∙ ap (λ w. w ++ items_text later (items_changed way rest.js))
-          (moves.1 ∙ append-nil a.1));
+      moves = (
+        moves.0 ∙ rest.moves.0,
+        rest.moves.1 ∙ ap (λ w. w ++ items_text later (items_changed way rest.js))
+            (moves.1 ∙ append-nil a.1),
+      );
       numbers = rest.numbers;
       shallow = rest.shallow;
     }
@@ -206,6 +209,8 @@ comma_at text at level limit end h is rest =
 pub passed_whole : (text : List ℕ) (at level : ℕ) (later : Bool) (limit : ℕ) → at ≤ length text → level ≡ 0
     → ((end : List ℕ) → GoesOn level true limit (drop at text) end → GoesOn 0 later limit text end)
     → ArePassed later limit text at
-passed_whole text at level later limit h none goes =
-    (h, goes (drop at text) (subst (λ k. GoesOn k true limit (drop at text) (drop at text)) (sym none)
-    (nothing_goes true limit (drop at text))))
+passed_whole text at level later limit h none goes = (
+  h,
+  goes (drop at text) (subst (λ k. GoesOn k true limit (drop at text) (drop at text)) (sym none)
+      (nothing_goes true limit (drop at text))),
+)

@@ -25,5 +25,12 @@ pub fn decode(alloc: Global, bytes: &[u8]) -> Result<Vec<u8>, DecimalsFault>
 {
     let mut scratch = Scratch::new(alloc);
     let out = Vec::with_capacity(alloc, bytes.len())?;
-    transcode_onto(alloc, Direction::Decode, bytes, MAX_DEPTH, &mut scratch, out)
+    transcode_onto(
+        alloc,
+        Direction::Decode,
+        bytes,
+        MAX_DEPTH,
+        &mut scratch,
+        out,
+    )
 }

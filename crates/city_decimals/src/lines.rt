@@ -40,7 +40,14 @@ pub fn decode_lines_onto(
     out.reserve(bytes.len())?;
     let mut rest = bytes;
     while let Some(at) = first_newline(rest) {
-        out = transcode_onto(alloc, Direction::Decode, &rest[..at], depth, &mut scratch, out)?;
+        out = transcode_onto(
+            alloc,
+            Direction::Decode,
+            &rest[..at],
+            depth,
+            &mut scratch,
+            out,
+        )?;
         out.extend_from_slice(b"\n")?;
         rest = &rest[at + 1..];
     }

@@ -49,7 +49,11 @@ fn encode_attributes_number(text: &str, out: &mut Writer) -> Result<(), OutOfMem
 
 /// Writes an array of this item alone, changed. Unless the item is a text, the array gets a shield
 /// when encoded, and is one when decoded.
-pub(super) fn write_single(way: Direction, only: &Value<'_>, out: &mut Writer) -> Result<(), OutOfMemory>
+pub(super) fn write_single(
+    way: Direction,
+    only: &Value<'_>,
+    out: &mut Writer,
+) -> Result<(), OutOfMemory>
     requires numbers { HasNumbers (value_view only.now) }
     ensures before { OnOk result (out.new.before ≡ out.old.before) }
     ensures tokens { OnOk result (out.new.tokens ≡ out.old.tokens
@@ -81,7 +85,11 @@ fn write_array(way: Direction, only: &Value<'_>, out: &mut Writer) -> Result<(),
 }
 
 /// Writes a tree, changed.
-pub(super) fn write_tree(way: Direction, value: &Value<'_>, out: &mut Writer) -> Result<(), OutOfMemory>
+pub(super) fn write_tree(
+    way: Direction,
+    value: &Value<'_>,
+    out: &mut Writer,
+) -> Result<(), OutOfMemory>
     requires numbers { HasNumbers (value_view value.now) }
     ensures before { OnOk result (out.new.before ≡ out.old.before) }
     ensures tokens { OnOk result (out.new.tokens

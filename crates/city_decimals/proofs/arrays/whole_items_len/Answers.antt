@@ -1,4 +1,4 @@
-use Rattle.city_decimals.proofs.Prelude.{◌≡◌, ◌+◌, ◌<◌, ◌≤◌, List, ℕ, true, false, length, arith, sym, subst}
+use Rattle.city_decimals.proofs.Prelude.{true, false, arith, sym, subst}
 use Rattle.city_decimals.specs.internal.Passed.{GoesOn, ArePassed}
 use Rattle.city_decimals.proofs.PassedItems.{nothing_goes, comma_first, array_opens_at, array_ends_at, comma_at}
 use Rattle.city_decimals.proofs.PassedItems.{passed_whole}
@@ -27,8 +27,11 @@ items-preserved-then-text-at-eq91 c =
       l.invariant.0,
       omega (arith, c.items-test.true),
       omega (arith, c.if-level-most.false, c.min-most.ensures),
-      (false, λ end goes. before.1 end (array_opens_at c.args.text.now l.at l.level before.0 c.args.depth end
-          c.items-test.true c.if-text-at-eq91.true goes)),
+      (
+        false,
+        λ end goes. before.1 end (array_opens_at c.args.text.now l.at l.level before.0 c.args.depth end
+            c.items-test.true c.if-text-at-eq91.true goes),
+      ),
     )
 
 pub ends-preserved : goal.ends-preserved
@@ -45,21 +48,30 @@ ends-preserved c =
 pub returns-then-at-text-2 : goal.returns-then-at-text-2
 returns-then-at-text-2 c =
     let l = c.ends in
-    elim c.if-level-eq0.branch [ then-level-eq0 w ↦ subst (ArePassed c.args.later c.args.depth c.args.text.now)
-    (sym w.done-is) (passed_whole c.args.text.now l.at l.level c.args.later c.args.depth l.invariant.0
-    w.if-level-eq0.true l.invariant.3) | else-level-eq0 w
-    ↦ subst (ArePassed c.args.later c.args.depth c.args.text.now) (sym w.done-is) c.items.invariant.0 ]
+    elim c.if-level-eq0.branch [
+      | then-level-eq0 w ↦ subst (ArePassed c.args.later c.args.depth c.args.text.now)
+          (sym w.done-is) (passed_whole c.args.text.now l.at l.level c.args.later c.args.depth l.invariant.0
+          w.if-level-eq0.true l.invariant.3)
+      | else-level-eq0 w
+          ↦ subst (ArePassed c.args.later c.args.depth c.args.text.now) (sym w.done-is) c.items.invariant.0
+    ]
 
 pub items-preserved : goal.items-preserved
 items-preserved c =
     let l = c.ends in
     let here = c.if-at-text-2.false in (
-      elim c.if-level-eq0.branch [ then-level-eq0 w ↦ subst (ArePassed c.args.later c.args.depth c.args.text.now)
-          (sym w.done-is) (passed_whole c.args.text.now l.at l.level c.args.later c.args.depth l.invariant.0
-          w.if-level-eq0.true l.invariant.3) | else-level-eq0 w
-          ↦ subst (ArePassed c.args.later c.args.depth c.args.text.now) (sym w.done-is) c.items.invariant.0 ],
+      elim c.if-level-eq0.branch [
+        | then-level-eq0 w ↦ subst (ArePassed c.args.later c.args.depth c.args.text.now)
+            (sym w.done-is) (passed_whole c.args.text.now l.at l.level c.args.later c.args.depth l.invariant.0
+            w.if-level-eq0.true l.invariant.3)
+        | else-level-eq0 w
+            ↦ subst (ArePassed c.args.later c.args.depth c.args.text.now) (sym w.done-is) c.items.invariant.0
+      ],
       omega (arith, here),
       l.invariant.2,
-      (true, λ end goes. l.invariant.3 end (comma_at c.args.text.now l.at l.level c.args.depth end here
-          c.if-text-at-ne44.false goes)),
+      (
+        true,
+        λ end goes. l.invariant.3 end (comma_at c.args.text.now l.at l.level c.args.depth end here
+            c.if-text-at-ne44.false goes),
+      ),
     )

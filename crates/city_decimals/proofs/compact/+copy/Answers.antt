@@ -1,5 +1,5 @@
-use Rattle.city_decimals.proofs.Prelude.{rules, refl, sym, ◌∙◌, changed, items_changed, member_changed}
-use Rattle.city_decimals.proofs.Prelude.{frame_changed, arith, true, false, length, ◌≤◌, ◌<◌, IsItemCopied}
+use Rattle.city_decimals.proofs.Prelude.{rules, refl, sym, changed, items_changed, member_changed}
+use Rattle.city_decimals.proofs.Prelude.{frame_changed, arith, true, false, IsItemCopied}
 use Rattle.city_decimals.proofs.Copied.{array_copied, object_copied, items_end, items_first, members_end, members_first}
 use Rattle.city_decimals.proofs.Copied.{member_plain, member_framed, item_shorter, some_weaker}
 use Rattle.city_decimals.proofs.CompactForms.{frame_copied}
@@ -33,8 +33,11 @@ copy_items-items-smaller t c =
     let w = c.args.way in
     let more = c.pass_whole_items-later-in-items in
     let one : IsItemCopied (changed w) c.items.later c.args.depth c.items.copier c.copy_item.new.copier = search rules in
-    omega (arith, item_shorter (changed w) c.items.later c.args.depth c.items.copier c.copy_item.new.copier one,
-    passed_shorter true c.args.depth c.copy_item.new.copier more.new.self more.result more.ensures.moves)
+    omega (
+      arith,
+      item_shorter (changed w) c.items.later c.args.depth c.items.copier c.copy_item.new.copier one,
+      passed_shorter true c.args.depth c.copy_item.new.copier more.new.self more.result more.ensures.moves,
+    )
 
 pub copy_items-items-preserved : goal.copy_items-items-preserved
 copy_items-items-preserved t c =
