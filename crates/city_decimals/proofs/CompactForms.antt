@@ -1,14 +1,13 @@
 -- Copies of encoded numbers and of transforms in frames.
-use Rattle.city_decimals.proofs.Prelude.{◌≡◌, ℕ, ◌-◌, ◌≤◌, List, [], ◌∷◌, ◌++◌, Bool, true, false, cond, None, refl}
+use Rattle.city_decimals.proofs.Prelude.{◌≡◌, ℕ, ◌-◌, ◌≤◌, List, [], ◌∷◌, ◌++◌, true, false, None, refl}
 use Rattle.city_decimals.proofs.Prelude.{sym, ap, ◌∙◌, arith, append_assoc, append-nil, codes, Json, number, object}
 use Rattle.city_decimals.proofs.Prelude.{Members, no_members, member, escape, IsNumber, framed, only, fronted, encoded}
-use Rattle.city_decimals.proofs.Prelude.{tagged, decoded, decoded_members, number_in, number_or, is_whole, IsPlain}
-use Rattle.city_decimals.proofs.Prelude.{Moves, value_text, members_text, comma_if, State, IsCopied, IsItemCopied}
+use Rattle.city_decimals.proofs.Prelude.{decoded, decoded_members, number_in, number_or, is_whole}
+use Rattle.city_decimals.proofs.Prelude.{Moves, value_text, members_text, State, IsCopied}
 use Rattle.city_decimals.proofs.Prelude.{AreMembersCopied, IsFrameCopied, frame_changed, Encode, Decode}
 use Rattle.json.specs.Print.{escape_byte}
 use Rattle.json.specs.Word.{after_number}
 use Rattle.city_decimals.specs.internal.Compact.{triple, IsNumberCopied, IsTripleCopied}
-use Rattle.city_decimals.proofs.PlainNumbers.{plain_is_number, plain_is_whole}
 use Rattle.city_decimals.proofs.Copied.{moves_on, moves_as, untagged_none}
 
 -- ---- a frame
@@ -64,22 +63,6 @@ number_encoded limit a b n =
 
 pub whole_encoded : (a b : State) (s : List ℕ) → IsNumber s → is_whole s ≡ true → Moves a b s s → IsNumberCopied a b
 whole_encoded a b s h whole moves = grind arith
-
-pub plain_encoded : (s : List ℕ) → IsPlain s → encoded (number s) ≡ number s
-plain_encoded s p = ap (λ t. cond t (number s) (tagged s)) (plain_is_whole s p)
-
--- a plain number as an item, with itself as the output
-pub plain_copied : (f : Json → Json) → ((s : List ℕ) → IsPlain s → f (number s) ≡ number s) → (later : Bool)
-    (limit : ℕ) (a b : State)
-    → (s : List ℕ) × IsPlain s × Moves a b (comma_if later ++ s) (comma_if later ++ s) → IsItemCopied f later limit a b
-plain_copied f same later limit a b (s, p, moves) =
-    let text = comma_if later ++ s in
-    record {
-      j = number s;
-      moves = grind arith;
-      numbers = plain_is_number s p;
-      shallow = omega arith;
-    }
 
 pub tagged_encoded : (a b d e : State) (s : List ℕ) → IsNumber s → escape s ≡ s → is_whole s ≡ false
     → Moves a b [] (123 ∷ 34 ∷ 35 ∷ 34 ∷ 58 ∷ 34 ∷ []) → Moves b d s s → Moves d e [] (34 ∷ 125 ∷ [])

@@ -1,15 +1,14 @@
 -- A value is changed part by part, in either direction.
 use Rattle.city_decimals.proofs.Prelude.{arith, ◌≡◌, ℕ, List, [], ◌∷◌, ◌++◌, Bool, true, false, Some, ap, Json, null}
-use Rattle.city_decimals.proofs.Prelude.{boolean, number, string, array, object, Items, no_items, item, Members}
+use Rattle.city_decimals.proofs.Prelude.{boolean, string, array, object, Items, no_items, item, Members}
 use Rattle.city_decimals.proofs.Prelude.{no_members, member, value, Token, json_tokens, items_tokens, members_tokens}
-use Rattle.city_decimals.proofs.Prelude.{is_attributes, is_tag, is_transform, IsUntagged, IsPlain, top_changed, changed}
+use Rattle.city_decimals.proofs.Prelude.{is_attributes, is_tag, is_transform, IsUntagged, top_changed, changed}
 use Rattle.city_decimals.proofs.Prelude.{items_changed, members_changed, member_changed, frame_changed, object_made}
 use Rattle.city_decimals.proofs.Prelude.{Direction, Encode, Decode}
 use Rattle.std.proofs.Common.{◌&&◌}
 use Rattle.city_decimals.specs.internal.Forms.{is_bare}
 use Rattle.city_decimals.specs.internal.Directions.{is_decode}
 use Rattle.city_decimals.proofs.Bare.{not_shielded, no_shield}
-use Rattle.city_decimals.proofs.CompactForms.{plain_encoded}
 use Rattle.city_decimals.proofs.Starts.{encoded_other, decoded_other}
 
 pub string_changed : (way : Direction) (s : List ℕ) → changed way (string s) ≡ string s
@@ -20,9 +19,6 @@ boolean_changed way b = grind arith
 
 pub null_changed : (way : Direction) → changed way null ≡ null
 null_changed way = grind arith
-
-pub plain_changed : (way : Direction) (s : List ℕ) → IsPlain s → changed way (number s) ≡ number s
-plain_changed way s p = search (arith, plain_encoded)
 
 pub array_changed : (way : Direction) (js : Items) → changed way (array js) ≡ array (items_changed way js)
 array_changed way js = grind arith

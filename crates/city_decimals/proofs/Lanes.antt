@@ -1,6 +1,6 @@
 -- A mask computed lane by lane agrees with a predicate at each of the 256 bytes.
-use Rattle.city_decimals.proofs.Prelude.{◌≡◌, ℕ, suc, ◌+◌, ◌-◌, ◌<◌, ◌≤◌, Bool, true, false, ◌&&◌, cond, List, [], ◌∷◌}
-use Rattle.city_decimals.proofs.Prelude.{length, drop, get_or, refl, sym, ap, ap₂, ◌∙◌, subst, arith, length-drop}
+use Rattle.city_decimals.proofs.Prelude.{◌≡◌, ℕ, suc, ◌+◌, ◌<◌, ◌≤◌, Bool, true, false, ◌&&◌, cond, List, [], ◌∷◌}
+use Rattle.city_decimals.proofs.Prelude.{length, drop, refl, sym, ap, ap₂, ◌∙◌, subst, arith, length-drop}
 use Rattle.std.proofs.Common.{zero, ◌*◌, ◌%◌, ◌^◌, ltb, leb, eqb, not, T, map, ◌⊎◌, inl, inr, w8, Fits}
 use Rattle.std.proofs.lemmas.Bool.{cases_order, eq-eqb, ne_eqb}
 use Rattle.std.proofs.lemmas.List.{length-map}

@@ -1,8 +1,8 @@
 -- Items that are passed unchanged, one after another and within one another.
-use Rattle.city_decimals.proofs.Prelude.{◌≡◌, ℕ, ◌+◌, ◌-◌, ◌<◌, ◌≤◌, suc, List, [], ◌∷◌, ◌++◌, length, drop, Bool, true, false}
+use Rattle.city_decimals.proofs.Prelude.{◌≡◌, ℕ, ◌+◌, ◌-◌, ◌<◌, ◌≤◌, suc, List, ◌∷◌, ◌++◌, length, drop, Bool, true, false}
 use Rattle.city_decimals.proofs.Prelude.{cond, refl, sym, ap, ap₂, ◌∙◌, arith, append_assoc, length-drop, Json, number, array}
-use Rattle.city_decimals.proofs.Prelude.{Items, no_items, item, IsNumber, ItemsHaveNumbers, depth, encoded, encoded_items}
-use Rattle.city_decimals.proofs.Prelude.{decoded, decoded_items, tagged, is_whole, Moves, State, value_text, items_text}
+use Rattle.city_decimals.proofs.Prelude.{Items, no_items, item, IsNumber, ItemsHaveNumbers, depth, encoded_items}
+use Rattle.city_decimals.proofs.Prelude.{decoded_items, tagged, is_whole, Moves, State, value_text, items_text}
 use Rattle.city_decimals.proofs.Prelude.{comma_if, AreItemsCopied, changed, items_changed, Direction, Encode, Decode}
 use Rattle.city_decimals.proofs.Prelude.{append-nil, get_or, take, subst}
 use Rattle.std.proofs.Math.Seq.{take-append_seam}

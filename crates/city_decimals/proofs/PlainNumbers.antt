@@ -1,6 +1,6 @@
 -- Numbers given by their digits.
 use Rattle.city_decimals.proofs.Prelude.{◌≡◌, ℕ, ◌<◌, List, true, subst, arith, bytes_eq-Decides, IsNumber, escape}
-use Rattle.city_decimals.proofs.Prelude.{number_of-decimal, is_whole, IsPlain, is_written_so, number_of, Some, [], ◌∷◌, suc, sym, ap}
+use Rattle.city_decimals.proofs.Prelude.{number_of-decimal, is_whole, IsPlain, is_written_so, number_of, Some, ◌∷◌, suc, sym, ap}
 use Rattle.city_decimals.proofs.Prelude.{◌∙◌, ◌≤◌, get_or, get_or-take, length, length-take, take, drop, ◌+◌, decimal_digit}
 use Rattle.std.proofs.Common.{◌^◌}
 use Rattle.std.specs.Prelude.{decimal, zero}

@@ -63,9 +63,13 @@ fn numbers_end(text: &[u8], from: usize) -> usize
     ensures bounds { (from ≤ result) × (result ≤ length text.now) }
     ensures passed { from < result → IsPassed text.now from result }
 {
+    if text.len() < ROOM {
+        return from;
+    }
+    let last = text.len() - ROOM;
     let mut end = from;
     let mut at = from;
-    while text.len() - at >= ROOM {
+    while at <= last {
         let len = short_len(text, at);
         if len == 0 {
             return end;

@@ -275,7 +275,11 @@ impl<'a> Copier<'a> {
             × Moves self.old self.new (front_text later js) (front_text later js)
             × (result ≡ later_after later js) }
     {
-        let len = whole_items_len(self.rest(), later, depth);
+        let rest = self.rest();
+        if begins_other(rest, later) {
+            return later;
+        }
+        let len = whole_items_len(rest, later, depth);
         self.advance(len);
         later || len > 0
     }
@@ -327,6 +331,13 @@ fn is_number_text(bytes: &[u8]) -> bool
         Ok(text) => is_number(text),
         Err(_) => false,
     }
+}
+
+/// Whether the next item is a string or an object, or there is none.
+#[inline(always)]
+fn begins_other(text: &[u8], later: bool) -> bool {
+    let first = comma_len(later);
+    first >= text.len() || text[first] == b'"' || text[first] == b'{'
 }
 
 /// The end of the bytes that may be in a number.

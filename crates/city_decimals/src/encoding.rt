@@ -22,6 +22,9 @@ pub(crate) use number::encode_number;
 use std::alloc::Global;
 pub(crate) use tree::encode_tree;
 
+/// The bytes that a frame adds, and some more: a text of whole numbers grows by no others.
+const FRAME_ROOM: usize = 64;
+
 /// Returns the text in one line, each number other than an `i64` as a text under `#`. A text or an
 /// array under `#` is shielded; under `attributes`, so are such a number and an array like its
 /// shield. A `transform` at the top is framed.
@@ -43,7 +46,7 @@ pub fn encode(alloc: Global, bytes: &[u8]) -> Result<Vec<u8>, DecimalsFault>
     ensures fault { IfErr result (λ f. IsDecimalsFault bytes.now f) }
 {
     let mut scratch = Scratch::new(alloc);
-    let out = Vec::with_capacity(alloc, bytes.len())?;
+    let out = Vec::with_capacity(alloc, bytes.len().saturating_add(FRAME_ROOM))?;
     transcode_onto(
         alloc,
         Direction::Encode,

@@ -1,7 +1,7 @@
 -- Items that are read and written the same: whole numbers, and arrays of such items.
-use Rattle.std.specs.Prelude.{◌≡◌, ◌+◌, ◌≤◌, ℕ, zero, suc, List, [], ◌∷◌, ◌++◌, length, drop, Bool, true, false}
+use Rattle.std.specs.Prelude.{◌≡◌, ◌+◌, ◌≤◌, ℕ, zero, suc, List, [], ◌++◌, length, drop, Bool, true}
 use Rattle.json.specs.Json.{Json, Items, no_items, item}
-use Rattle.json.specs.Tree.{depth, items_depth, HasNumbers}
+use Rattle.json.specs.Tree.{items_depth, HasNumbers}
 use Rattle.city_decimals.specs.Encoded.{encoded}
 use Rattle.city_decimals.specs.Decoded.{decoded}
 use Rattle.city_decimals.specs.internal.Compact.{comma_if, value_text, items_text}

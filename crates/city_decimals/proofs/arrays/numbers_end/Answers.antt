@@ -1,4 +1,4 @@
-use Rattle.city_decimals.proofs.Prelude.{◌+◌, length, refl, arith, take, drop}
+use Rattle.city_decimals.proofs.Prelude.{◌+◌, refl, arith, take, drop}
 use Rattle.city_decimals.proofs.PassedItems.{number_passes, passed_on}
 use Rattle.city_decimals.proofs.arrays.numbers_end.Goals as goal
 

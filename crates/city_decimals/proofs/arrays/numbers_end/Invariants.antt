@@ -1,4 +1,4 @@
-use Rattle.city_decimals.proofs.Prelude.{◌≡◌, ◌+◌, ◌-◌, ◌<◌, ◌≤◌, ℕ, length}
+use Rattle.city_decimals.proofs.Prelude.{◌-◌, ◌<◌, ◌≤◌, ℕ, length}
 use Rattle.city_decimals.specs.internal.Passed.{IsPassed}
 use Rattle.city_decimals.proofs.arrays.numbers_end.Given as goal
 

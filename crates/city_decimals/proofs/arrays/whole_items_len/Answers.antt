@@ -1,4 +1,4 @@
-use Rattle.city_decimals.proofs.Prelude.{◌≡◌, ◌+◌, ◌<◌, ◌≤◌, List, ℕ, true, false, length, arith, sym, subst}
+use Rattle.city_decimals.proofs.Prelude.{true, false, arith, sym, subst}
 use Rattle.city_decimals.specs.internal.Passed.{GoesOn, ArePassed}
 use Rattle.city_decimals.proofs.PassedItems.{nothing_goes, comma_first, array_opens_at, array_ends_at, comma_at}
 use Rattle.city_decimals.proofs.PassedItems.{passed_whole}

@@ -1,5 +1,5 @@
-use Rattle.city_decimals.proofs.Prelude.{rules, refl, sym, ◌∙◌, changed, items_changed, member_changed}
-use Rattle.city_decimals.proofs.Prelude.{frame_changed, arith, true, false, length, ◌≤◌, ◌<◌, IsItemCopied}
+use Rattle.city_decimals.proofs.Prelude.{rules, refl, sym, changed, items_changed, member_changed}
+use Rattle.city_decimals.proofs.Prelude.{frame_changed, arith, true, false, IsItemCopied}
 use Rattle.city_decimals.proofs.Copied.{array_copied, object_copied, items_end, items_first, members_end, members_first}
 use Rattle.city_decimals.proofs.Copied.{member_plain, member_framed, item_shorter, some_weaker}
 use Rattle.city_decimals.proofs.CompactForms.{frame_copied}

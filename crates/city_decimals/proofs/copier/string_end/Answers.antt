@@ -1,4 +1,4 @@
-use Rattle.city_decimals.proofs.Prelude.{◌+◌, ◌<◌, [], length, refl, arith}
+use Rattle.city_decimals.proofs.Prelude.{◌+◌, [], refl}
 use Rattle.city_decimals.proofs.Copies.{plain_inside, escape_inside}
 use Rattle.city_decimals.proofs.copier.string_end.Goals as goal
 
