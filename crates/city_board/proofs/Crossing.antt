@@ -16,9 +16,9 @@ use Rattle.city_board.proofs.history.Head.TheSendSync as head
 use Rattle.city_scheduler.proofs.ghosts.opening_city.OpeningCity.TheSendSync as opening
 use Rattle.city_board.specs.contracts.poster.Poster as Poster
 use Rattle.city_board.specs.contracts.poster.Poster.TheInside as PosterInside
-use Rattle.city_board.specs.contracts.rule.BoardRule as BoardRule
-use Rattle.city_board.specs.contracts.rule.BoardRuleProtocolVersionKnown.TheImpl as protocol
-use Rattle.city_board.specs.contracts.rule.Known as Known
+use Rattle.city_board.specs.contracts.ghosts.board_rule.BoardRule as BoardRule
+use Rattle.city_board.specs.contracts.ghosts.board_rule.BoardRuleProtocolVersionKnown.TheImpl as protocol
+use Rattle.city_board.specs.contracts.ghosts.board_rule.Known as Known
 use Rattle.city_board.specs.contracts.version.VersionAbsorbEdit.TheImpl as absorb
 use Rattle.city_board.specs.contracts.version.Edit as Edit
 use Rattle.city_board.specs.contracts.version.Version as Version

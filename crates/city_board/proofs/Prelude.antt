@@ -15,7 +15,7 @@ pub use Rattle.city_model.specs.CityMap.{CityMap, CityValue, changed, has_id, ob
 pub use Rattle.city_model.specs.Relations.{IsLawful}
 pub use Rattle.city_model.specs.Runs.{Change, after_change, after_changes}
 pub use Rattle.city_board.specs.HistoryValue.{HistoryValue, history_of}
-pub use Rattle.city_board.specs.declared.rule.Known.{Known}
+pub use Rattle.city_board.specs.declared.ghosts.board_rule.Known.{Known}
 pub use Rattle.city_board.specs.declared.version.Edit.{Edit}
 pub use Rattle.city_board.specs.declared.version.Version.{Version}
 pub use Rattle.city_board.specs.internal.BoardRule.{HoldsEdits, IsLater, known_from}

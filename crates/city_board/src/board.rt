@@ -1,5 +1,5 @@
 //! A new board.
-ghost use Rattle.std.specs.Prelude.{◌≡◌, ◌<◌, ◌≤◌, [], All, IfOk, IfSome, drop, vec_len};
+ghost use Rattle.std.specs.Prelude.{◌≡◌, ◌<◌, ◌≤◌, [], All, IfOk, IfSome, vec_len};
 ghost use Rattle.left_right.specs.Sides.{view};
 ghost use Rattle.city_model.specs.CityMap.{object_at};
 ghost use Rattle.city_model.specs.Relations.{IsLawful};
@@ -7,9 +7,9 @@ ghost use Rattle.city_board.specs.internal.BoardRule.{known_from};
 ghost use Rattle.city_board.specs.BoardValues.{new_poster, viewer_of};
 ghost use Rattle.city_board.specs.Limits.{max_viewers};
 
+use crate::ghosts::board_rule::{BelievesAll, SeesVersion, TellsAll};
 use crate::history::History;
 use crate::poster::Poster;
-use crate::rule::{BelievesAll, SeesVersion, TellsAll};
 use crate::version::Version;
 use crate::viewer::Viewer;
 use crate::writer::{BoardWriter, OwnWriter};

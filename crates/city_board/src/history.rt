@@ -1,58 +1,12 @@
-//! The history of a board's changes. It exists for the proofs only, and it only grows.
+//! The history of a board's changes. It only grows. At run time it is the number of its changes.
 ghost use Rattle.std.specs.Prelude.{◌≡◌, ◌⊎◌, ◌<◌, ◌^◌, [], ◌∷◌, ◌++◌, length, IfSome};
 ghost use mathlib.Core.List.{IsPrefix};
 ghost use Rattle.city_board.specs.HistoryValue.{history_of};
 
+use crate::ghosts::history_rule::{AddsChange, HistoryRule, NoGain};
 use city_model::change::Change;
-use logbook::{Gain, Offer, Plain, Play, Rule, Seen, Start, Word};
+use logbook::{Offer, Seen, Start, Word};
 use std::marker::Model;
-
-/// The rule of a history: its word holds its length.
-pub struct HistoryRule;
-
-impl Rule<Change, u64> for HistoryRule {
-    ghost use Rattle.std.specs.Prelude.{[]};
-    ghost use base.Fml.{ftrue};
-    ghost use Rattle.city_board.specs.internal.HistoryRule.{HasLength};
-
-    ghost holds = { λ cells changes. HasLength cells changes };
-
-    ghost first = { [] };
-
-    ghost hinted = { λ n changes. Unit {0} };
-
-    ghost shows = { λ changes. [] };
-
-    ghost keeps = { λ names changes. ftrue };
-
-    ghost moves = { λ ask before after answer. Unit {0} };
-}
-
-/// The gain of adding a change, besides the change: nothing.
-pub struct NoGain;
-
-impl Gain<Change, u64> for NoGain {
-    ghost use base.Fml.{ftrue};
-
-    ghost after = { λ names about answer. ftrue };
-}
-
-/// Adds a change.
-pub struct AddsChange;
-
-impl Play<Change, u64> for AddsChange {
-    ghost use Rattle.city_board.specs.internal.HistoryRule.{Adds};
-
-    ghost then = { Adds };
-}
-
-impl Plain<Change, Change, u64> for AddsChange {
-    ghost use Rattle.std.specs.Prelude.{None};
-
-    ghost ask = { λ change. change };
-
-    ghost state = { λ change. None };
-}
 
 /// The end of a history, where changes are added. Contracts see the history's name.
 #[derive(Drop)]

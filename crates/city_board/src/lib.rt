@@ -1,21 +1,21 @@
 //! The board: whole versions of a city, for viewers on other threads.
 //!
-//! - `board`, `rule`, `history`: a new board, and the invariant of every board
-//! - `poster`, `writer`, `note`: writing versions and telling of them
-//! - `viewer`, `look`, `version`: looking at versions
-//! - `places`, `apply`: a change written into a version
-//! - `shelf`: the poster as the shelf of a desk
+//! - `board`: makes a board
+//! - `poster`, `writer`, `note`: takes changes, writes and publishes versions, and tells of them
+//! - `viewer`, `look`: looks at versions
+//! - `version`, `apply`, `places`: a version, a change written into it, and places for its new ids
+//! - `history`: the changes of a version
+//! - `ghosts`: the rules of boards and histories, for proofs only
 #![tactic(auto)]
 
 mod apply;
 pub mod board;
+mod ghosts;
 mod history;
 mod look;
 mod note;
 mod places;
 mod poster;
-mod rule;
-mod shelf;
 mod version;
 mod viewer;
 mod writer;

@@ -59,7 +59,6 @@ impl Look {
         ensures objects { object_at result.now.1 ≡ after_changes (object_at self.now.opening.1) self.now.seen }
         ensures lawful { IsLawful (object_at result.now.1) }
     {
-        let _ = &self.seen;
         &self.reading.get().city
     }
 

@@ -1,4 +1,4 @@
-//! The poster of a board.
+//! The poster of a board, and the shelf that it is for a desk.
 ghost use Rattle.std.specs.Prelude.{◌≡◌, ◌+◌, ◌<◌, ◌^◌, [], ◌∷◌, ◌++◌, length, drop, IfOk, OnOk, OnErr};
 ghost use mathlib.Core.List.{IsPrefix};
 ghost use Rattle.left_right.specs.Sides.{view};
@@ -8,14 +8,14 @@ ghost use Rattle.city_model.specs.Runs.{after_changes};
 ghost use Rattle.city_board.specs.internal.BoardRule.{HoldsEdits};
 ghost use Rattle.city_board.specs.HistoryValue.{history_of};
 
+use crate::ghosts::board_rule::SeesVersion;
 use crate::history::{Head, History};
 use crate::note::Note;
-use crate::rule::SeesVersion;
 use crate::version::Edit;
 use crate::writer::{OwnWriter, append_all};
 use city_model::OutOfMemory;
 use city_model::change::Change;
-use city_scheduler::OpeningCity;
+use city_scheduler::{OpeningCity, Shelf};
 use std::alloc::Global;
 use std::collections::VecDeque;
 use std::marker::Model;
@@ -131,5 +131,31 @@ impl<R: Wait + Drop> Poster<R> {
                 Ok(Note::of(self.taken.again()))
             }
         }
+    }
+}
+
+/// Lists all changes taken, and shows viewers the published ones; the base is the board's opening
+/// city.
+impl<R: Wait + Drop> Shelf for Poster<R> {
+    type Note = Note;
+
+    ghost use Rattle.std.specs.Prelude.{◌≡◌, [], ◌∷◌, Some};
+
+    ghost list = { λ poster. poster.taken };
+
+    ghost base = { λ poster. Some poster.opening };
+
+    ghost name = { λ poster. poster.name.number ∷ poster.name.log_name ∷ poster.name.cells_name ∷ [] };
+
+    ghost published = { λ poster. Some poster.published };
+
+    ghost tells = { λ poster note. (note.changes ≡ poster.taken) × (note.name ≡ poster.name) };
+
+    fn take(&mut self, change: Change) -> Result<(), OutOfMemory> {
+        self.append(change)
+    }
+
+    fn show<Q: Wait>(&mut self, _rt: &Q) -> Result<Note, OutOfMemory> {
+        self.publish()
     }
 }

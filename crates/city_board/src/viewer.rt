@@ -2,10 +2,10 @@
 ghost use Rattle.std.specs.Prelude.{◌≡◌, ◌⊎◌, true, IfOk, IfErr};
 ghost use mathlib.Core.List.{IsPrefix};
 
+use crate::ghosts::board_rule::{BoardRule, Known, SeesVersion};
 use crate::history::History;
 use crate::look::Look;
 use crate::note::Note;
-use crate::rule::{BoardRule, Known, SeesVersion};
 use crate::version::Version;
 use left_right::reader::{Reader, Reading};
 use std::marker::Model;

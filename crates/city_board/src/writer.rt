@@ -1,7 +1,7 @@
 //! A board's writer, as its poster keeps it.
 ghost use Rattle.std.specs.Prelude.{◌≡◌, ◌++◌, [], drop, IsTrue};
 
-use crate::rule::{BoardRule, Known};
+use crate::ghosts::board_rule::{BoardRule, Known};
 use crate::version::{Edit, Version};
 use left_right::writer::Writer;
 use std::collections::VecDeque;

@@ -7,7 +7,7 @@ use Rattle.city_model.specs.CityMap.{CityValue}
 use Rattle.city_board.specs.HistoryValue.{HistoryValue, history_of}
 use Rattle.city_scheduler.specs.internal.NoCity.{no_city}
 use Rattle.city_board.specs.internal.Versions.{IsFaithful, LeadTo}
-use Rattle.city_board.specs.declared.rule.Known.{Known}
+use Rattle.city_board.specs.declared.ghosts.board_rule.Known.{Known}
 use Rattle.city_board.specs.declared.version.Edit.{Edit}
 use Rattle.city_board.specs.declared.version.Version.{Version}
 
