@@ -136,7 +136,7 @@ impl<'t> Cursor<'t> {
     }
 
     /// Takes the next whole number, of at most 18 digits, and returns it with the byte behind it. If
-    /// anything else is next, returns `None` and takes nothing.
+    /// anything else is next, or the text is about to end, returns `None` and takes nothing.
     #[inline(always)]
     pub fn take_whole(&mut self) -> Option<(i64, u8)>
         ensures { MatchOption result (self.new ≡ self.old) (λ r. (s : List ℕ)

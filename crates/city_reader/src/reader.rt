@@ -23,7 +23,7 @@ enum Source<'t> {
     Escaped(json::Reader<'t>),
 }
 
-/// The next token of a text with escapes. Never inlined, which keeps the other reader's callers small.
+/// The next token of a text with escapes. Never inlined: that keeps the callers small.
 #[inline(never)]
 fn next_escaped<'t>(reader: &mut json::Reader<'t>) -> Option<Token<'t>>
     ensures { IfSome result (λ t. reader.old ≡ token_of t ∷ reader.new) }
@@ -130,8 +130,8 @@ impl<'t> Reader<'t> {
         }
     }
 
-    /// Takes the next token, if it is a whole number of at most 18 digits. If it is anything else, or
-    /// the text has escapes, returns `None` and takes nothing.
+    /// Takes the next token, if it is a whole number of at most 18 digits. Returns `None` and takes
+    /// nothing if it is anything else, if the text has escapes, or near the end of the text.
     #[inline(always)]
     pub fn take_whole(&mut self) -> Option<i64>
         ensures { MatchOption result (self.new ≡ self.old) (IsWholeTaken self.old self.new) }
