@@ -5,4 +5,3 @@ pub mod Lacking
 pub mod OwnMembers
 pub mod PiecesWritten
 pub mod PutMembers
-pub mod VerticesWritten

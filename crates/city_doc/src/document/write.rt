@@ -26,9 +26,6 @@ use std::thread::Threads;
 /// How many bytes of text an object counts as when a city is written in pieces.
 const OBJECT_BYTES: usize = 1024;
 
-/// How many bytes of text a vertex counts as.
-const VERTEX_BYTES: usize = 32;
-
 /// The canonical text of a city, without a newline.
 ///
 /// The text is JSON and stands for the same city, unless kept members nest so deep that the text has more
@@ -90,7 +87,6 @@ pub fn append_city_by<R: Threads + Sync>(
     if city.len() <= len {
         return append_city(alloc, seed, bytes, city);
     }
-    let least = pieces.least / VERTEX_BYTES;
-    let text = append_in_pieces(rt, alloc, seed, bytes, city, len, least)?;
+    let text = append_in_pieces(rt, alloc, seed, bytes, city, len)?;
     Ok(text)
 }

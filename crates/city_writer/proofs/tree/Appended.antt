@@ -3,14 +3,12 @@ use Rattle.city_writer.proofs.Prelude.{◌≡◌, ℕ, Bool, true, false, List, 
 use Rattle.city_writer.proofs.Prelude.{Members}
 use Rattle.city_writer.proofs.Prelude.{no_members, member, tokens_of, tokens_of_members, end_object}
 use Rattle.city_writer.proofs.Prelude.{begin_object, append_assoc}
-use Rattle.city_writer.proofs.Prelude.{closing_members, object, array, Items, no_items, item, closing_items}
+use Rattle.city_writer.proofs.Prelude.{closing_members, object}
 use Rattle.std.proofs.Common.{fold, ◌||◌, ◌&&◌, cond}
 use Rattle.std.specs.Str.{IsUtf8}
 use Rattle.std.proofs.lemmas.Str.{IsUtf8-append, IsUtf8-nil}
 use Rattle.std.proofs.lemmas.Grind.{fold-append}
 use Rattle.json.specs.Json as json
-use Rattle.json.specs.Token.{begin_array, end_array}
-use Rattle.city_writer.specs.internal.tree.PartTokens.{tokens_of_items}
 use Rattle.json.specs.Lex.{tokens}
 use Rattle.json.specs.Print.{print, print_from, ends, ArePrintableOrBad}
 use Rattle.json.specs.Tree.{json_tokens, items_tokens, members_tokens}
@@ -25,7 +23,7 @@ abbrev pub after : Bool → List Token → Bool
 after = fold (λ _ t. ends t)
 
 mutual
-  pub value_ends : (b : Bool) (j : json.Json) → after b (json_tokens j) ≡ true
+  value_ends : (b : Bool) (j : json.Json) → after b (json_tokens j) ≡ true
   value_ends b json.null = refl
   value_ends b (json.boolean c) = refl
   value_ends b (json.number s) = refl
@@ -98,28 +96,6 @@ printed-append ts us a b h k none = record {
   printable = printable-append ts us h.printable k.printable;
   utf8 = IsUtf8-append a b h.utf8 k.utf8;
 }
-
-pub after_bracket : (ts us : List Token) → print_from (after false (ts ++ begin_array ∷ [])) us ≡ print us
-after_bracket ts us = rw (ends_push false ts begin_array) refl
-
-pub before_bracket : (b : Bool) (us : List Token) → print_from b (end_array ∷ us) ≡ print (end_array ∷ us)
-unfolding print_from
-before_bracket true us = refl
-before_bracket false us = refl
-
-pub items-closed : (ds : Items) → closing_items ds ≡ tokens_of_items ds ++ end_array ∷ []
-items-closed no_items = refl
-items-closed (item d ds) = simp (items-closed ds, append_assoc)
-
--- items between brackets
-pub array_closed : (ds : Items) (old begun inside last : List Token) → begun ≡ old ++ begin_array ∷ []
-    → inside ≡ begun ++ tokens_of_items ds → last ≡ inside ++ end_array ∷ [] → last ≡ old ++ tokens_of (array ds)
-array_closed ds old begun inside last begun_is inside_is last_is =
-    let mine = tokens_of_items ds in
-    last_is ∙ ap (λ ts. ts ++ end_array ∷ []) (inside_is ∙ ap (λ ts. ts ++ mine) begun_is)
-    ∙ append_assoc (old ++ begin_array ∷ []) mine (end_array ∷ [])
-    ∙ append_assoc old (begin_array ∷ []) (mine ++ end_array ∷ [])
-    ∙ ap (λ ts. old ++ (begin_array ∷ ts)) (sym (items-closed ds))
 
 pub after_begin : (ts us : List Token) → print_from (after false (ts ++ begin_object ∷ [])) us ≡ print us
 after_begin ts us = rw (ends_push false ts begin_object) refl

@@ -1,11 +1,10 @@
 -- Items written one after the other, each with its points added to a pool.
 use Rattle.city_writer.proofs.Prelude.{◌≡◌, ℕ, ◌+◌, ◌<◌, ◌≤◌, List, ◌∷◌, ◌++◌, map, length, get_or, drop, sym, ap, ◌∙◌}
-use Rattle.city_writer.proofs.Prelude.{[], append-nil}
+use Rattle.city_writer.proofs.Prelude.{[]}
 use Rattle.city_writer.proofs.Prelude.{refl, subst, append_assoc, drop_all, Token, Data, items_of, Point, tokens_of}
 use Rattle.city_writer.proofs.Prelude.{closing_items, ReadsBack, ItemsReadBack, with_points}
 use Rattle.std.proofs.lemmas.List.{drop_more}
 use Rattle.json.specs.Token.{end_array}
-use Rattle.city_writer.specs.internal.tree.PartTokens.{tokens_of_items}
 use Rattle.city_writer.proofs.pool.Walks.{with_points-append}
 
 pub item_first : {X : Type 0} (xs : List X) (i : ℕ) (x : X) → i < length xs → x ≡ get_or xs i x
@@ -26,21 +25,6 @@ module _ {X : Type 0} (f : X → Data) where
   pub all_written : (xs : List X) (i : ℕ) (start out last : List Token) → length xs ≤ i
       → start ++ closing xs ≡ out ++ closing (drop i xs) → last ≡ out ++ end_array ∷ [] → last ≡ start ++ closing xs
   all_written xs i start out last le left end = rw (left, end, drop_all i xs le) refl
-
-  -- the items alone
-  abbrev pub alone : List X → List Token
-  alone xs = tokens_of_items (items_of (map f xs))
-
-  pub one_alone : (xs : List X) (i : ℕ) (x : X) (start out next : List Token) → i < length xs → x ≡ get_or xs i x
-      → start ++ alone xs ≡ out ++ alone (drop i xs) → next ≡ out ++ tokens_of (f x)
-      → start ++ alone xs ≡ next ++ alone (drop (i + 1) xs)
-  one_alone xs i x start out next lt at left more =
-      rw (left, item_first xs i x lt at, more) (simp append_assoc)
-
-  pub all_alone : (xs : List X) (i : ℕ) (start out : List Token) → length xs ≤ i
-      → start ++ alone xs ≡ out ++ alone (drop i xs) → out ≡ start ++ alone xs
-  all_alone xs i start out le left =
-      sym (left ∙ ap (λ ys. out ++ alone ys) (drop_all i xs le) ∙ append-nil out)
 
   abbrev pub ReadBack : List X → Type 0
   ReadBack xs = ItemsReadBack (items_of (map f xs))

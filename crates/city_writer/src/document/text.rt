@@ -7,7 +7,7 @@ ghost use Rattle.city_writer.specs.Pool.{pool_of};
 ghost use Rattle.city_writer.specs.document.Ranges.{IsInRange};
 ghost use Rattle.city_writer.specs.tree.Ranges.{is_i64_triple};
 ghost use Rattle.city_writer.specs.tree.Tokens.{tokens_of};
-ghost use Rattle.city_writer.specs.internal.document.Pieces.{behind_vertices, frame_own, frame_tokens};
+ghost use Rattle.city_writer.specs.internal.document.Pieces.{frame_own};
 ghost use Rattle.city_writer.specs.internal.tree.OwnMembers.{written};
 ghost use Rattle.city_writer.specs.internal.tree.ReadsBack.{ReadsBack, MembersReadBack};
 ghost use Rattle.city_writer.specs.shape.Vertices.{vertices_data};
@@ -43,30 +43,6 @@ fn write_transform(frame: &Frame, out: &mut Writer) -> Result<(), OutOfMemory>
     kept.write_last(out)
 }
 
-/// Writes the members of a city behind its objects, up to the name of its vertices.
-pub fn write_frame(
-    frame: &Frame,
-    kept: &mut KeptMembers<'_>,
-    out: &mut Writer,
-) -> Result<(), OutOfMemory>
-    ensures before { OnOk result (out.new.before ≡ out.old.before) }
-    ensures tokens { OnOk result (out.new.tokens ≡ frame_tokens kept.old frame.now out.old.tokens) }
-    ensures left { OnOk result (kept.new ≡ behind_vertices kept.old) }
-    ensures passed { OnOk result (MembersReadBack kept.new → MembersReadBack kept.old) }
-    ensures reads { OnOk result (ReadsBack (transform_data frame.now)) }
-    ensures kept { OnOk result (kept_at_transform frame.now.more ≡ true) }
-    ensures in_range { OnOk result ((is_i64_triple frame.now.scale ≡ true)
-        × (is_i64_triple frame.now.translate ≡ true)) }
-{
-    kept.write_name("transform", out)?;
-    write_transform(frame, out)?;
-    kept.write_name("type", out)?;
-    out.string("CityJSON")?;
-    kept.write_name("version", out)?;
-    out.string("2.0")?;
-    kept.write_name("vertices", out)
-}
-
 /// Writes the members of a city behind its objects, and the closing brace.
 pub fn write_rest(
     frame: &Frame,
@@ -82,7 +58,13 @@ pub fn write_rest(
     ensures kept { OnOk result (kept_at_transform frame.now.more ≡ true) }
     ensures in_range { OnOk result (IsInRange points.now frame.now) }
 {
-    write_frame(frame, kept, out)?;
+    kept.write_name("transform", out)?;
+    write_transform(frame, out)?;
+    kept.write_name("type", out)?;
+    out.string("CityJSON")?;
+    kept.write_name("version", out)?;
+    out.string("2.0")?;
+    kept.write_name("vertices", out)?;
     write_vertices(points, out)?;
     kept.write_last(out)
 }

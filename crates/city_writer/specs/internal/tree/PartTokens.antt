@@ -2,7 +2,7 @@
 use Rattle.std.specs.Prelude.{List, [], ◌∷◌, ◌++◌, ℕ, Option, Some, None}
 use Rattle.json.specs.Token.{Token, key}
 use Rattle.json.specs.Tree.{items_tokens, members_tokens}
-use Rattle.serde_json.specs.Data.{Data, Items, no_items, item, Members, no_members, member}
+use Rattle.serde_json.specs.Data.{Data, Items, Members, no_members, member}
 use Rattle.serde_json.specs.Written.{items_outline, members_outline}
 use Rattle.city_writer.specs.tree.Lists.{list_data}
 use Rattle.city_writer.specs.tree.Tokens.{tokens_of}
@@ -14,11 +14,6 @@ closing_items ds = items_tokens (items_outline ds)
 -- the members, and the closing brace
 abbrev pub closing_members : Members → List Token
 closing_members ms = members_tokens (members_outline ms)
-
--- the items alone
-abbrev pub tokens_of_items : Items → List Token
-tokens_of_items no_items = []
-tokens_of_items (item d ds) = tokens_of d ++ tokens_of_items ds
 
 -- the members alone
 abbrev pub tokens_of_members : Members → List Token
