@@ -366,9 +366,8 @@ fn is_mark(byte: u8) -> bool
     byte == b'-' || byte == b'+' || byte == b'.' || byte == b'e' || byte == b'E'
 }
 
-/// The index of the closing quote of a string; the text begins with the inside. `None` if the
-/// inside isn't escaped as a writer does it, or has escapes other than of a quote, a backslash and
-/// a newline.
+/// The index of the closing quote of a string; the text begins with the inside. `None` if the inside has anything but
+/// a writer's escapes of a quote, a backslash and a newline.
 #[inline(always)]
 fn string_end(text: &[u8]) -> Option<usize>
     ensures within { IfSome result (λ end. end + 1 ≤ length text.now) }

@@ -36,6 +36,8 @@ mod replay;
 #[cfg(test)]
 mod runs;
 #[cfg(test)]
+mod script_texts;
+#[cfg(test)]
 mod seeds;
 #[cfg(test)]
 mod served;

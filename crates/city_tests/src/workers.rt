@@ -1,7 +1,7 @@
 //! As many workers as are asked for run scripts at once: they meet at a gate, and one more doesn't come.
 use crate::meeting::{Meeting, PATIENT, SHORT};
+use crate::script_texts::one_and_others;
 use crate::served::{EMPTY, TWO, commits, scripts_of_roads, served};
-use crate::sleepers::one_and_others;
 use city_crew::{Gate, run_crew};
 use city_desk::Output;
 use std::alloc::Global;
