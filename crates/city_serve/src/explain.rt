@@ -1,7 +1,7 @@
 //! Explains a fault behind its line: the file, the place in it, the mistake, and the repair.
 use crate::device::Device;
 use crate::fault::ServeFault;
-use crate::files::TextFiles;
+use crate::text_files::TextFiles;
 use crate::texts::{Text, Texts};
 use city_desk::RunFault;
 use city_diagnostics::{explain_document, explain_scripts};

@@ -4,7 +4,7 @@
 //! - `serve`: from a reader to a writer; `serve_texts`: from two texts, borrowed or owned
 //! - `run`, `decimals`: the run itself, by options
 //! - `deliver`: the output to its destination, over `output_files`, replaced whole
-//! - `device`: a reader or a writer, with a record of its failure; `files`: a text from a file;
+//! - `device`: a reader or a writer, with a record of its failure; `text_files`: a text from a file;
 //!   `runtime_files`: the files of a runtime, `no_files`: none
 //! - `texts`: the two texts at work, let go once they are read
 //! - `check`: all faults of two texts, told; `explain`: the lines behind a fault's line
@@ -22,7 +22,6 @@ mod device;
 mod explain;
 mod fault;
 pub mod fault_line;
-mod files;
 mod no_files;
 mod output_files;
 mod program;
@@ -32,15 +31,16 @@ mod seed;
 pub mod seen_line;
 pub mod serve;
 pub mod serve_texts;
+mod text_files;
 mod texts;
 
 pub use city_options::{Destination, Options, command_line};
 pub use deliver::Delivered;
 pub use device::Device;
 pub use fault::ServeFault;
-pub use files::{TextFiles, read_file, read_text};
 pub use output_files::OutputFiles;
 pub use program::{Status, refuse_line, run_program};
 pub use runtime_files::{NewFile, RuntimeFiles};
 pub use seed::drawn_seed;
+pub use text_files::{TextFiles, read_file, read_text};
 pub use texts::{Stage, Text, Texts};

@@ -2,8 +2,8 @@
 ghost use Rattle.std.specs.Prelude.{true, false};
 
 use crate::fault::ServeFault;
-use crate::files::TextFiles;
 use crate::output_files::OutputFiles;
+use crate::text_files::TextFiles;
 use std::io::{self, Sink};
 
 /// No files: each step is refused.

@@ -2,7 +2,7 @@
 ghost use Rattle.std.specs.Prelude.{◌≡◌, ◌≢◌, ℕ, Bool, true, List, [], Some, None, IfSome, IsSome, IsNone, if◌then◌else◌};
 ghost use Rattle.std.specs.Io.KnownBytes.{Keeps};
 
-use crate::files::TextFiles;
+use crate::text_files::TextFiles;
 use std::io::Write;
 
 /// Files, replaced whole: a text is written to a new file beside the old one, and the new file

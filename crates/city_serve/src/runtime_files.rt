@@ -2,8 +2,8 @@
 ghost use Rattle.std.specs.Prelude.{◌≡◌, ◌≢◌, true, false};
 
 use crate::fault::ServeFault;
-use crate::files::{TextFiles, read_noting};
 use crate::output_files::OutputFiles;
+use crate::text_files::{TextFiles, read_noting};
 use std::alloc::Global;
 use std::cell::Cell;
 use std::fs::{self, Files, OpenFile, OpenOptions, Permissions};

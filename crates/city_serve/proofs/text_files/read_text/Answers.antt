@@ -1,6 +1,6 @@
 use Rattle.city_serve.proofs.Prelude.{IfOk-weaker}
 use Rattle.city_serve.proofs.EnoughRead.{enough_read}
-use Rattle.city_serve.proofs.files.read_text.Goals as goal
+use Rattle.city_serve.proofs.text_files.read_text.Goals as goal
 
 pub returns-clause-enough : goal.returns-clause-enough
 returns-clause-enough g c =
