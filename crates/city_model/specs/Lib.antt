@@ -17,6 +17,7 @@ pub mod Relations
 pub mod Runs
 pub mod Scripts
 pub mod SerialEnds
+pub mod ShapeTypes
 pub mod Shells
 pub mod Standing
 pub mod TraceLaw

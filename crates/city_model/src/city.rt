@@ -75,13 +75,6 @@ impl City {
         self.objects.len()
     }
 
-    /// Whether there is no object. Doesn't allocate.
-    pub fn is_empty(&self) -> bool
-        ensures { result ≡ (len self.now.1 == 0) }
-    {
-        self.len() == 0
-    }
-
     /// The object of an id. Doesn't allocate.
     pub fn get(&self, id: &Id) -> Option<&Object>
         ensures { option_copied result ≡ object_at self.now.1 id.now }

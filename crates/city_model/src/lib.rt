@@ -2,7 +2,7 @@
 //!
 //! - `object`, `object_type`, `frame`, `city`: the parts of a city
 //! - `shared`, `shared_ids`: values shared by copies
-//! - `shape`: the boundaries of a shape of any type
+//! - `shape`, `shape_type`: the boundaries of a shape of any type, and the types
 //! - `text`, `sequence`, `copied`: texts as bytes for contracts, lists as items, copies
 //! - `kept`, `members`, `integral`: members kept unread, as JSON trees
 //! - `attributes`, `same_value`: attributes set, taken out and compared
@@ -37,6 +37,7 @@ pub mod same_value;
 pub mod script;
 pub mod sequence;
 pub mod shape;
+pub mod shape_type;
 pub mod shared;
 pub mod shared_ids;
 pub mod shells;

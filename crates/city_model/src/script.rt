@@ -76,14 +76,6 @@ impl Script {
     {
         self.commands.as_slice()
     }
-
-    /// The script's name and its commands. Doesn't allocate.
-    pub fn into_parts(self) -> (Text, Sequence<Command>)
-        ensures parts { result ≡ self }
-        ensures ends { ends_once self.1 ≡ true }
-    {
-        (self.name, self.commands)
-    }
 }
 
 /// Whether a command ends a script.
