@@ -8,7 +8,7 @@ ghost use Rattle.city_tokens.specs.internal.Geometries.{AreBoundaries, IsShape, 
 use crate::boundaries::{Boundaries, read_boundaries};
 use crate::list::FromTokens;
 use crate::member_visitor::{MemberVisitor, read_object};
-use crate::text::{read_str, text_of};
+use crate::text::{is_name, read_str, text_of};
 use city_model::kept::extra::Extra;
 use city_model::object::{Geometry, Shape};
 use city_model::shape_type::ShapeType;
@@ -58,20 +58,17 @@ impl MemberVisitor for GeometryParts {
         reader: &mut Reader<'_>,
         depth: usize,
     ) -> Option<bool> {
-        match name {
-            "type" => {
-                let name = read_str(reader)?;
-                self.kind = Some(ShapeType::of_name(name)?);
-            }
-            "lod" => {
-                let lod = Text::from_tokens(alloc, reader, depth)?;
-                self.lod = Some(lod);
-            }
-            "boundaries" => {
-                let boundaries = read_boundaries(alloc, reader, depth)?;
-                self.boundaries = Some(boundaries);
-            }
-            _ => return Some(false),
+        if is_name(name, "type") {
+            let name = read_str(reader)?;
+            self.kind = Some(ShapeType::of_name(name)?);
+        } else if is_name(name, "lod") {
+            let lod = Text::from_tokens(alloc, reader, depth)?;
+            self.lod = Some(lod);
+        } else if is_name(name, "boundaries") {
+            let boundaries = read_boundaries(alloc, reader, depth)?;
+            self.boundaries = Some(boundaries);
+        } else {
+            return Some(false);
         }
         Some(true)
     }
@@ -90,7 +87,7 @@ fn geometry_of(parts: GeometryParts, kept: Map<String, Value>) -> Option<Geometr
 }
 
 impl FromTokens for Geometry {
-    const ROOM: usize = 1;
+    const ROOM: usize = 2;
 
     ghost stands = { IsGeometry };
 
