@@ -1,13 +1,16 @@
 -- A mask computed lane by lane agrees with a predicate at each of the 256 bytes.
-use Rattle.std.proofs.Common.{◌≡◌, ℕ, zero, suc, ◌+◌, ◌-◌, ◌%◌, ◌^◌, ◌<◌, ◌≤◌, ltb, Bool, true, false, not, ◌&&◌}
-use Rattle.std.proofs.Common.{cond, eqb, T, List, [], ◌∷◌, map, length, drop, get_or, ◌⊎◌, inl, inr, refl, sym, ap}
-use Rattle.std.proofs.Common.{ap₂, ◌∙◌, subst, arith, w8, Fits, get_or-take, get_or-drop}
-use Rattle.std.proofs.lemmas.Bool.{cases_order}
+use Rattle.std.proofs.Common.{◌≡◌, ℕ, zero, suc, ◌+◌, ◌-◌, ◌*◌, ◌%◌, ◌^◌, ◌<◌, ◌≤◌, ltb, leb, eqb, Bool, true, false}
+use Rattle.std.proofs.Common.{not, ◌&&◌, cond, T, List, [], ◌∷◌, map, length, drop, get_or, ◌⊎◌, inl, inr, refl, sym}
+use Rattle.std.proofs.Common.{ap, ap₂, ◌∙◌, subst, arith, w8, Fits, get_or-drop}
+use Rattle.std.proofs.lemmas.Bool.{cases_order, eq-eqb, ne_eqb}
 use Rattle.std.proofs.lemmas.List.{length-drop, length-map}
+use Rattle.std.proofs.lemmas.List.Folds.{prefix_len-append}
 use Rattle.std.proofs.lemmas.List.Sums.{prefix_len-le-length, prefix_len_passes}
-use Rattle.std.proofs.lemmas.Simd.{length-chunk, mask_l-mod}
+use Rattle.std.proofs.lemmas.Simd.{mask_l-mod, chunk-drop, length-chunk, leading_from_mask_l, trailing_mask_l, map-map}
 use Rattle.std.specs.List.{prefix_len}
+use Rattle.std.specs.Prelude.{replicate}
 use lib.Bits.{bit_or}
+use lib.Count.{count_trailing_zeros}
 use lib.Lanes.{chunk, zip2, mask_l, top, Each1}
 use Rattle.json.specs.Scan.{xor}
 use Rattle.json.specs.Run.{is_plain}
@@ -45,6 +48,9 @@ hit a b = cond (eqb a b) 255 0
 abbrev pub below : ℕ → ℕ → ℕ
 below a b = cond (ltb a b) 255 0
 
+abbrev pub at_most : ℕ → ℕ → ℕ
+at_most a b = cond (leb a b) 255 0
+
 zip2-map : (f g : ℕ → ℕ) (xs : List ℕ) → zip2 bit_or (map f xs) (map g xs) ≡ map (λ x. bit_or (f x) (g x)) xs
 zip2-map f g [] = refl
 zip2-map f g (x ∷ xs) = ap (λ r. bit_or (f x) (g x) ∷ r) (zip2-map f g xs)
@@ -52,6 +58,17 @@ zip2-map f g (x ∷ xs) = ap (λ r. bit_or (f x) (g x) ∷ r) (zip2-map f g xs)
 pub either : (f g : ℕ → ℕ) (v : List ℕ) {a b : List ℕ} → a ≡ map f v → b ≡ map g v
     → zip2 bit_or a b ≡ map (λ x. bit_or (f x) (g x)) v
 either f g v p q = ap₂ (zip2 bit_or) p q ∙ zip2-map f g v
+
+splat_left : (h : ℕ → ℕ → ℕ) (y : ℕ) (xs : List ℕ) → zip2 h (replicate (length xs) y) xs ≡ map (h y) xs
+splat_left h y [] = refl
+splat_left h y (x ∷ xs) = ap (λ r. h y x ∷ r) (splat_left h y xs)
+
+-- `simd_ge` is `simd_le` with its sides changed
+pub from_splat : (h : ℕ → ℕ → ℕ) (f : ℕ → ℕ) (y n : ℕ) (v : List ℕ) {a : List ℕ} → length v ≡ n → a ≡ map f v
+    → zip2 h (replicate n y) a ≡ map (λ x. h y (f x)) v
+from_splat h f y n v long p =
+    ap (zip2 h (replicate n y)) p ∙ ap (λ k. zip2 h (replicate k y) (map f v)) (sym (length-map v f ∙ long))
+    ∙ splat_left h y (map f v) ∙ map-map (h y) f v
 
 each_byte : (f : ℕ → ℕ) (p : ℕ → Bool) → T (upto (λ x. same (top 7 (f x)) (p x)) 256) → (v : List ℕ)
     → Each1 (Fits w8) v → map (top 7) (map f v) ≡ map p v
@@ -66,35 +83,64 @@ masked f p v z short fits e all =
     ap (λ l. mask_l l % 2 ^ 64) (ap (map (top 7)) e ∙ each_byte f p all v fits)
     ∙ mask_l-mod (map p v) 64 (omega (arith, length-map v p))
 
--- so many bytes more are plain
-more : (d : List ℕ) (from at n : ℕ) → PlainBetween d from at
-    → ((j : ℕ) → j < n → is_plain (get_or d (at + j) 0) ≡ true) → PlainBetween d from (at + n)
-more d from at n before then k p q = go (cases_order k at)
-  where
-    here : at ≤ k → is_plain (get_or d k 0) ≡ true
-    here le =
-        let back : at + (k - at) ≡ k = omega arith in
-        ap (λ j. is_plain (get_or d j 0)) (sym back) ∙ then (k - at) (omega arith)
+-- ---- a run of bytes that pass q, and the mask of those that don't
 
-    go : (k ≡ at) ⊎ ((k < at) ⊎ (at < k)) → is_plain (get_or d k 0) ≡ true
-    go (inl e) = here (omega arith)
-    go (inr (inl l)) = before k p l
-    go (inr (inr g)) = here (omega arith)
+pub run_bound : (q : ℕ → Bool) (d : List ℕ) (i : ℕ) → i ≤ length d → i + prefix_len q (drop i d) ≤ length d
+run_bound q d i h = omega (arith, prefix_len-le-length q (drop i d), length-drop i d)
 
-pub plain_run : (d : List ℕ) (from at : ℕ) → PlainBetween d from at
-    → PlainBetween d from (at + prefix_len is_plain (drop at d))
-plain_run d from at before =
-    more d from at _ before
-    (λ j l. ap is_plain (sym (get_or-drop at d j 0)) ∙ prefix_len_passes is_plain (drop at d) j 0 l)
+pub not-not : (b : Bool) → b ≡ not (not b)
+not-not true = refl
+not-not false = refl
 
-pub plain_lanes : (d : List ℕ) (from at w n : ℕ) → at + w ≤ length d → n ≡ prefix_len is_plain (chunk at w d)
-    → PlainBetween d from at → PlainBetween d from (at + n)
-plain_lanes d from at w n room is before =
-    let short = prefix_len-le-length is_plain (chunk at w d) in
-    let long = length-chunk at w d room in
-    more d from at n before
-    (λ j l. ap is_plain (sym (get_or-take w (drop at d) j 0 (omega (arith, short, long)) ∙ get_or-drop at d j 0))
-    ∙ prefix_len_passes is_plain (chunk at w d) j 0 (omega (arith, is)))
+module _ (p q : ℕ → Bool) (opposite : (x : ℕ) → q x ≡ not (p x)) where
+  same_run : (xs : List ℕ) → prefix_len q xs ≡ prefix_len (λ x. not (p x)) xs
+  same_run [] = refl
+  same_run (x ∷ xs) = ap₂ (λ b n. cond b (1 + n) 0) (opposite x) (same_run xs)
 
-pub run_bound : (d : List ℕ) (at : ℕ) → at ≤ length d → at + prefix_len is_plain (drop at d) ≤ length d
-run_bound d at h = omega (arith, prefix_len-le-length is_plain (drop at d), length-drop at d)
+  none_fails : (b : Bool) (n l m : ℕ) → n ≤ l → cond (not b) (1 + n) 0 ≡ 1 + l → (n ≡ l → m ≡ 0)
+      → cond b 1 0 + 2 * m ≡ 0
+  none_fails true n l m le e ih = let no : ⊥ = omega arith in absurd no
+  none_fails false n l m le e ih = let z = ih (omega arith) in omega arith
+
+  all_pass : (xs : List ℕ) → prefix_len (λ x. not (p x)) xs ≡ length xs → mask_l (map p xs) ≡ 0
+  all_pass [] e = refl
+  all_pass (x ∷ xs) e =
+      none_fails (p x) _ (length xs) _ (prefix_len-le-length (λ y. not (p y)) xs) (omega arith)
+      (all_pass xs)
+
+  split : (d : List ℕ) (i n : ℕ) → prefix_len q (drop i d) ≡ cond (eqb (prefix_len q (chunk i n d))
+      (length (chunk i n d))) (length (chunk i n d) + prefix_len q (drop (i + n) d)) (prefix_len q (chunk i n d))
+  split d i n = ap (prefix_len q) (chunk-drop i n d) ∙ prefix_len-append q (chunk i n d) (drop (i + n) d)
+
+  pub run_through : (d : List ℕ) (i n : ℕ) → i + n ≤ length d → mask_l (map p (chunk i n d)) ≡ 0
+      → prefix_len q (drop i d) ≡ n + prefix_len q (drop (i + n) d)
+  run_through d i n room none =
+      let c = chunk i n d in
+      split d i n
+      ∙ ap (λ b. cond b (length c + prefix_len q (drop (i + n) d)) (prefix_len q c))
+      (eq-eqb _ _ (same_run c ∙ leading_from_mask_l p c none))
+      ∙ ap (λ k. k + prefix_len q (drop (i + n) d)) (length-chunk i n d room)
+
+  pub run_stops : (d : List ℕ) (i n : ℕ) → i + n ≤ length d → n ≤ 64 → 0 < mask_l (map p (chunk i n d))
+      → prefix_len q (drop i d) ≡ count_trailing_zeros 64 (mask_l (map p (chunk i n d)))
+  run_stops d i n room short some =
+      let c = chunk i n d in
+      split d i n
+      ∙ ap (λ b. cond b (length c + prefix_len q (drop (i + n) d)) (prefix_len q c)) (ne_eqb _ _
+      (λ (e : prefix_len q c ≡ length c). omega (arith, all_pass c (sym (same_run c) ∙ e))))
+      ∙ same_run c ∙ sym (trailing_mask_l p 64 c (omega (arith, length-chunk i n d room)) some)
+
+  pub run_within : (d : List ℕ) (i n : ℕ) → i + n ≤ length d → n ≤ 64 → 0 < mask_l (map p (chunk i n d))
+      → count_trailing_zeros 64 (mask_l (map p (chunk i n d))) < n
+  run_within d i n room short some =
+      let c = chunk i n d in
+      let long = length-chunk i n d room in
+      let is = trailing_mask_l p 64 c (omega (arith, long)) some in
+      let few : prefix_len (λ x. not (p x)) c ≡ length c → ⊥ = λ e. omega (arith, all_pass c e, some) in
+      omega (arith, is, few, prefix_len-le-length (λ x. not (p x)) c, long)
+
+pub plain_run : (d : List ℕ) (from : ℕ) → PlainBetween d from (from + prefix_len is_plain (drop from d))
+plain_run d from k p q =
+    let back : from + (k - from) ≡ k = omega arith in
+    ap (λ j. is_plain (get_or d j 0)) (sym back) ∙ ap is_plain (sym (get_or-drop from d (k - from) 0))
+    ∙ prefix_len_passes is_plain (drop from d) (k - from) 0 (omega arith)

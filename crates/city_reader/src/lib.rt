@@ -19,4 +19,5 @@ mod whole;
 
 pub use position::Position;
 pub use reader::Reader;
+pub use runs::{few_digits_len, plain_end};
 pub use whole::whole_of;

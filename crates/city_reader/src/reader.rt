@@ -1,5 +1,5 @@
 //! Reads the tokens of a text.
-ghost use Rattle.std.specs.Prelude.{◌≡◌, [], ◌∷◌, option_map, Some, IfSome, IsTrue};
+ghost use Rattle.std.specs.Prelude.{◌≡◌, [], ◌∷◌, option_map, Some, IfSome, IsTrue, MatchOption};
 ghost use Rattle.std.specs.Bool.{MatchBool};
 ghost use Rattle.json.specs.Lex.{tokens};
 ghost use Rattle.json.specs.Json.{after_end_array, read_key};
@@ -127,6 +127,18 @@ impl<'t> Reader<'t> {
                 Token::Number(text) => whole_of(text),
                 _ => None,
             },
+        }
+    }
+
+    /// Takes the next token, if it is a whole number of at most 18 digits. Returns `None` and takes
+    /// nothing if it is anything else, if the text has escapes, or near the end of the text.
+    #[inline(always)]
+    pub fn take_whole(&mut self) -> Option<i64>
+        ensures { MatchOption result (self.new ≡ self.old) (IsWholeTaken self.old self.new) }
+    {
+        match &mut self.source {
+            Source::Plain(reader) => reader.take_whole(),
+            Source::Escaped(_) => None,
         }
     }
 

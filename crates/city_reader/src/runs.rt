@@ -1,13 +1,15 @@
 //! Passes over blanks, over digits, and over the plain text of a string.
-ghost use Rattle.std.specs.Prelude.{◌≡◌, ◌+◌, ◌≤◌, length, drop, get_or, map};
+ghost use Rattle.std.specs.Prelude.{◌≡◌, ◌+◌, ◌<◌, ◌≤◌, length, drop, get_or, map};
 ghost use Rattle.std.specs.List.{prefix_len};
 ghost use Rattle.std.specs.Char.{is_ascii_digit};
 ghost use Rattle.std.specs.Simd.Lanes.{mask_l};
 ghost use Rattle.json.specs.Word.{head, is_space};
-ghost use Rattle.json.specs.Run.{is_stop, is_plain};
-ghost use Rattle.json.specs.Written.{PlainBetween};
+ghost use Rattle.json.specs.Run.{is_stop, is_plain, is_no_digit};
 
 use std::simd::prelude::*;
+
+/// How many bytes are compared at a time.
+const LANES: usize = 16;
 
 /// The byte at a place, or a space past the end.
 #[inline(always)]
@@ -39,22 +41,45 @@ fn plain_end_slowly(text: &[u8], from: usize) -> usize
     at
 }
 
-/// The first quote, backslash or control byte from `from` on, or the length: all before it is plain.
+/// The place of the first quote, backslash or control byte from `from` on, or the length.
 #[inline(always)]
 pub fn plain_end(text: &[u8], from: usize) -> usize
     requires { from ≤ length text.now }
-    ensures plain { PlainBetween text.now from result }
-    ensures bounds { (from ≤ result) × (result ≤ length text.now) }
+    ensures value { result ≡ from + prefix_len is_plain (drop from text.now) }
+    ensures bound { result ≤ length text.now }
 {
     let mut at = from;
-    while text.len() - at >= 16 {
+    while text.len() - at >= LANES {
         let found = stops(u8x16::from_slice(&text[at..]));
         if found != 0 {
             return at + found.trailing_zeros() as usize;
         }
-        at += 16;
+        at += LANES;
     }
     plain_end_slowly(text, at)
+}
+
+#[inline(always)]
+fn no_digits(bytes: u8x16) -> u64
+    ensures { result ≡ mask_l (map is_no_digit bytes) }
+{
+    (bytes - u8x16::splat(b'0'))
+        .simd_ge(u8x16::splat(10))
+        .to_bitmask()
+}
+
+/// How many digits stand from `from` on; 0 if there are 16 or more.
+#[inline(always)]
+pub fn few_digits_len(text: &[u8], from: usize) -> usize
+    requires { from + 16 ≤ length text.now }
+    ensures within { result < 16 }
+    ensures value { 0 < result → result ≡ prefix_len is_ascii_digit (drop from text.now) }
+{
+    let found = no_digits(u8x16::from_slice(&text[from..]));
+    if found == 0 {
+        return 0;
+    }
+    found.trailing_zeros() as usize
 }
 
 /// The first byte from `from` on other than a digit, or the length.

@@ -12,10 +12,10 @@ use Rattle.city_tokens.proofs.tree.Puts.{get_member-put_apart, without-put_own}
 use Rattle.city_model.proofs.Puts.{all_above_lower, put_first, ordered_put}
 use Rattle.city_model.specs.Kept.{object_members, geometry_members}
 use Rattle.city_model.specs.declared.object_type.ObjectType.{ObjectType}
+use Rattle.city_model.specs.declared.shape_type.ShapeType.{ShapeType}
 use Rattle.city_tokens.specs.internal.Geometries.{IsKind, AreBoundaries, IsGeometrySoFar}
 use Rattle.city_tokens.specs.internal.Objects.{IsType, AreObjects}
 use Rattle.city_tokens.specs.declared.boundaries.Boundaries.{Boundaries}
-use Rattle.city_tokens.specs.declared.geometry.Kind.{Kind}
 use Rattle.city_tokens.specs.declared.geometry.GeometryParts.{GeometryParts}
 use Rattle.city_tokens.specs.declared.document.TopParts.{TopParts}
 use Rattle.city_tokens.specs.internal.Tops.{IsTopSoFar}
@@ -125,7 +125,7 @@ object_kept {name = name} type geometry parents children =
     (refl, λ d found kept h. search (kept_in, others, h))
 
 module _ {old : GeometryParts} {name : List ℕ} {depth : ℕ} {before after : List Token} where
-  pub geometry_kind : {k : Kind} → name ≡ codes "type" → IsReadAs IsKind k depth before after
+  pub geometry_kind : {k : ShapeType} → name ≡ codes "type" → IsReadAs IsKind k depth before after
       → IsTaken IsGeometrySoFar old (record old { kind = Some k }) name depth before after
   geometry_kind named read = (read.0, read.1, λ found kept h. rw named (search (put_in, h, read)))
 

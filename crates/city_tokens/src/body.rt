@@ -5,6 +5,7 @@ ghost use Rattle.city_tokens.specs.internal.Standing.{IsReadAs};
 
 use crate::member_visitor::{MemberVisitor, read_object};
 use crate::object::{ObjectParts, object_of};
+use crate::text::is_name;
 use city_model::object::Body;
 use city_model::sequence::Sequence;
 use city_model::shared_ids::SharedIds;
@@ -27,10 +28,10 @@ impl MemberVisitor for BodyParts {
         reader: &mut Reader<'_>,
         depth: usize,
     ) -> Option<bool> {
-        match name {
-            "parents" | "children" => None,
-            _ => self.object.visit_member(alloc, name, reader, depth),
+        if is_name(name, "parents") || is_name(name, "children") {
+            return None;
         }
+        self.object.visit_member(alloc, name, reader, depth)
     }
 }
 

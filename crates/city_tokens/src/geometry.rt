@@ -2,60 +2,39 @@
 ghost use Rattle.std.specs.Prelude.{◌≡◌, ℕ, Some, IfSome};
 ghost use Rattle.serde_json.specs.Data.{Data, Members, object};
 ghost use Rattle.serde_json.specs.View.{members_view};
-ghost use Rattle.city_tokens.specs.internal.Geometries.{kind_name, AreBoundaries, IsShape, IsGeometry, IsGeometrySoFar};
+ghost use Rattle.city_model.specs.ShapeTypes.{type_name};
+ghost use Rattle.city_tokens.specs.internal.Geometries.{AreBoundaries, IsShape, IsGeometry, IsGeometrySoFar};
 
 use crate::boundaries::{Boundaries, read_boundaries};
 use crate::list::FromTokens;
 use crate::member_visitor::{MemberVisitor, read_object};
-use crate::text::{read_str, text_of};
+use crate::text::{is_name, read_str, text_of};
 use city_model::kept::extra::Extra;
 use city_model::object::{Geometry, Shape};
+use city_model::shape_type::ShapeType;
 use city_model::text::Text;
 use city_reader::Reader;
 use serde_json::{Map, Value};
 use std::alloc::Global;
 
-/// The type of a geometry.
-#[derive(Clone, Copy)]
-pub enum Kind {
-    MultiSurface,
-    CompositeSurface,
-    Solid,
-    MultiSolid,
-    CompositeSolid,
-}
-
-fn kind_named(name: &str) -> Option<Kind>
-    ensures { IfSome result (λ kind. name.now ≡ kind_name kind) }
-{
-    match name {
-        "MultiSurface" => Some(Kind::MultiSurface),
-        "CompositeSurface" => Some(Kind::CompositeSurface),
-        "Solid" => Some(Kind::Solid),
-        "MultiSolid" => Some(Kind::MultiSolid),
-        "CompositeSolid" => Some(Kind::CompositeSolid),
-        _ => None,
-    }
-}
-
 /// The shape of this type and these boundaries, if they fit each other.
-fn shape_of(kind: Kind, boundaries: Boundaries) -> Option<Shape>
+fn shape_of(kind: ShapeType, boundaries: Boundaries) -> Option<Shape>
     ensures { IfSome result (λ shape. (d : Data) → AreBoundaries boundaries d
-        → IsShape shape (kind_name kind) d) }
+        → IsShape shape (type_name kind) d) }
 {
     match boundaries {
         Boundaries::Surfaces(surfaces) => match kind {
-            Kind::MultiSurface => Some(Shape::MultiSurface(surfaces)),
-            Kind::CompositeSurface => Some(Shape::CompositeSurface(surfaces)),
+            ShapeType::MultiSurface => Some(Shape::MultiSurface(surfaces)),
+            ShapeType::CompositeSurface => Some(Shape::CompositeSurface(surfaces)),
             _ => None,
         },
         Boundaries::Shells(shells) => match kind {
-            Kind::Solid => Some(Shape::Solid(shells)),
+            ShapeType::Solid => Some(Shape::Solid(shells)),
             _ => None,
         },
         Boundaries::Solids(solids) => match kind {
-            Kind::MultiSolid => Some(Shape::MultiSolid(solids)),
-            Kind::CompositeSolid => Some(Shape::CompositeSolid(solids)),
+            ShapeType::MultiSolid => Some(Shape::MultiSolid(solids)),
+            ShapeType::CompositeSolid => Some(Shape::CompositeSolid(solids)),
             _ => None,
         },
     }
@@ -64,7 +43,7 @@ fn shape_of(kind: Kind, boundaries: Boundaries) -> Option<Shape>
 /// The members of a geometry read so far.
 #[derive(Drop)]
 pub struct GeometryParts {
-    pub kind: Option<Kind>,
+    pub kind: Option<ShapeType>,
     pub lod: Option<Text>,
     pub boundaries: Option<Boundaries>,
 }
@@ -79,20 +58,17 @@ impl MemberVisitor for GeometryParts {
         reader: &mut Reader<'_>,
         depth: usize,
     ) -> Option<bool> {
-        match name {
-            "type" => {
-                let name = read_str(reader)?;
-                self.kind = Some(kind_named(name)?);
-            }
-            "lod" => {
-                let lod = Text::from_tokens(alloc, reader, depth)?;
-                self.lod = Some(lod);
-            }
-            "boundaries" => {
-                let boundaries = read_boundaries(alloc, reader, depth)?;
-                self.boundaries = Some(boundaries);
-            }
-            _ => return Some(false),
+        if is_name(name, "type") {
+            let name = read_str(reader)?;
+            self.kind = Some(ShapeType::of_name(name)?);
+        } else if is_name(name, "lod") {
+            let lod = Text::from_tokens(alloc, reader, depth)?;
+            self.lod = Some(lod);
+        } else if is_name(name, "boundaries") {
+            let boundaries = read_boundaries(alloc, reader, depth)?;
+            self.boundaries = Some(boundaries);
+        } else {
+            return Some(false);
         }
         Some(true)
     }
@@ -111,7 +87,7 @@ fn geometry_of(parts: GeometryParts, kept: Map<String, Value>) -> Option<Geometr
 }
 
 impl FromTokens for Geometry {
-    const ROOM: usize = 1;
+    const ROOM: usize = 2;
 
     ghost stands = { IsGeometry };
 

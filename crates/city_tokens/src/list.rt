@@ -10,6 +10,12 @@ use city_reader::Reader;
 use json::Token;
 use std::alloc::Global;
 
+/// The room of a list that mostly has one item, as a surface has one ring and a solid one shell.
+const ONE: usize = 1;
+
+/// The room of a list that mostly has several items, as a shell has surfaces.
+const SEVERAL: usize = 8;
+
 /// A value built from its tokens, without a tree.
 pub trait FromTokens: Sized + Drop {
     ghost stands: { Self → Data → Type 0 };
@@ -43,7 +49,7 @@ pub fn read_rest<T: FromTokens>(
 }
 
 impl<T: FromTokens> FromTokens for Sequence<T> {
-    const ROOM: usize = if T::ROOM == 4 { 1 } else { 8 };
+    const ROOM: usize = if T::ROOM == ONE { SEVERAL } else { ONE };
 
     ghost stands = { IsArrayOf T.stands };
 

@@ -7,7 +7,7 @@ ghost use Rattle.city_tokens.specs.internal.Standing.{IsArrayOf, IsReadAs, IsStr
 
 use crate::list::FromTokens;
 use crate::member_visitor::{MemberVisitor, read_object as read_members};
-use crate::text::read_str;
+use crate::text::{is_name, read_str};
 use city_model::kept::extra::Extra;
 use city_model::kept::shared_extra::SharedExtra;
 use city_model::object::{Body, Geometry};
@@ -40,24 +40,20 @@ impl MemberVisitor for ObjectParts {
         reader: &mut Reader<'_>,
         depth: usize,
     ) -> Option<bool> {
-        match name {
-            "type" => {
-                let name = read_str(reader)?;
-                self.kind = Some(type_named(name)?);
-            }
-            "geometry" => {
-                let geometry = Sequence::<Geometry>::from_tokens(alloc, reader, depth)?;
-                self.geometry = geometry;
-            }
-            "parents" => {
-                let parents = read_ids(alloc, reader, depth)?;
-                self.parents = parents;
-            }
-            "children" => {
-                let children = read_ids(alloc, reader, depth)?;
-                self.children = children;
-            }
-            _ => return Some(false),
+        if is_name(name, "type") {
+            let name = read_str(reader)?;
+            self.kind = Some(type_named(name)?);
+        } else if is_name(name, "geometry") {
+            let geometry = Sequence::<Geometry>::from_tokens(alloc, reader, depth)?;
+            self.geometry = geometry;
+        } else if is_name(name, "parents") {
+            let parents = read_ids(alloc, reader, depth)?;
+            self.parents = parents;
+        } else if is_name(name, "children") {
+            let children = read_ids(alloc, reader, depth)?;
+            self.children = children;
+        } else {
+            return Some(false);
         }
         Some(true)
     }

@@ -1,5 +1,6 @@
 //! Reads texts.
-ghost use Rattle.std.specs.Prelude.{◌≡◌, ℕ, IfSome};
+ghost use Rattle.std.specs.Prelude.{◌≡◌, ◌≢◌, ℕ, IfSome};
+ghost use Rattle.std.specs.Bool.{MatchBool};
 ghost use Rattle.serde_json.specs.Data.{string};
 ghost use Rattle.city_tokens.specs.internal.Standing.{IsString};
 ghost use Rattle.city_tokens.specs.internal.Taken.{IsValue};
@@ -18,6 +19,25 @@ pub fn read_str<'t>(reader: &mut Reader<'t>) -> Option<&'t str>
         Token::String(text) => Some(text),
         _ => None,
     }
+}
+
+/// Whether a name is this one, told by their lengths first. Inlined, so that a literal is compared
+/// byte by byte, without a call.
+#[inline(always)]
+pub fn is_name(name: &str, other: &str) -> bool
+    ensures { MatchBool result (name.now ≡ other.now) (name.now ≢ other.now) }
+{
+    let bytes = name.as_bytes();
+    let others = other.as_bytes();
+    if bytes.len() != others.len() {
+        return false;
+    }
+    for at in 0..others.len() {
+        if bytes[at] != others[at] {
+            return false;
+        }
+    }
+    true
 }
 
 /// A copy of a text.

@@ -9,11 +9,17 @@ use json::Token;
 use serde_json::{Map, Value};
 use std::alloc::Global;
 
+/// For how many items a kept array has room at first.
+const FEW: usize = 2;
+
 /// The next value, if its arrays and objects nest no deeper than `depth`.
 #[cycle(value)]
 pub fn read_value(alloc: Global, reader: &mut Reader<'_>, depth: usize) -> Option<Value>
     ensures { IfSome result (λ v. IsValue depth reader.old (view v) reader.new) }
 {
+    if let Some(n) = reader.take_whole() {
+        return Some(Value::from(n));
+    }
     match reader.next()? {
         Token::Null => Some(Value::Null),
         Token::Bool(b) => Some(Value::Bool(b)),
@@ -48,7 +54,7 @@ pub fn read_value(alloc: Global, reader: &mut Reader<'_>, depth: usize) -> Optio
 fn read_items(alloc: Global, reader: &mut Reader<'_>, depth: usize) -> Option<Vec<Value>>
     ensures { IfSome result (λ v. IsRestOfArray depth reader.old (items_view v.items) reader.new) }
 {
-    let mut found = Vec::new(alloc);
+    let mut found = Vec::with_capacity(alloc, FEW).ok()?;
     'items: while !reader.take_end_array() {
         let item = read_value(alloc, reader, depth)?;
         found.push(item).ok()?;

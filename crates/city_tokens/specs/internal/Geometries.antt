@@ -5,12 +5,12 @@ use Rattle.serde_json.specs.Find.{get_member, as_str}
 use Rattle.city_model.specs.declared.object.Geometry.{Geometry}
 use Rattle.city_model.specs.declared.object.Shape.{Shape}
 use Rattle.city_model.specs.declared.object.Shape.TheVariants as shape
+use Rattle.city_model.specs.declared.shape_type.ShapeType.{ShapeType}
 use Rattle.city_model.specs.Kept.{kept_at_geometry}
 use Rattle.city_model.specs.Members.{AreOrdered}
+use Rattle.city_model.specs.ShapeTypes.{type_name}
 use Rattle.city_tokens.specs.declared.boundaries.Boundaries.{Boundaries}
 use Rattle.city_tokens.specs.declared.boundaries.Boundaries.TheVariants.{Surfaces, Shells, Solids}
-use Rattle.city_tokens.specs.declared.geometry.Kind.{Kind}
-use Rattle.city_tokens.specs.declared.geometry.Kind.TheVariants as kind
 use Rattle.city_tokens.specs.declared.geometry.GeometryParts.{GeometryParts}
 use Rattle.city_tokens.specs.shape.Geometries.{without_geometry_members}
 use Rattle.city_tokens.specs.internal.Positions.{IsNested}
@@ -22,23 +22,16 @@ AreBoundaries (Surfaces surfaces) d = IsNested 3 surfaces d
 AreBoundaries (Shells shells) d = IsNested 4 shells d
 AreBoundaries (Solids solids) d = IsNested 5 solids d
 
-abbrev pub kind_name : Kind → List ℕ
-kind_name kind.MultiSurface = codes "MultiSurface"
-kind_name kind.CompositeSurface = codes "CompositeSurface"
-kind_name kind.Solid = codes "Solid"
-kind_name kind.MultiSolid = codes "MultiSolid"
-kind_name kind.CompositeSolid = codes "CompositeSolid"
-
-abbrev pub IsKind : Kind → Data → Type 0
-IsKind k d = as_str d ≡ Some (kind_name k)
+abbrev pub IsKind : ShapeType → Data → Type 0
+IsKind k d = as_str d ≡ Some (type_name k)
 
 -- the shape of a type and of boundaries
 abbrev pub IsShape : Shape → List ℕ → Data → Type 0
-IsShape (shape.MultiSurface surfaces) name d = (name ≡ codes "MultiSurface") × IsNested 3 surfaces d
-IsShape (shape.CompositeSurface surfaces) name d = (name ≡ codes "CompositeSurface") × IsNested 3 surfaces d
-IsShape (shape.Solid shells) name d = (name ≡ codes "Solid") × IsNested 4 shells d
-IsShape (shape.MultiSolid solids) name d = (name ≡ codes "MultiSolid") × IsNested 5 solids d
-IsShape (shape.CompositeSolid solids) name d = (name ≡ codes "CompositeSolid") × IsNested 5 solids d
+IsShape (shape.MultiSurface surfaces) name d = (name ≡ type_name ShapeType.MultiSurface) × IsNested 3 surfaces d
+IsShape (shape.CompositeSurface surfaces) name d = (name ≡ type_name ShapeType.CompositeSurface) × IsNested 3 surfaces d
+IsShape (shape.Solid shells) name d = (name ≡ type_name ShapeType.Solid) × IsNested 4 shells d
+IsShape (shape.MultiSolid solids) name d = (name ≡ type_name ShapeType.MultiSolid) × IsNested 5 solids d
+IsShape (shape.CompositeSolid solids) name d = (name ≡ type_name ShapeType.CompositeSolid) × IsNested 5 solids d
 
 pub record IsGeometry (g : Geometry) (d : Data) : Type 0 where
   pub found : Members

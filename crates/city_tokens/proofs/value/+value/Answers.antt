@@ -4,7 +4,8 @@ use Rattle.std.proofs.Common.{string_bytes}
 use Rattle.std.proofs.lemmas.List.{map-append}
 use Rattle.serde_json.specs.declared.value.Value.{the_lemmas}
 use Rattle.serde_json.proofs.Views.{view-Array, view-Object, members_view-insert_entry}
-use Rattle.city_tokens.proofs.Reading.{value_shorter, member_shorter, seen_token, null_value, boolean_value}
+use Rattle.city_reader.specs.Taken.{IsWholeTaken}
+use Rattle.city_tokens.proofs.Reading.{value_shorter, member_shorter, seen_token, seen_value, null_value, boolean_value}
 use Rattle.city_tokens.proofs.Reading.{string_value, whole_value, array_value, object_value, items_begin, items_next}
 use Rattle.city_tokens.proofs.Reading.{items_end, members_next, members_end}
 use Rattle.city_tokens.proofs.value.+value.Goals as goal
@@ -46,35 +47,49 @@ read_member-returns t c =
 pub read_members-returns : goal.read_members-returns
 read_members-returns t c = members_end c.members.invariant (grind arith)
 
+pub read_value-returns-in-Some : goal.read_value-returns-in-Some
+read_value-returns-in-Some t c =
+    let n = c.in-Some.n in
+    let taken : IsWholeTaken c.args.reader.now c.take_whole.new.self n = grind arith in
+    seen_value taken.1 (search rules) (whole_value c.args.depth taken.0 n c.take_whole.new.self taken.2.0 taken.2.1)
+
 pub read_value-returns-in-Null : goal.read_value-returns-in-Null
 read_value-returns-in-Null t c =
-    seen_token c.in_ok-next.ensures (ap token_of c.in-Null.is) (search (rules, the_lemmas)) (null_value _ _)
+    let same : c.args.reader.now ≡ c.take_whole.new.self = grind arith in
+    seen_token (same ∙ c.in_ok-next.ensures) (ap token_of c.in-Null.is) (search (rules, the_lemmas)) (null_value _ _)
 
 pub read_value-returns-in-Bool : goal.read_value-returns-in-Bool
 read_value-returns-in-Bool t c =
-    seen_token c.in_ok-next.ensures (ap token_of c.in-Bool.is) (search (rules, the_lemmas)) (boolean_value _ _ _)
+    let same : c.args.reader.now ≡ c.take_whole.new.self = grind arith in
+    seen_token (same ∙ c.in_ok-next.ensures) (ap token_of c.in-Bool.is) (search (rules, the_lemmas)) (boolean_value _ _ _)
 
 pub read_value-returns-in_ok-n-in-Number : goal.read_value-returns-in_ok-n-in-Number
 read_value-returns-in_ok-n-in-Number t c =
+    let same : c.args.reader.now ≡ c.take_whole.new.self = grind arith in
     let n = c.in_ok-n-in-Number in
-    seen_token c.in_ok-next.ensures (ap token_of c.in-Number.is) (search rules)
+    seen_token (same ∙ c.in_ok-next.ensures) (ap token_of c.in-Number.is) (search rules)
     (whole_value _ c.in-Number.text.now n.n _ n.ensures.value n.ensures.in_range)
 
 pub read_value-returns-in_ok-copy-in-String : goal.read_value-returns-in_ok-copy-in-String
 read_value-returns-in_ok-copy-in-String t c =
-    seen_token c.in_ok-next.ensures (ap token_of c.in-String.is) (search (rules, the_lemmas)) (string_value _ _ _)
+    let same : c.args.reader.now ≡ c.take_whole.new.self = grind arith in
+    seen_token (same ∙ c.in_ok-next.ensures) (ap token_of c.in-String.is) (search (rules, the_lemmas)) (string_value _ _ _)
 
 pub read_value-returns-in_ok-items-in-BeginArray : goal.read_value-returns-in_ok-items-in-BeginArray
 read_value-returns-in_ok-items-in-BeginArray t c =
+    let same : c.args.reader.now ≡ c.take_whole.new.self = grind arith in
     let found = c.in_ok-items-in-BeginArray in
-    seen_token c.in_ok-next.ensures (ap token_of c.in-BeginArray.is) (view-Array found.items)
+    seen_token (same ∙ c.in_ok-next.ensures) (ap token_of c.in-BeginArray.is) (view-Array found.items)
     (array_value _ _ _ _ (omega arith) found.ensures)
 
 pub read_value-returns-in_ok-members-in-BeginObject : goal.read_value-returns-in_ok-members-in-BeginObject
 read_value-returns-in_ok-members-in-BeginObject t c =
+    let same : c.args.reader.now ≡ c.take_whole.new.self = grind arith in
     let found = c.in_ok-members-in-BeginObject in
-    seen_token c.in_ok-next.ensures (ap token_of c.in-BeginObject.is) (view-Object found.members)
+    seen_token (same ∙ c.in_ok-next.ensures) (ap token_of c.in-BeginObject.is) (view-Object found.members)
     (object_value _ _ _ _ (omega arith) found.ensures)
 
 pub read_items-items-init : goal.read_items-items-init
-read_items-items-init t c = rw c.new-found.ensures.items (items_begin c.args.depth c.args.reader.now)
+read_items-items-init t c =
+    let empty : c.in_ok-found.found.items ≡ [] = grind arith in
+    rw empty (items_begin c.args.depth c.args.reader.now)
