@@ -11,10 +11,10 @@ ghost use Rattle.city_decimals.specs.internal.Compact.{comma_if, IsKeyPassed};
 ghost use Rattle.city_decimals.specs.internal.Passed.{AreSame, front_text, later_after};
 ghost use Rattle.city_decimals.specs.internal.PlainNumbers.{IsPlain};
 
-use crate::arrays::{comma_len, has_comma, whole_items_len};
+use crate::arrays::{comma_len, whole_items_len};
 use crate::numbers::{is_number, plain_len};
-use crate::runs::plain_end;
 use crate::text::{is_text, text_of};
+use city_reader::plain_end;
 use std::marker::Model;
 
 /// A text read in part, and the output for that part. Contracts see the old bytes of the buffer,
@@ -245,24 +245,18 @@ impl<'a> Copier<'a> {
         &rest[..number_end(rest)]
     }
 
-    /// Copies a comma if `later`, then a plain number, if they are next; returns whether they were.
+    /// Copies a plain number if it is next; returns whether it was.
     #[inline(always)]
-    pub(crate) fn take_plain(&mut self, later: bool) -> bool
+    pub(crate) fn take_plain(&mut self) -> bool
         ensures before { self.new.0 ≡ self.old.0 }
-        ensures taken { result ≡ true → (s : List ℕ) × IsPlain s
-            × Moves self.old self.new (comma_if later ++ s) (comma_if later ++ s) }
+        ensures taken { result ≡ true → (s : List ℕ) × IsPlain s × Moves self.old self.new s s }
         ensures kept { result ≡ false → self.new ≡ self.old }
     {
-        let rest = self.rest();
-        if !has_comma(rest, later) {
-            return false;
-        }
-        let start = comma_len(later);
-        let len = plain_len(&rest[start..]);
+        let len = plain_len(self.rest());
         if len == 0 {
             return false;
         }
-        self.advance(start + len);
+        self.advance(len);
         true
     }
 
@@ -291,7 +285,7 @@ impl<'a> Copier<'a> {
         ensures moves { IfSome result (λ _. (s : List ℕ) × IsNumber s × (escape s ≡ s)
             × Moves self.old self.new s s) }
     {
-        if self.take_plain(false) {
+        if self.take_plain() {
             return Some(());
         }
         self.pass_other_number()

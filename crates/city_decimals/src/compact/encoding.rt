@@ -15,7 +15,7 @@ pub(super) fn encode_number(copier: &mut Copier<'_>) -> Option<()>
     ensures before { copier.new.0 ≡ copier.old.0 }
     ensures number { IfSome result (λ _. IsNumberCopied copier.old copier.new) }
 {
-    if copier.take_plain(false) {
+    if copier.take_plain() {
         return Some(());
     }
     encode_other_number(copier)
