@@ -13,6 +13,8 @@ use Rattle.json.proofs.Printed.Tokens.{tokens-print}
 use Rattle.json.proofs.Printed.Trees.{value-json_tokens, ArePrintable-json_tokens}
 use Rattle.json.specs.Tree.{json_tokens}
 use Rattle.city_decimals.specs.internal.Compact.{value_text, comma_if, IsTopCopied}
+use Rattle.city_decimals.specs.internal.Newlines.{IsBody}
+use Rattle.city_decimals.proofs.LastNewline.{same_tokens}
 
 regroup_item : (q a b c : List ℕ) → q ++ (a ++ (b ++ c)) ≡ (q ++ (a ++ b)) ++ c
 regroup_item q a b c = simp append_assoc
@@ -76,17 +78,20 @@ read_again limit j numbers shallow = ap (option_and_then (λ p. if_last p.0 p.1)
     ∙ sym (append-nil (json_tokens j)))
     ∙ value-json_tokens j limit [] shallow)
 
--- the value of a compact text
-top_is : (h : Members → Members) (limit : ℕ) (text out : List ℕ) (t : IsTopCopied h limit text out)
-    → document_to limit text ≡ Some (object t.ms)
-top_is h limit text out t =
-    grind (arith, text_printed (object t.ms), read_again limit (object t.ms) t.numbers t.shallow)
+-- the value of a compact text, with or without a newline behind it
+top_is : (h : Members → Members) (limit : ℕ) (text body out : List ℕ) (t : IsTopCopied h limit body out)
+    → IsBody text body → document_to limit text ≡ Some (object t.ms)
+top_is h limit text body out t of =
+    let j = object t.ms in
+    let printed : print (json_tokens j) ≡ body = text_printed j ∙ sym t.text_is in
+    ap (λ ts. option_and_then (λ p. if_last p.0 p.1) (value limit ts)) (same_tokens text body j of t.numbers printed)
+    ∙ ap (document_to limit) (sym printed) ∙ read_again limit j t.numbers t.shallow
 
 made_is : (way : Direction) (ms : Members) → IsUntagged ms
     → value_text (object (members_changed way true ms)) ≡ print (json_tokens (top_changed way (object ms)))
 made_is way ms h = search (arith, text_printed)
 
-pub top_made : (way : Direction) (limit : ℕ) (text out : List ℕ) → IsTopCopied (members_changed way true) limit text out
-    → IsUtf8 text → IsChanged limit way text out
-top_made way limit text out t utf8 =
-    grind (arith, top_is (members_changed way true) limit text out t, made_is way t.ms t.untagged)
+pub top_made : (way : Direction) (limit : ℕ) (text body out : List ℕ) → IsBody text body
+    → IsTopCopied (members_changed way true) limit body out → IsUtf8 text → IsChanged limit way text out
+top_made way limit text body out of t utf8 =
+    grind (arith, top_is (members_changed way true) limit text body out t of, made_is way t.ms t.untagged)

@@ -12,7 +12,7 @@ pub mod Forms
 pub mod Insides
 pub mod JsonLines
 pub mod Kept
-pub mod Lanes
+pub mod LastNewline
 pub mod Objects
 pub mod OneLine
 pub mod PassedItems

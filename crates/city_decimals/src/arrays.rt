@@ -5,7 +5,7 @@ ghost use Rattle.city_decimals.specs.internal.Compact.{comma_if};
 ghost use Rattle.city_decimals.specs.internal.Passed.{ArePassed, IsPassed};
 ghost use Rattle.city_decimals.specs.internal.PlainNumbers.{IsKept};
 
-use crate::runs::few_digits;
+use city_reader::few_digits_len;
 
 /// How deep arrays are looked into at most. So few, because what leads to another value is read
 /// again.
@@ -91,7 +91,7 @@ fn short_len(text: &[u8], at: usize) -> usize
     ensures within { result < 17 }
     ensures kept { 0 < result → IsKept (take result (drop at text.now)) }
 {
-    let count = few_digits(text, at);
+    let count = few_digits_len(text, at);
     if count == 0 {
         return negative_len(text, at);
     }
@@ -111,7 +111,7 @@ fn negative_len(text: &[u8], at: usize) -> usize
     if text[at] != b'-' || text[at + 1] == b'0' {
         return 0;
     }
-    let count = few_digits(text, at + 1);
+    let count = few_digits_len(text, at + 1);
     if count == 0 {
         return 0;
     }

@@ -33,15 +33,15 @@ const FRAME_END: &[u8] = b",\"scale\":[1,1,1],\"translate\":[0,0,0]}";
 /// Otherwise returns `Err` with the buffer unchanged. Arrays and objects may nest `depth` deep.
 pub(crate) fn copy_compact(
     way: Direction,
-    bytes: &[u8],
+    text: &str,
     depth: usize,
     out: Vec<u8>,
 ) -> Result<Vec<u8>, Vec<u8>>
-    ensures ok { IfOk result (λ v. (text : List ℕ)
-        × IsTopCopied (members_changed way true) depth bytes.now text × IsUtf8 text × (v.items ≡ out.items ++ text)) }
+    ensures ok { IfOk result (λ v. (made : List ℕ)
+        × IsTopCopied (members_changed way true) depth text.now made × IsUtf8 made × (v.items ≡ out.items ++ made)) }
     ensures err { IfErr result (λ v. v.items ≡ out.items) }
 {
-    let mut copier = Copier::new(bytes, out);
+    let mut copier = Copier::new(text, out);
     if copy_top(&mut copier, depth, way).is_none() {
         return Err(copier.give_up());
     }

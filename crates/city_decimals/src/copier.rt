@@ -11,17 +11,17 @@ ghost use Rattle.city_decimals.specs.internal.Compact.{comma_if, IsKeyPassed};
 ghost use Rattle.city_decimals.specs.internal.Passed.{AreSame, front_text, later_after};
 ghost use Rattle.city_decimals.specs.internal.PlainNumbers.{IsPlain};
 
-use crate::arrays::{comma_len, has_comma, whole_items_len};
+use crate::arrays::{comma_len, whole_items_len};
 use crate::numbers::{is_number, plain_len};
-use crate::runs::plain_end;
-use crate::text::{is_text, text_of};
+use crate::text::is_text;
+use city_reader::plain_end;
 use std::marker::Model;
 
 /// A text read in part, and the output for that part. Contracts see the old bytes of the buffer,
 /// the output, and the text left to read.
 #[derive(Drop)]
 pub(crate) struct Copier<'a> {
-    text: &'a [u8],
+    text: &'a str,
     at: usize,
     /// The start of the piece read and not yet written.
     start: usize,
@@ -44,7 +44,7 @@ impl<'a> Model for Copier<'a> {
 
 impl<'a> Copier<'a> {
     /// A copier with nothing read. Output is appended to the buffer.
-    pub(crate) fn new(text: &'a [u8], out: Vec<u8>) -> Copier<'a>
+    pub(crate) fn new(text: &'a str, out: Vec<u8>) -> Copier<'a>
         ensures { result ≡ (out.items, [], text.now) }
     {
         let base = out.len();
@@ -73,7 +73,7 @@ impl<'a> Copier<'a> {
         } = self;
         let mut out = out;
         if at < text.len()
-            || out.extend_from_slice(&text[start..at]).is_err()
+            || out.extend_from_slice(&text.as_bytes()[start..at]).is_err()
             || !is_text(&out[base..])
         {
             out.truncate(base);
@@ -97,14 +97,15 @@ impl<'a> Copier<'a> {
     pub(crate) fn rest(&self) -> &'a [u8]
         ensures { result.now ≡ self.now.2 }
     {
-        &self.text[self.at..]
+        &self.text.as_bytes()[self.at..]
     }
 
     /// The next byte, and 0 at the end.
     #[inline(always)]
     pub(crate) fn peek(&self) -> u8 {
-        if self.at < self.text.len() {
-            self.text[self.at]
+        let bytes = self.text.as_bytes();
+        if self.at < bytes.len() {
+            bytes[self.at]
         } else {
             0
         }
@@ -128,7 +129,7 @@ impl<'a> Copier<'a> {
     {
         if self
             .out
-            .extend_from_slice(&self.text[self.start..self.at])
+            .extend_from_slice(&self.text.as_bytes()[self.start..self.at])
             .is_err()
         {
             return None;
@@ -223,7 +224,7 @@ impl<'a> Copier<'a> {
     {
         if self
             .out
-            .extend_from_slice(&self.text[self.start..self.at])
+            .extend_from_slice(&self.text.as_bytes()[self.start..self.at])
             .is_err()
         {
             return None;
@@ -235,34 +236,28 @@ impl<'a> Copier<'a> {
         Some(())
     }
 
-    /// The bytes before the first that can't be in a number.
-    pub(crate) fn next_number(&self) -> &'a [u8]
-        ensures within { length result.now ≤ length self.now.2 }
-        ensures front { take (length result.now) self.now.2 ≡ result.now }
-        ensures plain { escape result.now ≡ result.now }
+    /// The text before the first byte that can't be in a number.
+    pub(crate) fn next_number(&self) -> Option<&'a str>
+        ensures within { IfSome result (λ s. length s.now ≤ length self.now.2) }
+        ensures front { IfSome result (λ s. take (length s.now) self.now.2 ≡ s.now) }
+        ensures plain { IfSome result (λ s. escape s.now ≡ s.now) }
     {
-        let rest = self.rest();
-        &rest[..number_end(rest)]
+        let end = self.at + number_end(self.rest());
+        self.text.get(self.at..end)
     }
 
-    /// Copies a comma if `later`, then a plain number, if they are next; returns whether they were.
+    /// Copies a plain number if it is next; returns whether it was.
     #[inline(always)]
-    pub(crate) fn take_plain(&mut self, later: bool) -> bool
+    pub(crate) fn take_plain(&mut self) -> bool
         ensures before { self.new.0 ≡ self.old.0 }
-        ensures taken { result ≡ true → (s : List ℕ) × IsPlain s
-            × Moves self.old self.new (comma_if later ++ s) (comma_if later ++ s) }
+        ensures taken { result ≡ true → (s : List ℕ) × IsPlain s × Moves self.old self.new s s }
         ensures kept { result ≡ false → self.new ≡ self.old }
     {
-        let rest = self.rest();
-        if !has_comma(rest, later) {
-            return false;
-        }
-        let start = comma_len(later);
-        let len = plain_len(&rest[start..]);
+        let len = plain_len(self.rest());
         if len == 0 {
             return false;
         }
-        self.advance(start + len);
+        self.advance(len);
         true
     }
 
@@ -291,7 +286,7 @@ impl<'a> Copier<'a> {
         ensures moves { IfSome result (λ _. (s : List ℕ) × IsNumber s × (escape s ≡ s)
             × Moves self.old self.new s s) }
     {
-        if self.take_plain(false) {
+        if self.take_plain() {
             return Some(());
         }
         self.pass_other_number()
@@ -304,12 +299,11 @@ impl<'a> Copier<'a> {
         ensures moves { IfSome result (λ _. (s : List ℕ) × IsNumber s × (escape s ≡ s)
             × Moves self.old self.new s s) }
     {
-        let rest = self.rest();
-        let end = number_end(rest);
-        if !is_number_text(&rest[..end]) {
+        let number = self.next_number()?;
+        if !is_number(number) {
             return None;
         }
-        self.advance(end);
+        self.advance(number.len());
         Some(())
     }
 }
@@ -321,16 +315,6 @@ fn begins_with(text: &[u8], bytes: &[u8]) -> bool
     ensures value { OnTrue result (take (length bytes.now) text.now ≡ bytes.now) }
 {
     text.len() >= bytes.len() && &text[..bytes.len()] == bytes
-}
-
-/// Whether these bytes are a number.
-fn is_number_text(bytes: &[u8]) -> bool
-    ensures { OnTrue result (IsNumber bytes.now) }
-{
-    match text_of(bytes) {
-        Ok(text) => is_number(text),
-        Err(_) => false,
-    }
 }
 
 /// Whether the next item is a string or an object, or there is none.

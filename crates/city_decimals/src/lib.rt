@@ -19,7 +19,6 @@ mod fault;
 mod laws;
 mod lines;
 mod numbers;
-mod runs;
 mod shapes;
 mod text;
 mod transcode;

@@ -10,7 +10,7 @@ mod value;
 use crate::compact::copy_compact;
 use crate::direction::Direction;
 use crate::fault::DecimalsFault;
-use crate::text::text_of;
+use crate::text::{text_of, without_newline};
 use json::{Reader, Scratch, Writer};
 use std::alloc::Global;
 use value::transcode_top;
@@ -29,7 +29,7 @@ pub(crate) fn transcode_onto(
     ensures fault { IfErr result (λ f. IsFaultTo depth bytes.now f) }
 {
     let text = text_of(bytes)?;
-    let out = match copy_compact(way, bytes, depth, out) {
+    let out = match copy_compact(way, without_newline(text), depth, out) {
         Ok(changed) => return Ok(changed),
         Err(out) => out,
     };

@@ -7,7 +7,6 @@ ghost use Rattle.city_decimals.specs.declared.direction.Direction.TheVariants.{E
 use super::{FRAME_BEGIN, FRAME_END, NUMBER_BEGIN, NUMBER_END};
 use crate::copier::Copier;
 use crate::numbers::{is_number, is_whole};
-use crate::text::text_of;
 
 /// Copies a number, encoded.
 #[inline(always)]
@@ -15,7 +14,7 @@ pub(super) fn encode_number(copier: &mut Copier<'_>) -> Option<()>
     ensures before { copier.new.0 ≡ copier.old.0 }
     ensures number { IfSome result (λ _. IsNumberCopied copier.old copier.new) }
 {
-    if copier.take_plain(false) {
+    if copier.take_plain() {
         return Some(());
     }
     encode_other_number(copier)
@@ -27,12 +26,11 @@ fn encode_other_number(copier: &mut Copier<'_>) -> Option<()>
     ensures before { copier.new.0 ≡ copier.old.0 }
     ensures number { IfSome result (λ _. IsNumberCopied copier.old copier.new) }
 {
-    let number = copier.next_number();
-    let text = text_of(number).ok()?;
-    if !is_number(text) {
+    let number = copier.next_number()?;
+    if !is_number(number) {
         return None;
     }
-    if is_whole(text) {
+    if is_whole(number) {
         copier.advance(number.len());
         Some(())
     } else {

@@ -6,7 +6,7 @@ use Rattle.city_decimals.proofs.arrays.short_len.Goals as goal
 
 pub returns-clause-kept : goal.returns-clause-kept
 returns-clause-kept c =
-    let count = c.few_digits-count in
+    let count = c.few_digits_len-count in
     λ some. digits_kept c.args.text.now c.args.at count.result some (omega (arith, count.ensures.within))
     (count.ensures.value some) (elim c.else-text-at-eq48.branch [
       | else-text-at-eq48-via-then-text-at-eq48+else-count-gt1

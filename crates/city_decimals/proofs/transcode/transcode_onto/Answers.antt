@@ -1,7 +1,10 @@
 use Rattle.city_decimals.proofs.Prelude.{◌≡◌, List, [], ◌++◌, Some, refl, subst, arith, rules, IsUtf8, Token, Json}
-use Rattle.city_decimals.proofs.Prelude.{value, tokens, print, json_tokens, top_changed, written}
+use Rattle.city_decimals.proofs.Prelude.{value, tokens, print, json_tokens, top_changed, written, ℕ, true}
+use Rattle.city_decimals.proofs.Prelude.{members_changed, IsChanged}
 use Rattle.city_decimals.proofs.CompactTexts.{top_made}
 use Rattle.city_decimals.proofs.Streams.{whole_read}
+use Rattle.city_decimals.specs.internal.Compact.{IsTopCopied}
+use Rattle.city_decimals.specs.internal.Newlines.{IsBody}
 use Rattle.city_decimals.proofs.transcode.transcode_onto.Goals as goal
 
 pub returns-clause-changed : goal.returns-clause-changed
@@ -27,4 +30,11 @@ returns-clause-changed c =
     )
 
 pub returns-in-Ok-clause-changed : goal.returns-in-Ok-clause-changed
-returns-in-Ok-clause-changed c = search (rules, top_made)
+returns-in-Ok-clause-changed c =
+    let way = c.args.way in
+    let bytes = c.args.bytes.now in
+    let body = c.without_newline.result.now in
+    let of : IsBody bytes body = subst (λ t. IsBody t body) c.in_ok-text.ensures.ok.0 c.without_newline.ensures in
+    let made : (out : List ℕ) → IsTopCopied (members_changed way true) c.args.depth body out → IsUtf8 bytes
+    → IsChanged c.args.depth way bytes out = λ out. top_made way c.args.depth bytes body out of in
+    search (rules, made)
