@@ -9,7 +9,7 @@ use Rattle.city_tokens.specs.declared.other.Other.{Other}
 use Rattle.city_tokens.specs.declared.other.Other.TheVariants as other
 use Rattle.city_tokens.specs.internal.Commands.{verb_name, with_verb, other_name, AreOthers, IsOther, IsCommandSoFar}
 use Rattle.city_model.specs.declared.command.Command.TheVariants.{Unset, Reshape}
-use Rattle.city_tokens.proofs.PlacedParts.{strings_read}
+use Rattle.city_tokens.proofs.ResolvedParts.{strings_read}
 
 unread : {A : Type 0} (o : Option A) → is_some o ≡ false → o ≡ None
 unread o h = grind arith

@@ -1,4 +1,4 @@
--- Parts read or placed by workers may go to another thread.
+-- Parts read or resolved by workers may go to another thread.
 use denote.Param.Send.{IsSend, IsSync, recorded_send, sendable}
 use denote.Struct.Declared.{field}
 use denote.RattleType.{RattleType}
@@ -11,11 +11,11 @@ use Rattle.city_model.specs.contracts.object.Geometry as Geometry
 use Rattle.city_model.specs.contracts.script.Script as Script
 use Rattle.city_reader.proofs.plain.Place.TheSendSync as place
 use Rattle.city_reader.specs.contracts.position.Position as Position
-use Rattle.city_tokens.specs.contracts.object.UnplacedObject as UnplacedObject
+use Rattle.city_tokens.specs.contracts.object.UnresolvedObject as UnresolvedObject
 use Rattle.city_tokens.specs.contracts.run.Run as Run
 
-pub unplaced_sends : IsSend UnplacedObject.the_field.row
-unplaced_sends =
+pub unresolved_sends : IsSend UnresolvedObject.the_field.row
+unresolved_sends =
     search (text_sends, text_syncs, body_sends, values.crosses, sendable) depth 60 fits 20000
 
 pub position_sends : IsSend Position.the_field.row

@@ -6,7 +6,7 @@ mod Members
 pub mod Options
 mod Pairing
 mod Parts
-mod PlacedParts
+mod ResolvedParts
 pub mod Prelude
 mod Reading
 mod ScriptMembers

@@ -38,8 +38,8 @@ pub use Rattle.city_tokens.specs.declared.vertices.Vertex.{Vertex}
 pub use Rattle.city_tokens.specs.document.Cities.{entries_of, objects_of}
 pub use Rattle.city_tokens.specs.internal.Commands.{IsCommand}
 pub use Rattle.city_tokens.specs.internal.Geometries.{IsGeometry}
-pub use Rattle.city_tokens.specs.internal.Objects.{IsObject, IsObjectSoFar, IsPlacedObject}
-pub use Rattle.city_tokens.specs.internal.Positions.{IsPlaced, IsVertex, opened, points_of}
+pub use Rattle.city_tokens.specs.internal.Objects.{IsObject, IsObjectSoFar, IsResolvedObject}
+pub use Rattle.city_tokens.specs.internal.Positions.{IsResolved, IsVertex, opened, points_of}
 pub use Rattle.city_tokens.specs.internal.Scripts.{IsScript}
 pub use Rattle.city_tokens.specs.internal.Standing.{IsArrayOf, IsListSlot, IsPassed, IsReadAs, IsString, IsTaken, Pairs}
 pub use Rattle.city_tokens.specs.internal.Taken.{IsValue}

@@ -2,7 +2,7 @@
 use Rattle.city_tokens.proofs.Prelude.{◌≡◌, ◌≤◌, ℕ, List, length, true, Option, Some, Less, codes, refl, ap, ap₂, ◌∙◌}
 use Rattle.city_tokens.proofs.Prelude.{arith, nat_list_cmp_total, Token, Data, array, object, Members, no_members}
 use Rattle.city_tokens.proofs.Prelude.{member, put, as_str, items_of, Command, Point, ends_once, Vertex, command_of}
-use Rattle.city_tokens.proofs.Prelude.{IsCommand, IsVertex, IsPlaced, points_of, IsScript, IsArrayOf, IsListSlot}
+use Rattle.city_tokens.proofs.Prelude.{IsCommand, IsVertex, IsResolved, points_of, IsScript, IsArrayOf, IsListSlot}
 use Rattle.city_tokens.proofs.Prelude.{IsString, IsReadAs, IsTaken, list_of, all_read}
 use Rattle.std.proofs.lemmas.Cmp.{tied_itself}
 use Rattle.city_tokens.specs.declared.script.ScriptParts.{ScriptParts}
@@ -54,7 +54,7 @@ script_read : (commands : List Data) (text : Data) (vertices : Option Data) (fou
     → found ≡ script_members (Some (array (items_of commands))) (Some text) vertices → as_str text ≡ Some name
     → all_read (command_of points) commands ≡ Some cs → ends_once cs ≡ true → length cs ≤ max_commands
     → are_vertices vertices ≡ true → vertex_points vertices ≡ Some points → IsScript (name, cs) (object found)
-script_read commands text vertices found name cs points is named read ends short right placed =
+script_read commands text vertices found name cs points is named read ends short right resolved =
     grind (arith, items_list-of, ends_once-read, all_read-length)
 
 -- a member is there if anything was read of it
@@ -70,18 +70,18 @@ right_there : (m : Option Data) (points : List Point) → vertex_points m ≡ So
     → are_vertices m ≡ true
 right_there m points h = grind (arith, are_triples-read)
 
--- its commands are the ones read, placed at its vertices
+-- its commands are the ones read, resolved at its vertices
 pub script_made : (parts : ScriptParts) (name : List ℕ) (commands cs : List Command) (found kept : Members)
     → parts.name ≡ Some name → parts.commands ≡ Some commands
-    → IsPlaced (IsArrayOf IsCommand) (list_of (command_of (points_of parts.vertices))) commands cs → ends_once cs ≡ true
+    → IsResolved (IsArrayOf IsCommand) (list_of (command_of (points_of parts.vertices))) commands cs → ends_once cs ≡ true
     → length cs ≤ max_commands → IsScriptSoFar parts found kept → IsScript (name, cs) (object found)
-script_made parts name commands cs found kept named listed placed ends short so =
+script_made parts name commands cs found kept named listed resolved ends short so =
     let points = points_of parts.vertices in
     let text = part_there IsString parts.name name so.1 named so.5 in
     let list = part_there (IsArrayOf IsCommand) parts.commands commands so.0 listed so.4 in
     let trees = list.2.0 in
     let read : all_read (command_of points) trees ≡ Some cs =
-    rw (list.2.1, all_items (command_of points) trees) at (placed list.0 list.2) in
+    rw (list.2.1, all_items (command_of points) trees) at (resolved list.0 list.2) in
     let there = points_there parts.vertices so.2 so.6 in
     let is : found ≡ script_members (Some (array (items_of trees))) (Some text.0) so.2 = so.3
     ∙ ap₂ (λ c n. script_members c n so.2) (list.1 ∙ ap Some list.2.1) text.1 in

@@ -4,7 +4,7 @@ ghost use Rattle.serde_json.specs.Data.{Members, object, string};
 ghost use Rattle.city_tokens.specs.script.Commands.{command_of};
 ghost use Rattle.city_tokens.specs.shape.Geometries.{geometry_of};
 ghost use Rattle.city_tokens.specs.internal.Geometries.{IsGeometry};
-ghost use Rattle.city_tokens.specs.internal.Positions.{IsPlaced, points_of};
+ghost use Rattle.city_tokens.specs.internal.Positions.{IsResolved, points_of};
 ghost use Rattle.city_tokens.specs.internal.Standing.{IsArrayOf};
 ghost use Rattle.city_tokens.specs.tree.Lists.{list_of};
 ghost use Rattle.city_tokens.specs.internal.Commands.{verb_name, with_verb, AreOthers, IsCommand, IsCommandSoFar};
@@ -12,7 +12,7 @@ ghost use Rattle.city_tokens.specs.internal.Commands.{verb_name, with_verb, AreO
 use crate::list::FromTokens;
 use crate::member_visitor::{MemberVisitor, read_opened};
 use crate::other::{Other, read_other};
-use crate::placing::Places;
+use crate::resolve::ResolvePositions;
 use crate::text::{read_str, text_of};
 use crate::vertices::Vertex;
 use city_model::command::Command;
@@ -173,42 +173,42 @@ impl FromTokens for Command {
 }
 
 /// The body with points in place of its positions. From here on all copies share it.
-fn placed_body(alloc: Global, vertices: &[Vertex], body: Shared<Body>) -> Option<Shared<Body>>
-    ensures kind { IfSome result (λ placed. placed.kind ≡ body.kind) }
-    ensures extra { IfSome result (λ placed. placed.extra ≡ body.extra) }
-    ensures geometry { IfSome result (λ placed. IsPlaced (IsArrayOf IsGeometry)
-        (list_of (geometry_of (points_of vertices.now))) body.geometry placed.geometry) }
+fn resolved_body(alloc: Global, vertices: &[Vertex], body: Shared<Body>) -> Option<Shared<Body>>
+    ensures kind { IfSome result (λ resolved. resolved.kind ≡ body.kind) }
+    ensures extra { IfSome result (λ resolved. resolved.extra ≡ body.extra) }
+    ensures geometry { IfSome result (λ resolved. IsResolved (IsArrayOf IsGeometry)
+        (list_of (geometry_of (points_of vertices.now))) body.geometry resolved.geometry) }
 {
     let mut body = body.into_owned(alloc).ok()?;
-    body.geometry.place(alloc, vertices)?;
+    body.geometry.resolve_positions(alloc, vertices)?;
     let shared = Shared::new(alloc, body).ok()?;
     Some(shared)
 }
 
 /// The command with points in place of its positions.
-fn placed(alloc: Global, vertices: &[Vertex], command: Command) -> Option<Command>
-    ensures { IfSome result (λ placed. IsPlaced IsCommand (command_of (points_of vertices.now)) command placed) }
+fn resolved(alloc: Global, vertices: &[Vertex], command: Command) -> Option<Command>
+    ensures { IfSome result (λ resolved. IsResolved IsCommand (command_of (points_of vertices.now)) command resolved) }
 {
     match command {
-        Command::Put(id, body) => Some(Command::Put(id, placed_body(alloc, vertices, body)?)),
-        Command::Add(id, body) => Some(Command::Add(id, placed_body(alloc, vertices, body)?)),
+        Command::Put(id, body) => Some(Command::Put(id, resolved_body(alloc, vertices, body)?)),
+        Command::Add(id, body) => Some(Command::Add(id, resolved_body(alloc, vertices, body)?)),
         Command::Reshape(id, geometry) => {
             let mut geometry = geometry;
-            geometry.place(alloc, vertices)?;
+            geometry.resolve_positions(alloc, vertices)?;
             Some(Command::Reshape(id, geometry))
         }
         command => Some(command),
     }
 }
 
-impl Places for Command {
+impl ResolvePositions for Command {
     ghost stands = { IsCommand };
 
     ghost reads = { command_of };
 
-    fn place(&mut self, alloc: Global, vertices: &[Vertex]) -> Option<()> {
-        let unplaced = replace(self, Command::Commit);
-        *self = placed(alloc, vertices, unplaced)?;
+    fn resolve_positions(&mut self, alloc: Global, vertices: &[Vertex]) -> Option<()> {
+        let unresolved = replace(self, Command::Commit);
+        *self = resolved(alloc, vertices, unresolved)?;
         Some(())
     }
 }

@@ -12,19 +12,19 @@ ghost use Rattle.city_tokens.specs.document.Cities.{city_of, entries_of};
 ghost use Rattle.city_tokens.specs.tree.Members.{is_text};
 ghost use Rattle.city_tokens.specs.tree.Texts.{HasTree};
 ghost use Rattle.city_tokens.specs.internal.Faultless.{AreFaultless};
-ghost use Rattle.city_tokens.specs.internal.Objects.{IsListing, IsPlacedObject};
+ghost use Rattle.city_tokens.specs.internal.Objects.{IsListing, IsResolvedObject};
 ghost use Rattle.city_tokens.specs.internal.Standing.{Pairs};
-ghost use Rattle.city_tokens.specs.internal.Tops.{IsTopSoFar, IsTop, IsCity, ArePlaced};
+ghost use Rattle.city_tokens.specs.internal.Tops.{IsTopSoFar, IsTop, IsCity, AreResolved};
 
 use crate::frame::frame_of_rest;
 use crate::in_pieces::top_in_pieces;
 use crate::list::FromTokens;
 use crate::member_visitor::{MemberVisitor, read_object};
-use crate::object::UnplacedObject;
+use crate::object::UnresolvedObject;
 use crate::objects::read_objects;
 use crate::pieces::Pieces;
-use crate::placing::place_objects;
-use crate::stretches::place_objects_by;
+use crate::resolve::resolve_objects;
+use crate::stretches::resolve_objects_by;
 use crate::vertices::Vertex;
 use crate::whole_text::read_whole_text;
 use city_model::city::City;
@@ -41,7 +41,7 @@ use std::thread::Threads;
 /// The members of a document's top read so far.
 #[derive(Drop)]
 pub struct TopParts {
-    pub objects: Option<Sequence<(Id, UnplacedObject)>>,
+    pub objects: Option<Sequence<(Id, UnresolvedObject)>>,
     pub vertices: Option<Sequence<Vertex>>,
 }
 
@@ -90,52 +90,52 @@ fn is_city_json(rest: &Map<String, Value>) -> bool
 }
 
 /// The objects of a top, with points in place of their positions.
-fn placed_objects(alloc: Global, parts: TopParts) -> Option<Vec<(Id, Object)>>
-    ensures { IfSome result (λ placed. ArePlaced parts placed.items) }
+fn resolved_objects(alloc: Global, parts: TopParts) -> Option<Vec<(Id, Object)>>
+    ensures { IfSome result (λ resolved. AreResolved parts resolved.items) }
 {
     let vertices = parts.vertices?;
     let objects = parts.objects?;
-    place_objects(alloc, vertices.as_slice(), objects.into_vec())
+    resolve_objects(alloc, vertices.as_slice(), objects.into_vec())
 }
 
-/// The same, placed by so many threads.
-fn placed_objects_by<R: Threads + Sync>(
+/// The same, resolved by so many threads.
+fn resolved_objects_by<R: Threads + Sync>(
     rt: &R,
     alloc: Global,
     parts: TopParts,
     count: usize,
 ) -> Option<Vec<(Id, Object)>>
-    ensures { IfSome result (λ placed. ArePlaced parts placed.items) }
+    ensures { IfSome result (λ resolved. AreResolved parts resolved.items) }
 {
     let vertices = parts.vertices?;
     let objects = parts.objects?;
-    place_objects_by(rt, alloc, vertices.as_slice(), objects.into_vec(), count)
+    resolve_objects_by(rt, alloc, vertices.as_slice(), objects.into_vec(), count)
 }
 
 /// The objects by their ids.
 ///
 /// All are put into the map at once: if the text has them in the order of their ids, each id is
 /// compared only with the one before it, and the nodes of the map are full.
-fn by_ids(alloc: Global, placed: Vec<(Id, Object)>) -> Option<BTreeMap<Id, Object>>
+fn by_ids(alloc: Global, resolved: Vec<(Id, Object)>) -> Option<BTreeMap<Id, Object>>
     ensures entries { IfSome result (λ objects. (points : List SpecPoint) (all : Entries) (found : Members)
-        → Pairs (IsPlacedObject points) all placed.items → IsListing all found
+        → Pairs (IsResolvedObject points) all resolved.items → IsListing all found
         → entries_of points found ≡ Some objects.entries) }
     ensures faultless { IfSome result (λ objects. (points : List SpecPoint) (all : Entries)
-        → Pairs (IsPlacedObject points) all placed.items → AreFaultless objects.entries) }
+        → Pairs (IsResolvedObject points) all resolved.items → AreFaultless objects.entries) }
 {
-    let objects = placed.into_iter().collect(alloc).ok()?;
+    let objects = resolved.into_iter().collect(alloc).ok()?;
     Some(objects)
 }
 
 /// The city of the objects of a top and of its kept members.
-fn city_of(alloc: Global, placed: Vec<(Id, Object)>, rest: Map<String, Value>) -> Option<City>
-    ensures { IfSome result (λ c. (parts : SpecTopParts) (found : Members) → ArePlaced parts placed.items
+fn city_of(alloc: Global, resolved: Vec<(Id, Object)>, rest: Map<String, Value>) -> Option<City>
+    ensures { IfSome result (λ c. (parts : SpecTopParts) (found : Members) → AreResolved parts resolved.items
         → IsTopSoFar parts found (members_view rest.entries) → IsCity c (object found)) }
 {
     if !is_city_json(&rest) {
         return None;
     }
-    let objects = by_ids(alloc, placed)?;
+    let objects = by_ids(alloc, resolved)?;
     let frame = frame_of_rest(rest)?;
     Some(City::from_parts(frame, objects))
 }
@@ -172,11 +172,11 @@ pub fn streamed_city(alloc: Global, bytes: &[u8]) -> Option<City>
 {
     let top = read_whole_text::<Top>(alloc, bytes)?;
     // By now the reader's memory, as much as the text, is free again: the map is made after it.
-    let placed = placed_objects(alloc, top.parts)?;
-    city_of(alloc, placed, top.rest)
+    let resolved = resolved_objects(alloc, top.parts)?;
+    city_of(alloc, resolved, top.rest)
 }
 
-/// The city of a text, with pieces read and placed by so many threads; `None` also if the text
+/// The city of a text, with pieces read and resolved by so many threads; `None` also if the text
 /// can't be cut, or was cut at wrong places.
 pub fn city_in_pieces<R: Threads + Sync>(
     rt: &R,
@@ -188,8 +188,8 @@ pub fn city_in_pieces<R: Threads + Sync>(
         × (city_of d ≡ Some c) × IsFaultless (object_at c.1)) }
 {
     let top = top_in_pieces(rt, alloc, bytes, pieces)?;
-    let placed = placed_objects_by(rt, alloc, top.parts, pieces.count)?;
-    city_of(alloc, placed, top.rest)
+    let resolved = resolved_objects_by(rt, alloc, top.parts, pieces.count)?;
+    city_of(alloc, resolved, top.rest)
 }
 
 /// The city of a text, as `streamed_city` gives it; so many threads read a large text, in pieces.

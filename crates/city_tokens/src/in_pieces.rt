@@ -12,7 +12,7 @@ use crate::cuts::cuts_of_document;
 use crate::document::{Top, TopParts};
 use crate::limits::MAX_TEXT;
 use crate::member_visitor::{MemberVisitor, read_object as read_members};
-use crate::object::{UnplacedObject, read_object};
+use crate::object::{UnresolvedObject, read_object};
 use crate::part::PART_DEPTH;
 use crate::pieces::Pieces;
 use crate::runs::Runs;
@@ -30,7 +30,7 @@ fn rest_of_objects(
     alloc: Global,
     reader: &mut Reader<'_>,
     runs: &mut Runs<'_>,
-) -> Option<Sequence<(Id, UnplacedObject)>>
+) -> Option<Sequence<(Id, UnresolvedObject)>>
     ensures { IfSome result (λ es. (found : Members)
         × IsRestOfObject 125 reader.old found reader.new × IsListing es found) }
 {
@@ -49,7 +49,7 @@ fn read_objects(
     alloc: Global,
     reader: &mut Reader<'_>,
     runs: &mut Runs<'_>,
-) -> Option<Sequence<(Id, UnplacedObject)>>
+) -> Option<Sequence<(Id, UnresolvedObject)>>
     ensures { IfSome result (λ es. IsReadAs AreObjects es 126 reader.old reader.new) }
 {
     let Token::BeginObject = reader.next()? else {

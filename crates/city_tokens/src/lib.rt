@@ -5,7 +5,7 @@
 //!
 //! - `value`, `text`, `list`: values, texts and arrays
 //! - `member_visitor`: objects with members of their own beside the kept ones
-//! - `position`, `vertices`, `boundaries`, `placing`, `stretches`: positions, and the points in their place
+//! - `position`, `vertices`, `boundaries`, `resolve`, `stretches`: positions, and the points in their place
 //! - `geometry`, `object`, `objects`, `document`: the parts of a city, and the city
 //! - `cuts`, `part`, `run`, `items`, `runs`, `in_pieces`: texts with pieces read by several workers
 //! - `body`, `other`, `command`, `script`, `scripts`: bodies, other parts of commands, commands and scripts
@@ -30,8 +30,8 @@ mod objects;
 mod other;
 mod part;
 mod pieces;
-mod placing;
 mod position;
+mod resolve;
 mod run;
 mod runs;
 mod script;

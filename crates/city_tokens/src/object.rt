@@ -69,13 +69,13 @@ fn read_ids(alloc: Global, reader: &mut Reader<'_>, depth: usize) -> Option<Shar
 
 /// An object before points replace its positions, with a body of its own. Contracts see the object.
 #[derive(Drop)]
-pub struct UnplacedObject {
+pub struct UnresolvedObject {
     body: Body,
     parents: SharedIds,
     children: SharedIds,
 }
 
-impl Model for UnplacedObject {
+impl Model for UnresolvedObject {
     ghost use Rattle.city_model.specs.declared.object.Object.{Object};
     ghost use Rattle.std.specs.Coded.{codes};
     ghost use Rattle.city_model.specs.internal.DataCode.{coded_members};
@@ -87,7 +87,7 @@ impl Model for UnplacedObject {
     ghost view = { λ o. record { body = o.body; parents = o.parents; children = o.children } };
 }
 
-impl UnplacedObject {
+impl UnresolvedObject {
     /// The body, the parents and the children. Doesn't allocate.
     pub fn into_parts(self) -> (Body, SharedIds, SharedIds)
         ensures { result ≡ (self.body, self.parents, self.children) }
@@ -101,7 +101,7 @@ pub fn object_of(
     alloc: Global,
     parts: ObjectParts,
     kept: Map<String, Value>,
-) -> Option<UnplacedObject>
+) -> Option<UnresolvedObject>
     ensures { IfSome result (λ o. (found : Members)
         → IsObjectSoFar parts found (members_view kept.entries) → IsObject o (object found)) }
 {
@@ -113,7 +113,7 @@ pub fn object_of(
         geometry: Shared::unshared(parts.geometry),
         extra,
     };
-    Some(UnplacedObject {
+    Some(UnresolvedObject {
         body,
         parents: parts.parents,
         children: parts.children,
@@ -121,7 +121,7 @@ pub fn object_of(
 }
 
 /// The next value, a city object.
-pub fn read_object(alloc: Global, reader: &mut Reader<'_>, depth: usize) -> Option<UnplacedObject>
+pub fn read_object(alloc: Global, reader: &mut Reader<'_>, depth: usize) -> Option<UnresolvedObject>
     ensures { IfSome result (λ o. IsReadAs IsObject o depth reader.old reader.new) }
 {
     let start = ObjectParts {

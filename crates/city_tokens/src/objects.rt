@@ -4,7 +4,7 @@ ghost use Rattle.city_tokens.specs.internal.Objects.{AreObjects, IsListingSoFar}
 ghost use Rattle.city_tokens.specs.internal.Standing.{IsReadAs};
 
 use crate::member_visitor::{MemberVisitor, read_object as read_members};
-use crate::object::{UnplacedObject, read_object};
+use crate::object::{UnresolvedObject, read_object};
 use crate::text::text_of;
 use city_model::sequence::Sequence;
 use city_model::text::Id;
@@ -14,7 +14,7 @@ use std::alloc::Global;
 /// The objects so far, one after another as the text has them.
 #[derive(Drop)]
 pub struct Listing {
-    pub objects: Sequence<(Id, UnplacedObject)>,
+    pub objects: Sequence<(Id, UnresolvedObject)>,
 }
 
 impl MemberVisitor for Listing {
@@ -39,7 +39,7 @@ pub fn read_objects(
     alloc: Global,
     reader: &mut Reader<'_>,
     depth: usize,
-) -> Option<Sequence<(Id, UnplacedObject)>>
+) -> Option<Sequence<(Id, UnresolvedObject)>>
     ensures { IfSome result (λ es. IsReadAs AreObjects es depth reader.old reader.new) }
 {
     let start = Listing {

@@ -6,7 +6,7 @@ ghost use Rattle.city_reader.specs.Positions.{tokens_from};
 ghost use Rattle.city_tokens.specs.internal.Parts.{AreNext, IsNextObject, IsNextVertex, IsNextScript};
 
 use crate::list::FromTokens;
-use crate::object::{UnplacedObject, read_object};
+use crate::object::{UnresolvedObject, read_object};
 use crate::text::text_of;
 use crate::vertices::Vertex;
 use city_model::script::Script;
@@ -31,10 +31,10 @@ pub trait Part: Sized + Drop {
         ensures shorter { IfSome result (λ _. length reader.new < length reader.old) };
 }
 
-impl Part for (Id, UnplacedObject) {
+impl Part for (Id, UnresolvedObject) {
     ghost stands = { IsNextObject };
 
-    fn next_part(alloc: Global, reader: &mut Reader<'_>) -> Option<(Id, UnplacedObject)> {
+    fn next_part(alloc: Global, reader: &mut Reader<'_>) -> Option<(Id, UnresolvedObject)> {
         let name = reader.next_key()??;
         let id = text_of(alloc, name)?;
         let object = read_object(alloc, reader, PART_DEPTH)?;

@@ -8,7 +8,7 @@ ghost use Rattle.city_tokens.specs.internal.Standing.{IsArrayOf, IsReadAs};
 
 use crate::cuts::Cuts;
 use crate::items::read_items;
-use crate::object::UnplacedObject;
+use crate::object::UnresolvedObject;
 use crate::part::PART_DEPTH;
 use crate::run::{Run, read_pieces};
 use crate::vertices::Vertex;
@@ -23,7 +23,7 @@ use std::thread::Threads;
 #[derive(Drop)]
 pub struct Runs<'t> {
     text: &'t str,
-    objects: Run<(Id, UnplacedObject)>,
+    objects: Run<(Id, UnresolvedObject)>,
     vertices: Run<Vertex>,
 }
 
@@ -62,7 +62,7 @@ impl<'t> Runs<'t> {
         &mut self,
         alloc: Global,
         reader: &mut Reader<'_>,
-        objects: &mut Vec<(Id, UnplacedObject)>,
+        objects: &mut Vec<(Id, UnresolvedObject)>,
     ) -> Option<()>
         ensures { IfSome result (λ _. (more : List (List ℕ × Object))
             × AreNext IsNextObject more reader.old reader.new

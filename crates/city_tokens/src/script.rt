@@ -6,7 +6,7 @@ ghost use Rattle.city_tokens.specs.internal.Scripts.{IsScript, IsScriptSoFar};
 use crate::limits::MAX_COMMANDS;
 use crate::list::FromTokens;
 use crate::member_visitor::{MemberVisitor, read_object};
-use crate::placing::Places;
+use crate::resolve::ResolvePositions;
 use crate::vertices::Vertex;
 use city_model::command::Command;
 use city_model::script::Script;
@@ -59,7 +59,7 @@ fn script_of(alloc: Global, parts: ScriptParts) -> Option<Script>
 {
     let name = parts.name?;
     let mut commands = parts.commands?;
-    commands.place(alloc, parts.vertices.as_slice())?;
+    commands.resolve_positions(alloc, parts.vertices.as_slice())?;
     if commands.len() > MAX_COMMANDS {
         return None;
     }

@@ -1,13 +1,13 @@
 //! Replaces the positions of objects by their points, by several workers: each takes a stretch of the objects.
 ghost use Rattle.std.specs.Prelude.{◌≡◌, IfSome, flat_map};
 ghost use Rattle.std.specs.Vec.{vec_items};
-ghost use Rattle.city_tokens.specs.internal.Objects.{IsPlacedObject};
+ghost use Rattle.city_tokens.specs.internal.Objects.{IsResolvedObject};
 ghost use Rattle.city_tokens.specs.internal.Positions.{points_of};
 ghost use Rattle.city_tokens.specs.internal.Standing.{Pairs};
-ghost use Rattle.city_tokens.specs.internal.Stretches.{AreJoined, PairsIfPlaced};
+ghost use Rattle.city_tokens.specs.internal.Stretches.{AreJoined, PairsIfResolved};
 
-use crate::object::UnplacedObject;
-use crate::placing::place_objects;
+use crate::object::UnresolvedObject;
+use crate::resolve::resolve_objects;
 use crate::vertices::Vertex;
 use city_model::object::Object;
 use city_model::text::Id;
@@ -18,9 +18,9 @@ use std::thread::{Threads, map_vec};
 /// The objects in at most so many stretches, one after another. All but the last are of one length.
 fn stretches_of(
     alloc: Global,
-    objects: Vec<(Id, UnplacedObject)>,
+    objects: Vec<(Id, UnresolvedObject)>,
     count: usize,
-) -> Option<Vec<Vec<(Id, UnplacedObject)>>>
+) -> Option<Vec<Vec<(Id, UnresolvedObject)>>>
     ensures { IfSome result (λ stretches. objects.items ≡ flat_map vec_items stretches.items) }
 {
     let size = objects.len().checked_div(count)?.saturating_add(1);
@@ -38,20 +38,20 @@ fn stretches_of(
 }
 
 /// Puts points in place of the positions of each stretch, by a thread.
-fn place_each<R: Threads + Sync>(
+fn resolve_each<R: Threads + Sync>(
     rt: &R,
     alloc: Global,
     vertices: &[Vertex],
-    stretches: Vec<Vec<(Id, UnplacedObject)>>,
+    stretches: Vec<Vec<(Id, UnresolvedObject)>>,
 ) -> Option<Vec<Option<Vec<(Id, Object)>>>>
-    ensures { IfSome result (λ placed. PairsIfPlaced (points_of vertices.now) stretches.items placed.items) }
+    ensures { IfSome result (λ resolved. PairsIfResolved (points_of vertices.now) stretches.items resolved.items) }
 {
-    let place = |stretch: Vec<(Id, UnplacedObject)>|
+    let resolve = |stretch: Vec<(Id, UnresolvedObject)>|
         ensures { IfSome result
-            (λ placed. Pairs (IsPlacedObject (points_of vertices.entry.now)) stretch.items placed.items) }
-    { place_objects(alloc, vertices, stretch) };
-    let placed = map_vec(rt, stretches, &place).ok()?;
-    Some(placed)
+            (λ resolved. Pairs (IsResolvedObject (points_of vertices.entry.now)) stretch.items resolved.items) }
+    { resolve_objects(alloc, vertices, stretch) };
+    let resolved = map_vec(rt, stretches, &resolve).ok()?;
+    Some(resolved)
 }
 
 /// The objects of all stretches; `None` if a stretch is missing.
@@ -66,18 +66,18 @@ fn joined(alloc: Global, stretches: Vec<Option<Vec<(Id, Object)>>>) -> Option<Ve
     Some(all)
 }
 
-/// Puts points in place of the positions of all objects as `place_objects` does, by so many
+/// Puts points in place of the positions of all objects as `resolve_objects` does, by so many
 /// threads.
-pub fn place_objects_by<R: Threads + Sync>(
+pub fn resolve_objects_by<R: Threads + Sync>(
     rt: &R,
     alloc: Global,
     vertices: &[Vertex],
-    unplaced: Vec<(Id, UnplacedObject)>,
+    unresolved: Vec<(Id, UnresolvedObject)>,
     count: usize,
 ) -> Option<Vec<(Id, Object)>>
-    ensures { IfSome result (λ placed. Pairs (IsPlacedObject (points_of vertices.now)) unplaced.items placed.items) }
+    ensures { IfSome result (λ resolved. Pairs (IsResolvedObject (points_of vertices.now)) unresolved.items resolved.items) }
 {
-    let stretches = stretches_of(alloc, unplaced, count)?;
-    let placed = place_each(rt, alloc, vertices, stretches)?;
-    joined(alloc, placed)
+    let stretches = stretches_of(alloc, unresolved, count)?;
+    let resolved = resolve_each(rt, alloc, vertices, stretches)?;
+    joined(alloc, resolved)
 }

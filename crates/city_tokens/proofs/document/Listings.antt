@@ -1,8 +1,8 @@
--- The objects made from a list: the list made from them again, their faults, and their placing.
+-- The objects made from a list: the list made from them again, their faults, and their resolve.
 use Rattle.city_tokens.proofs.Prelude.{◌≡◌, ℕ, List, [], ◌∷◌, length, Some, Less, Equal, Greater, nat_cmp, sym, ap}
 use Rattle.city_tokens.proofs.Prelude.{subst, ◌∙◌, arith, None, ◌++◌, refl, slice_cmp, AllByRecursion}
 use Rattle.city_tokens.proofs.Prelude.{nat_list_cmp_total, Object, Entries, same_id_back, objects_of, entries_of, Point}
-use Rattle.city_tokens.proofs.Prelude.{made, IsPlacedObject, IsObject, Pairs, IsReadAs, IsTaken, IsFromIterResult}
+use Rattle.city_tokens.proofs.Prelude.{made, IsResolvedObject, IsObject, Pairs, IsReadAs, IsTaken, IsFromIterResult}
 use Rattle.city_tokens.proofs.Prelude.{Token, Data, Members, no_members, member, put, object_of}
 use Rattle.std.proofs.Common.{cond, BTreeMap}
 use Rattle.std.specs.FinMap.{empty, entries, entries-insert, len-entries, len-empty, put as put_entry}
@@ -54,12 +54,12 @@ module _ (P : Object → Type 0) where
       subst OfEach (sym (entries-insert nat_list_cmp_total (objects_of es) e.0 e.1))
       (of_each_put e.0 e.1 (entries (objects_of es)) h.0 (of_each_listed es h.1))
 
--- the placed ones
-pub faultless_each : (points : List Point) (all placed es : Entries) → Pairs (IsPlacedObject points) all placed
-    → AreFaultless es → AreFaultless (put_each placed es)
+-- the resolved ones
+pub faultless_each : (points : List Point) (all resolved es : Entries) → Pairs (IsResolvedObject points) all resolved
+    → AreFaultless es → AreFaultless (put_each resolved es)
 faultless_each points [] [] es pairs h = h
-faultless_each points (u ∷ all) (x ∷ placed) es pairs h =
-    faultless_each points all placed (put_entry (slice_cmp nat_cmp) x.0 x.1 es) pairs.1
+faultless_each points (u ∷ all) (x ∷ resolved) es pairs h =
+    faultless_each points all resolved (put_entry (slice_cmp nat_cmp) x.0 x.1 es) pairs.1
     (of_each_put (λ o. body_fault o.body ≡ None) x.0 x.1 es pairs.0.2 h)
 faultless_each points _ _ es pairs h = absurd pairs
 
@@ -109,11 +109,11 @@ entries_put_all points (x ∷ xs) (m ∷ ms) start es pairs here =
     grind (arith, entries_put_all points xs ms, entries_put points m.0 m.1 x.1 start es pairs.0.1 here)
 entries_put_all points _ _ start es pairs here = absurd pairs
 
--- the listed members stand for the entries of the placed objects
-pub listed_entries : (points : List Point) (all placed : Entries) (m : BTreeMap (List ℕ) Object) (found : Members)
-    → IsFromIterResult cmp placed m → Pairs (IsPlacedObject points) all placed → IsListing all found
+-- the listed members stand for the entries of the resolved objects
+pub listed_entries : (points : List Point) (all resolved : Entries) (m : BTreeMap (List ℕ) Object) (found : Members)
+    → IsFromIterResult cmp resolved m → Pairs (IsResolvedObject points) all resolved → IsListing all found
     → entries_of points found ≡ Some m.entries
-listed_entries points all placed m found h pairs is =
-    let read = pairs_over (IsPlacedObject points) IsNamedObject (IsRead points)
-    (λ u x m p q. (p.0 ∙ q.0, p.1 m.1 q.1)) all placed is.0 pairs is.2 in
-    rw (is.1, made placed m h) (entries_put_all points placed is.0 no_members [] read refl)
+listed_entries points all resolved m found h pairs is =
+    let read = pairs_over (IsResolvedObject points) IsNamedObject (IsRead points)
+    (λ u x m p q. (p.0 ∙ q.0, p.1 m.1 q.1)) all resolved is.0 pairs is.2 in
+    rw (is.1, made resolved m h) (entries_put_all points resolved is.0 no_members [] read refl)

@@ -1,4 +1,4 @@
--- Objects with bodies judged as they were placed.
+-- Objects with bodies judged as they were resolved.
 use Rattle.std.specs.Prelude.{◌≡◌, None}
 use Rattle.std.specs.List.{AllByRecursion}
 use Rattle.city_model.specs.CityMap.{Entries}

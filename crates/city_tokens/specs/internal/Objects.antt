@@ -13,7 +13,7 @@ use Rattle.city_tokens.specs.declared.object.ObjectParts.{ObjectParts}
 use Rattle.city_tokens.specs.declared.objects.Listing.{Listing}
 use Rattle.city_tokens.specs.object.Bodies.{without_object_members, object_of}
 use Rattle.city_tokens.specs.internal.Geometries.{IsGeometry}
-use Rattle.city_tokens.specs.internal.Positions.{IsPlaced}
+use Rattle.city_tokens.specs.internal.Positions.{IsResolved}
 use Rattle.city_tokens.specs.internal.Standing.{Pairs, IsSlot, IsListSlot, IsString}
 use Rattle.city_tokens.specs.tree.Members.{kept_if}
 
@@ -60,7 +60,7 @@ abbrev pub AreObjects : List (List ℕ × Object) → Data → Type 0
 AreObjects es d = (found : Members) × (d ≡ object found) × IsListing es found
 
 -- an object with points in place of its positions, and a body without a fault
-abbrev pub IsPlacedObject : List Point → List ℕ × Object → List ℕ × Object → Type 0
-IsPlacedObject points unplaced placed =
-    (placed.0 ≡ unplaced.0) × IsPlaced IsObject (object_of points) unplaced.1 placed.1
-    × (body_fault placed.1.body ≡ None)
+abbrev pub IsResolvedObject : List Point → List ℕ × Object → List ℕ × Object → Type 0
+IsResolvedObject points unresolved resolved =
+    (resolved.0 ≡ unresolved.0) × IsResolved IsObject (object_of points) unresolved.1 resolved.1
+    × (body_fault resolved.1.body ≡ None)

@@ -24,8 +24,8 @@ IsNested zero = IsPosition
 IsNested (suc n) = IsArrayOf (IsNested n)
 
 -- if the old one stood for a value, the value is read as the new one
-abbrev pub IsPlaced : {A : Type 0} → (A → Data → Type 0) → (Data → Option A) → A → A → Type 0
-IsPlaced stands reads old new = (d : Data) → stands old d → reads d ≡ Some new
+abbrev pub IsResolved : {A : Type 0} → (A → Data → Type 0) → (Data → Option A) → A → A → Type 0
+IsResolved stands reads old new = (d : Data) → stands old d → reads d ≡ Some new
 
 -- the tokens, behind so many opening brackets
 abbrev pub opened : ℕ → List Token → List Token

@@ -11,7 +11,7 @@ use Rattle.city_tokens.specs.declared.document.TopParts.{TopParts}
 use Rattle.city_tokens.specs.declared.in_pieces.TopInPieces.{TopInPieces}
 use Rattle.city_tokens.specs.declared.vertices.Vertex.{Vertex}
 use Rattle.city_tokens.specs.document.Cities.{city_of}
-use Rattle.city_tokens.specs.internal.Objects.{AreObjects, IsPlacedObject}
+use Rattle.city_tokens.specs.internal.Objects.{AreObjects, IsResolvedObject}
 use Rattle.city_tokens.specs.internal.Positions.{IsVertex, points_of}
 use Rattle.city_tokens.specs.internal.Standing.{Pairs, IsArrayOf, IsSlot}
 
@@ -22,10 +22,10 @@ pub record IsTopSoFar (parts : TopParts) (found kept : Members) : Type 0 where
   pub extra : kept ≡ without (codes "vertices") (without (codes "CityObjects") found)
 
 -- the objects of a top, with points in place of their positions
-abbrev pub ArePlaced : TopParts → Entries → Type 0
-ArePlaced parts placed =
+abbrev pub AreResolved : TopParts → Entries → Type 0
+AreResolved parts resolved =
     (vertices : List Vertex) × (listed : Entries) × (parts.vertices ≡ Some vertices) × (parts.objects ≡ Some listed)
-    × Pairs (IsPlacedObject (points_of vertices)) listed placed
+    × Pairs (IsResolvedObject (points_of vertices)) listed resolved
 
 -- parts read beforehand stand for nothing by themselves
 abbrev pub IsTopInPieces : TopInPieces → Members → Members → Type 0

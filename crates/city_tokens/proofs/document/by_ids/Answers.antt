@@ -6,16 +6,16 @@ use Rattle.city_tokens.proofs.document.by_ids.Goals as goal
 
 pub returns : goal.returns
 returns c =
-    let placed = c.args.placed in
+    let resolved = c.args.resolved in
     let objects = c.in_ok-objects.objects in
-    let all = YieldsList-from_vec placed.items c.into_iter.ensures.rest (c.into_iter.ensures.len ∙ placed.ok.0) in
-    let is : IsFromIterResult (slice_cmp nat_cmp) placed.items objects =
-    given c.collect.result c.ok.result objects (λ m. IsFromIterResult (slice_cmp nat_cmp) placed.items m)
+    let all = YieldsList-from_vec resolved.items c.into_iter.ensures.rest (c.into_iter.ensures.len ∙ resolved.ok.0) in
+    let is : IsFromIterResult (slice_cmp nat_cmp) resolved.items objects =
+    given c.collect.result c.ok.result objects (λ m. IsFromIterResult (slice_cmp nat_cmp) resolved.items m)
     c.ok.ensures.value c.in_ok-objects.was
     (fact_from_collect (λ xs m. IsFromIterResult (slice_cmp nat_cmp) xs m) c.collect.result c.collect.ensures.ran
     all) in
     record {
-      entries = λ points all found pairs listed. listed_entries points all placed.items objects found is pairs listed;
+      entries = λ points all found pairs listed. listed_entries points all resolved.items objects found is pairs listed;
       faultless = λ points all pairs.
-          rw (made placed.items objects is) (faultless_each points all placed.items [] pairs tt);
+          rw (made resolved.items objects is) (faultless_each points all resolved.items [] pairs tt);
     }

@@ -1,5 +1,5 @@
 use Rattle.city_tokens.proofs.Prelude.{IfSome_then}
-use Rattle.city_tokens.proofs.PlacedParts.{body_taken}
+use Rattle.city_tokens.proofs.ResolvedParts.{body_taken}
 use Rattle.city_tokens.proofs.body.BodyPartsMemberVisitor.visit_member.Goals as goal
 
 pub returns : goal.returns

@@ -1,9 +1,9 @@
 use Rattle.city_tokens.proofs.Prelude.{IfSome_then}
-use Rattle.city_tokens.proofs.document.placed_objects.Goals as goal
+use Rattle.city_tokens.proofs.document.resolved_objects.Goals as goal
 
 pub returns : goal.returns
 returns c =
-    IfSome_then c.place_objects.result c.place_objects.ensures (λ placed h. (
+    IfSome_then c.resolve_objects.result c.resolve_objects.ensures (λ resolved h. (
       c.in_ok-vertices.vertices,
       c.in_ok-objects.objects,
       c.in_ok-vertices.was,

@@ -1,9 +1,9 @@
 use Rattle.city_tokens.proofs.Prelude.{IfSome_then}
-use Rattle.city_tokens.proofs.document.placed_objects_by.Goals as goal
+use Rattle.city_tokens.proofs.document.resolved_objects_by.Goals as goal
 
 pub returns : goal.returns
 returns g c =
-    IfSome_then c.place_objects_by.result c.place_objects_by.ensures (λ placed h. (
+    IfSome_then c.resolve_objects_by.result c.resolve_objects_by.ensures (λ resolved h. (
       c.in_ok-vertices.vertices,
       c.in_ok-objects.objects,
       c.in_ok-vertices.was,

@@ -1,6 +1,6 @@
 use Rattle.city_tokens.proofs.Prelude.{◌≡◌, Some, arith, read_key}
 use Rattle.city_tokens.proofs.Reading.{member_shorter}
-use Rattle.city_tokens.proofs.part.Tuple2IdUnplacedObjectPart.next_part.Goals as goal
+use Rattle.city_tokens.proofs.part.Tuple2IdUnresolvedObjectPart.next_part.Goals as goal
 
 pub returns-clause-shorter : goal.returns-clause-shorter
 returns-clause-shorter c =

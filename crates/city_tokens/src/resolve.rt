@@ -6,12 +6,12 @@ ghost use Rattle.city_model.specs.Shells.{body_fault};
 ghost use Rattle.city_tokens.specs.object.Bodies.{object_of};
 ghost use Rattle.city_tokens.specs.shape.Geometries.{point_at, shape_of, geometry_of};
 ghost use Rattle.city_tokens.specs.internal.Geometries.{IsShape, IsGeometry};
-ghost use Rattle.city_tokens.specs.internal.Objects.{IsObject, IsPlacedObject};
-ghost use Rattle.city_tokens.specs.internal.Positions.{IsPlaced, IsPosition, points_of};
+ghost use Rattle.city_tokens.specs.internal.Objects.{IsObject, IsResolvedObject};
+ghost use Rattle.city_tokens.specs.internal.Positions.{IsResolved, IsPosition, points_of};
 ghost use Rattle.city_tokens.specs.internal.Standing.{Pairs, IsArrayOf};
 ghost use Rattle.city_tokens.specs.tree.Lists.{list_of};
 
-use crate::object::UnplacedObject;
+use crate::object::UnresolvedObject;
 use crate::vertices::Vertex;
 use city_model::body_fault::body_fault;
 use city_model::object::{Geometries, Geometry, Object, Point, Shape};
@@ -22,23 +22,23 @@ use std::alloc::Global;
 use std::mem::replace;
 
 /// A value with positions, each to be replaced by its point.
-pub trait Places: Sized + Drop {
+pub trait ResolvePositions: Sized + Drop {
     ghost stands: { Self → Data → Type 0 };
 
     ghost reads: { List p.Point → Data → Option Self };
 
     /// Replaces each position by the point of its vertex; `None` if a position names no vertex.
-    fn place(&mut self, alloc: Global, vertices: &[Vertex]) -> Option<()>
+    fn resolve_positions(&mut self, alloc: Global, vertices: &[Vertex]) -> Option<()>
         ensures { IfSome result
-            (λ _. IsPlaced stands (reads (points_of vertices.now)) self.old self.new) };
+            (λ _. IsResolved stands (reads (points_of vertices.now)) self.old self.new) };
 }
 
-impl Places for Point {
+impl ResolvePositions for Point {
     ghost stands = { IsPosition };
 
     ghost reads = { point_at };
 
-    fn place(&mut self, _alloc: Global, vertices: &[Vertex]) -> Option<()> {
+    fn resolve_positions(&mut self, _alloc: Global, vertices: &[Vertex]) -> Option<()> {
         let position = self.x;
         if position < 0 {
             return None;
@@ -49,66 +49,70 @@ impl Places for Point {
     }
 }
 
-fn place_all<T: Places>(alloc: Global, vertices: &[Vertex], unplaced: Vec<T>) -> Option<Vec<T>>
-    ensures { IfSome result (λ placed. Pairs (IsPlaced T.stands (T.reads (points_of vertices.now)))
-        unplaced.items placed.items) }
+fn resolve_all<T: ResolvePositions>(
+    alloc: Global,
+    vertices: &[Vertex],
+    unresolved: Vec<T>,
+) -> Option<Vec<T>>
+    ensures { IfSome result (λ resolved. Pairs (IsResolved T.stands (T.reads (points_of vertices.now)))
+        unresolved.items resolved.items) }
 {
-    let mut items = unplaced;
+    let mut items = unresolved;
     for item in items.iter_mut() {
-        item.place(alloc, vertices)?;
+        item.resolve_positions(alloc, vertices)?;
     }
     Some(items)
 }
 
-impl<T: Places> Places for Sequence<T> {
+impl<T: ResolvePositions> ResolvePositions for Sequence<T> {
     ghost stands = { IsArrayOf T.stands };
 
     ghost reads = { λ points. list_of (T.reads points) };
 
-    fn place(&mut self, alloc: Global, vertices: &[Vertex]) -> Option<()> {
-        let unplaced = replace(self, Sequence::new(alloc)).into_vec();
-        let items = place_all(alloc, vertices, unplaced)?;
+    fn resolve_positions(&mut self, alloc: Global, vertices: &[Vertex]) -> Option<()> {
+        let unresolved = replace(self, Sequence::new(alloc)).into_vec();
+        let items = resolve_all(alloc, vertices, unresolved)?;
         *self = Sequence::from_vec(items);
         Some(())
     }
 }
 
-fn place_shape(alloc: Global, vertices: &[Vertex], shape: &mut Shape) -> Option<()>
+fn resolve_shape(alloc: Global, vertices: &[Vertex], shape: &mut Shape) -> Option<()>
     ensures { IfSome result (λ _. (name : List ℕ) (d : Data) → IsShape shape.old name d
         → shape_of (points_of vertices.now) name d ≡ Some shape.new) }
 {
     match shape {
-        Shape::MultiSurface(surfaces) => surfaces.place(alloc, vertices),
-        Shape::CompositeSurface(surfaces) => surfaces.place(alloc, vertices),
-        Shape::Solid(shells) => shells.place(alloc, vertices),
-        Shape::MultiSolid(solids) => solids.place(alloc, vertices),
-        Shape::CompositeSolid(solids) => solids.place(alloc, vertices),
+        Shape::MultiSurface(surfaces) => surfaces.resolve_positions(alloc, vertices),
+        Shape::CompositeSurface(surfaces) => surfaces.resolve_positions(alloc, vertices),
+        Shape::Solid(shells) => shells.resolve_positions(alloc, vertices),
+        Shape::MultiSolid(solids) => solids.resolve_positions(alloc, vertices),
+        Shape::CompositeSolid(solids) => solids.resolve_positions(alloc, vertices),
     }
 }
 
-impl Places for Geometry {
+impl ResolvePositions for Geometry {
     ghost stands = { IsGeometry };
 
     ghost reads = { geometry_of };
 
-    fn place(&mut self, alloc: Global, vertices: &[Vertex]) -> Option<()> {
-        place_shape(alloc, vertices, &mut self.shape)
+    fn resolve_positions(&mut self, alloc: Global, vertices: &[Vertex]) -> Option<()> {
+        resolve_shape(alloc, vertices, &mut self.shape)
     }
 }
 
 /// The list stands by itself until its points are in their places. From then on all copies share it.
-impl Places for Geometries {
+impl ResolvePositions for Geometries {
     ghost stands = { IsArrayOf IsGeometry };
 
     ghost reads = { λ points. list_of (geometry_of points) };
 
-    fn place(&mut self, alloc: Global, vertices: &[Vertex]) -> Option<()> {
+    fn resolve_positions(&mut self, alloc: Global, vertices: &[Vertex]) -> Option<()> {
         if self.get().len() == 0 {
             return Some(());
         }
-        let unplaced = replace(self, Shared::unshared(Sequence::new(alloc)));
-        let mut geometry = unplaced.into_owned(alloc).ok()?;
-        geometry.place(alloc, vertices)?;
+        let unresolved = replace(self, Shared::unshared(Sequence::new(alloc)));
+        let mut geometry = unresolved.into_owned(alloc).ok()?;
+        geometry.resolve_positions(alloc, vertices)?;
         *self = Shared::new(alloc, geometry).ok()?;
         Some(())
     }
@@ -116,12 +120,12 @@ impl Places for Geometries {
 
 /// Puts points in place of an object's positions, and judges its body at once; `None` if a position
 /// names no vertex, or the body has a fault.
-fn place_object(alloc: Global, vertices: &[Vertex], object: UnplacedObject) -> Option<Object>
-    ensures placed { IfSome result (λ placed. IsPlaced IsObject (object_of (points_of vertices.now)) object placed) }
-    ensures faultless { IfSome result (λ placed. body_fault placed.body ≡ None) }
+fn resolve_object(alloc: Global, vertices: &[Vertex], object: UnresolvedObject) -> Option<Object>
+    ensures resolved { IfSome result (λ resolved. IsResolved IsObject (object_of (points_of vertices.now)) object resolved) }
+    ensures faultless { IfSome result (λ resolved. body_fault resolved.body ≡ None) }
 {
     let (mut body, parents, children) = object.into_parts();
-    body.geometry.place(alloc, vertices)?;
+    body.geometry.resolve_positions(alloc, vertices)?;
     let Ok(None) = body_fault(alloc, &body) else {
         return None;
     };
@@ -135,17 +139,17 @@ fn place_object(alloc: Global, vertices: &[Vertex], object: UnplacedObject) -> O
 
 /// Puts points in place of the positions of all objects; `None` if a position names no vertex, or a
 /// body has a fault.
-pub fn place_objects(
+pub fn resolve_objects(
     alloc: Global,
     vertices: &[Vertex],
-    unplaced: Vec<(Id, UnplacedObject)>,
+    unresolved: Vec<(Id, UnresolvedObject)>,
 ) -> Option<Vec<(Id, Object)>>
-    ensures { IfSome result (λ placed. Pairs (IsPlacedObject (points_of vertices.now)) unplaced.items placed.items) }
+    ensures { IfSome result (λ resolved. Pairs (IsResolvedObject (points_of vertices.now)) unresolved.items resolved.items) }
 {
-    let mut placed = Vec::with_capacity(alloc, unplaced.len()).ok()?;
-    for (id, object) in unplaced {
-        let object = place_object(alloc, vertices, object)?;
-        placed.push((id, object)).ok()?;
+    let mut resolved = Vec::with_capacity(alloc, unresolved.len()).ok()?;
+    for (id, object) in unresolved {
+        let object = resolve_object(alloc, vertices, object)?;
+        resolved.push((id, object)).ok()?;
     }
-    Some(placed)
+    Some(resolved)
 }

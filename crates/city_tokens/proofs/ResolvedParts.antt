@@ -1,7 +1,7 @@
--- Trees read by their placed parts: objects, bodies of commands, and commands.
+-- Trees read by their resolved parts: objects, bodies of commands, and commands.
 use Rattle.city_tokens.proofs.Prelude.{◌≡◌, ℕ, List, [], ◌∷◌, Option, Some, None, refl, sym, Bool, true, false, codes, Data}
 use Rattle.city_tokens.proofs.Prelude.{array, no_items, Members, put, get, get_member, as_str, items_of, Geometry}
-use Rattle.city_tokens.proofs.Prelude.{Point, object_of, geometry_of, IsGeometry, IsObject, IsObjectSoFar, IsPlaced}
+use Rattle.city_tokens.proofs.Prelude.{Point, object_of, geometry_of, IsGeometry, IsObject, IsObjectSoFar, IsResolved}
 use Rattle.city_tokens.proofs.Prelude.{Pairs, IsArrayOf, IsListSlot, IsString, IsTaken, IsPassed, read_items, list_of}
 use Rattle.city_tokens.proofs.Prelude.{Token, Object, Body, ObjectParts, IsCommand, Command, command_of}
 use Rattle.city_tokens.specs.tree.Lists.{list_or_absent}
@@ -13,35 +13,35 @@ use Rattle.city_tokens.proofs.tree.Puts.{get_member-put_apart}
 use Rattle.city_model.specs.declared.command.Command.TheVariants.{Put, Add, Reshape}
 
 module _ {A : Type 0} (R : A → Data → Type 0) (reads : Data → Option A) where
-  items_placed : (xs ys : List A) (ds : List Data) → Pairs R xs ds → Pairs (IsPlaced R reads) xs ys
+  items_resolved : (xs ys : List A) (ds : List Data) → Pairs R xs ds → Pairs (IsResolved R reads) xs ys
       → read_items reads (items_of ds) ≡ Some ys
-  items_placed [] [] [] h p = refl
-  items_placed (x ∷ xs) (y ∷ ys) (d ∷ ds) h p = rw (p.0 d h.0, items_placed xs ys ds h.1 p.1) refl
-  items_placed _ _ _ h p = search
+  items_resolved [] [] [] h p = refl
+  items_resolved (x ∷ xs) (y ∷ ys) (d ∷ ds) h p = rw (p.0 d h.0, items_resolved xs ys ds h.1 p.1) refl
+  items_resolved _ _ _ h p = search
 
-  pub array_placed : (xs ys : List A) → Pairs (IsPlaced R reads) xs ys → IsPlaced (IsArrayOf R) (list_of reads) xs ys
-  array_placed xs ys p d h = rw h.1 (items_placed xs ys h.0 h.2 p)
+  pub array_resolved : (xs ys : List A) → Pairs (IsResolved R reads) xs ys → IsResolved (IsArrayOf R) (list_of reads) xs ys
+  array_resolved xs ys p d h = rw h.1 (items_resolved xs ys h.0 h.2 p)
 
-  pub slot_placed : (xs ys : List A) (member : Option Data) → IsPlaced (IsArrayOf R) (list_of reads) xs ys
+  pub slot_resolved : (xs ys : List A) (member : Option Data) → IsResolved (IsArrayOf R) (list_of reads) xs ys
       → IsListSlot R xs member → list_or_absent reads member ≡ Some ys
-  slot_placed xs ys None p h = p (array no_items) ([], refl, rw h tt)
-  slot_placed xs ys (Some d) p h = p d h
+  slot_resolved xs ys None p h = p (array no_items) ([], refl, rw h tt)
+  slot_resolved xs ys (Some d) p h = p d h
 
-strings_same : (xs : List (List ℕ)) → Pairs (IsPlaced IsString as_str) xs xs
+strings_same : (xs : List (List ℕ)) → Pairs (IsResolved IsString as_str) xs xs
 strings_same [] = tt
 strings_same (x ∷ xs) = (λ d h. h, strings_same xs)
 
 pub strings_read : (xs : List (List ℕ)) (member : Option Data) → IsListSlot IsString xs member
     → list_or_absent as_str member ≡ Some xs
 strings_read xs member h =
-    slot_placed IsString as_str xs xs member (array_placed IsString as_str xs xs (strings_same xs)) h
+    slot_resolved IsString as_str xs xs member (array_resolved IsString as_str xs xs (strings_same xs)) h
 
--- an object with placed geometries
-pub object_placed : (points : List Point) (o : Object) (geometry : List Geometry)
-    → IsPlaced (IsArrayOf IsGeometry) (list_of (geometry_of points)) o.body.geometry geometry → (d : Data)
+-- an object with resolved geometries
+pub object_resolved : (points : List Point) (o : Object) (geometry : List Geometry)
+    → IsResolved (IsArrayOf IsGeometry) (list_of (geometry_of points)) o.body.geometry geometry → (d : Data)
     → IsObject o d → object_of points d ≡ Some (record o { body = record (o.body) { geometry = geometry } })
-object_placed points o geometry placed d h =
-    let shaped = slot_placed IsGeometry (geometry_of points) o.body.geometry geometry _ placed h.geometry in
+object_resolved points o geometry resolved d h =
+    let shaped = slot_resolved IsGeometry (geometry_of points) o.body.geometry geometry _ resolved h.geometry in
     let parents = strings_read o.parents _ h.parents in
     let children = strings_read o.children _ h.children in
     rw (h.is, h.kind, shaped, h.extra, parents, children) refl
@@ -64,45 +64,45 @@ body_taken false old new name depth before after parents children h =
     (h.0, λ d found kept was. search (h.1 d found kept was.0, absent))
 
 module _ (points : List Point) (b : Body) (new : List Geometry)
-    (placed : IsPlaced (IsArrayOf IsGeometry) (list_of (geometry_of points)) b.geometry new) where
-  -- the body of a tree, its geometries placed
-  body_placed : (d : Data) → IsBody b d → unrelated_body points d ≡ Some (record b { geometry = new })
-  body_placed d h =
+    (resolved : IsResolved (IsArrayOf IsGeometry) (list_of (geometry_of points)) b.geometry new) where
+  -- the body of a tree, its geometries resolved
+  body_resolved : (d : Data) → IsBody b d → unrelated_body points d ≡ Some (record b { geometry = new })
+  body_resolved d h =
       let o = h.2 in
-      let shaped = slot_placed IsGeometry (geometry_of points) b.geometry new _ placed o.geometry in
+      let shaped = slot_resolved IsGeometry (geometry_of points) b.geometry new _ resolved o.geometry in
       rw (h.3, o.is, o.kind, shaped, o.extra) refl
 
   -- commands of such a body
-  pub put_placed : (c : Command) (id : List ℕ) → c ≡ Put id b
-      → IsPlaced IsCommand (command_of points) c (Put id (record b { geometry = new }))
-  put_placed c id is d h =
+  pub put_resolved : (c : Command) (id : List ℕ) → c ≡ Put id b
+      → IsResolved IsCommand (command_of points) c (Put id (record b { geometry = new }))
+  put_resolved c id is d h =
       let put : IsCommand (Put id b) d = rw is at h in
-      rw (put.1, body_placed put.0 put.2) refl
+      rw (put.1, body_resolved put.0 put.2) refl
 
-  pub add_placed : (c : Command) (id : List ℕ) → c ≡ Add id b
-      → IsPlaced IsCommand (command_of points) c (Add id (record b { geometry = new }))
-  add_placed c id is d h =
+  pub add_resolved : (c : Command) (id : List ℕ) → c ≡ Add id b
+      → IsResolved IsCommand (command_of points) c (Add id (record b { geometry = new }))
+  add_resolved c id is d h =
       let add : IsCommand (Add id b) d = rw is at h in
-      rw (add.1, body_placed add.0 add.2) refl
+      rw (add.1, body_resolved add.0 add.2) refl
 
 -- such a body
 pub body_is : (b new : Body) → new.kind ≡ b.kind → new.extra ≡ b.extra → record b { geometry = new.geometry } ≡ new
 body_is b new kind extra = λ i. record { kind = sym kind i; geometry = new.geometry; extra = sym extra i }
 
 -- a command of geometries alone
-pub reshape_placed : (points : List Point) (c : Command) (id : List ℕ) (old new : List Geometry) → c ≡ Reshape id old
-    → IsPlaced (IsArrayOf IsGeometry) (list_of (geometry_of points)) old new
-    → IsPlaced IsCommand (command_of points) c (Reshape id new)
-reshape_placed points c id old new is placed d h =
+pub reshape_resolved : (points : List Point) (c : Command) (id : List ℕ) (old new : List Geometry) → c ≡ Reshape id old
+    → IsResolved (IsArrayOf IsGeometry) (list_of (geometry_of points)) old new
+    → IsResolved IsCommand (command_of points) c (Reshape id new)
+reshape_resolved points c id old new is resolved d h =
     let reshape : IsCommand (Reshape id old) d = rw is at h in
     let member = get (codes "geometry") reshape.0 in
-    rw (reshape.1, slot_placed IsGeometry (geometry_of points) old new member placed reshape.2) refl
+    rw (reshape.1, slot_resolved IsGeometry (geometry_of points) old new member resolved reshape.2) refl
 
 -- a command without any
-pub unplaced : (points : List Point) (c : Command) → ((id : List ℕ) (b : Body) → c ≡ Put id b → ⊥)
+pub unresolved : (points : List Point) (c : Command) → ((id : List ℕ) (b : Body) → c ≡ Put id b → ⊥)
     → ((id : List ℕ) (b : Body) → c ≡ Add id b → ⊥) → ((id : List ℕ) (gs : List Geometry) → c ≡ Reshape id gs → ⊥)
-    → IsPlaced IsCommand (command_of points) c c
-unplaced points (Put id b) put add reshape d h = absurd (put id b refl)
-unplaced points (Add id b) put add reshape d h = absurd (add id b refl)
-unplaced points (Reshape id gs) put add reshape d h = absurd (reshape id gs refl)
-unplaced points c put add reshape d h = h points
+    → IsResolved IsCommand (command_of points) c c
+unresolved points (Put id b) put add reshape d h = absurd (put id b refl)
+unresolved points (Add id b) put add reshape d h = absurd (add id b refl)
+unresolved points (Reshape id gs) put add reshape d h = absurd (reshape id gs refl)
+unresolved points c put add reshape d h = h points
