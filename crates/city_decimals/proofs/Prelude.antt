@@ -51,7 +51,7 @@ pub use Rattle.city_decimals.specs.internal.Compact.{value_text}
 pub use Rattle.city_decimals.specs.internal.Copies.{IsPlainByte, Moves}
 pub use Rattle.city_decimals.specs.internal.Forms.{tokens_after}
 pub use Rattle.city_decimals.specs.internal.Objects.{decoded_object}
-pub use Rattle.city_decimals.specs.internal.Passed.{ArePassed, front_text}
+pub use Rattle.city_decimals.specs.internal.Passed.{ArePassed}
 pub use Rattle.city_decimals.specs.internal.PlainNumbers.{IsPlain}
 pub use Rattle.city_decimals.specs.internal.Streams.{written}
 pub use Rattle.city_decimals.specs.internal.Directions.{changed, frame_changed, items_changed, member_changed, members_changed}
