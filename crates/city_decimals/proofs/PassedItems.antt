@@ -117,7 +117,8 @@ items_passed way later limit (item j js) a b d h low moves rest =
       j = j;
       moves = (
         moves.0 ∙ append_assoc comma (value_text j ++ more) b.2
-            ∙ ap (λ r. comma ++ r) (append_assoc (value_text j) more b.2) ∙ sym (append_assoc comma (value_text j) (more ++ b.2)),
+            ∙ ap (λ r. comma ++ r) (append_assoc (value_text j) more b.2)
+            ∙ sym (append_assoc comma (value_text j) (more ++ b.2)),
         ap (λ i. a.1 ++ (comma ++ value_text i)) (sym same),
       );
       numbers = h.0.0;
@@ -156,7 +157,8 @@ passed_shorter later limit a b result passed = search (arith, length-append)
 pub number_passes : (text s : List ℕ) (at n : ℕ) → IsKept s → take n (drop at text) ≡ s → IsPassed text at (at + n)
 number_passes text s at n kept is level later limit end low rest =
     item_goes level later limit (number s) (comma_if later ++ drop at text) (drop (at + n) text) end
-    (ap (λ r. comma_if later ++ r) (sym (take-append-drop n (drop at text)) ∙ ap₂ (λ x y. x ++ y) is (drop-drop n at text)))
+    (ap (λ r. comma_if later ++ r) (sym (take-append-drop n (drop at text))
+    ∙ ap₂ (λ x y. x ++ y) is (drop-drop n at text)))
     (same_number s kept.0 kept.1) (omega (arith, low)) rest
 
 pub drop_comma : (text : List ℕ) (at : ℕ) → at < length text → get_or text at 0 ≡ 44

@@ -44,10 +44,12 @@ negative_is_kept s p first =
     by found.0 found.1 found.2
   where
     by : (n : ℕ) → n < 10 ^ 18 → decimal n ≡ s → IsKept (45 ∷ s)
-    by zero small is = absurd (omega (arith, first, ap (λ t. get_or t 0 0) (sym is ∙ sym (sym (decimal_digit 0 (omega arith))))))
+    by zero small is =
+        absurd (omega (arith, first, ap (λ t. get_or t 0 0) (sym is ∙ sym (sym (decimal_digit 0 (omega arith))))))
     by (suc n) small is =
         let text : signed_decimal (negsuc n) ≡ 45 ∷ s = ap (λ t. 45 ∷ t) is in
-        let read : number_of (45 ∷ s) ≡ Some (negative (negsuc n)) = ap number_of (sym text) ∙ number_of-negative n (omega (arith, small)) in (
+        let read : number_of (45 ∷ s) ≡ Some (negative (negsuc n)) =
+        ap number_of (sym text) ∙ number_of-negative n (omega (arith, small)) in (
           subst IsNumber text (IsNumber-signed_decimal (negsuc n) (omega (arith, small))),
           ap (is_written_so (45 ∷ s)) read ∙ (bytes_eq-Decides _ _).1 text,
         )
@@ -70,7 +72,8 @@ digits_are_plain text n some few is first =
 pub digits_kept : (text : List ℕ) (at n : ℕ) → 0 < n → n ≤ 18 → n ≡ prefix_len is_ascii_digit (drop at text)
     → (get_or text at 0 ≡ 48 → n ≤ 1) → IsKept (take n (drop at text))
 digits_kept text at n some few is first =
-    let here : get_or (drop at text) 0 0 ≡ get_or text at 0 = get_or-drop at text 0 0 ∙ ap (λ i. get_or text i 0) (omega arith) in
+    let here : get_or (drop at text) 0 0 ≡ get_or text at 0 =
+    get_or-drop at text 0 0 ∙ ap (λ i. get_or text i 0) (omega arith) in
     plain_is_kept _ (digits_are_plain (drop at text) n some few is (λ e. first (sym here ∙ e)))
 
 -- and behind a minus sign
@@ -79,7 +82,8 @@ pub negative_kept : (text : List ℕ) (at n : ℕ) → at < length text → get_
     → IsKept (take (1 + n) (drop at text))
 negative_kept text at n h minus some few is no_zero =
     let rest = drop (at + 1) text in
-    let here : get_or rest 0 0 ≡ get_or text (at + 1) 0 = get_or-drop (at + 1) text 0 0 ∙ ap (λ i. get_or text i 0) (omega arith) in
+    let here : get_or rest 0 0 ≡ get_or text (at + 1) 0 =
+    get_or-drop (at + 1) text 0 0 ∙ ap (λ i. get_or text i 0) (omega arith) in
     let p = digits_are_plain rest n some few is (λ e. absurd (no_zero (sym here ∙ e))) in
     let front : get_or (take n rest) 0 0 ≡ get_or text (at + 1) 0 = get_or-take n rest 0 0 some ∙ here in
     let low = (p.digits 0 p.some).0 in
