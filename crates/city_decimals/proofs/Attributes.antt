@@ -1,11 +1,8 @@
 -- The output for the value of a member `attributes`, in either direction.
 use Rattle.city_decimals.proofs.Prelude.{arith, ◌≡◌, ℕ, ◌-◌, ◌<◌, ◌≤◌, List, [], ◌∷◌, ◌++◌, length, Option, Some, None}
-use Rattle.city_decimals.proofs.Prelude.{refl, sym, ap, ◌∙◌, append_assoc, Token, Json, null, boolean, number, string}
-use Rattle.city_decimals.proofs.Prelude.{array, object, Items, no_items, item, Members, Parse, parse_map, value}
-use Rattle.city_decimals.proofs.Prelude.{after_end_array, json_tokens, items_tokens, changed, items_changed, written}
-use Rattle.city_decimals.proofs.Prelude.{Direction, Encode, Decode, suc, false, cond, only, decoded, decoded_members}
-use Rattle.city_decimals.proofs.Prelude.{number_in}
-use Rattle.std.proofs.Common.{zero}
+use Rattle.city_decimals.proofs.Prelude.{refl, sym, ap, ◌∙◌, append_assoc, Token, Json, number, array, Items, no_items}
+use Rattle.city_decimals.proofs.Prelude.{item, Parse, parse_map, value, after_end_array, json_tokens, items_tokens}
+use Rattle.city_decimals.proofs.Prelude.{changed, items_changed, written, Direction}
 use Rattle.std.specs.Borrow.{Bor}
 use Rattle.json.proofs.Grammar.{items_end, items_more}
 use Rattle.json.specs.Json.{items}
@@ -13,7 +10,6 @@ use Rattle.json.specs.Reads.{token_of}
 use Rattle.json.specs.declared.token.Token.TheVariants.{BeginArray, Number}
 use Rattle.json.specs.declared.token.Token as read
 use Rattle.city_decimals.specs.internal.Directions.{attributes_changed}
-use Rattle.city_decimals.proofs.Insides.{no_single}
 use Rattle.city_decimals.proofs.Starts.{first, first_token}
 
 -- ---- neither a number nor an array
@@ -24,26 +20,14 @@ no_bracket t other e = grind arith
 no_number : (t : read.Token) → ((x : Bor (List ℕ)) → t ≡ Number x → ⊥) → (s : List ℕ) → token_of t ≡ Token.number s → ⊥
 no_number t other s e = grind arith
 
-object_changed : (way : Direction) (ms : Members) → attributes_changed way (object ms) ≡ changed way (object ms)
-object_changed Encode ms = refl
-object_changed Decode ms =
-    ap (λ b. cond b (only (decoded (object ms))) (decoded (object ms)))
-    (no_single (number_in ms) (decoded_members false ms))
-
 other_changed : (way : Direction) (t : Token) (j : Json) → t ≡ first j → (t ≡ Token.begin_array → ⊥)
     → ((s : List ℕ) → t ≡ Token.number s → ⊥) → attributes_changed way j ≡ changed way j
-other_changed way t null is no_array no_number = grind arith
-other_changed way t (boolean b) is no_array no_number = grind arith
-other_changed way t (number s) is no_array no_number = absurd (no_number s is)
-other_changed way t (string s) is no_array no_number = grind arith
-other_changed way t (array js) is no_array no_number = absurd (no_array is)
-other_changed way t (object ms) is no_array no_number = object_changed way ms
+other_changed way t j is no_array no_number = grind arith
 
 pub attributes_other : (way : Direction) (d : ℕ) (t : read.Token) (ts : List Token) (j : Json) (r : List Token)
     → (t ≡ BeginArray → ⊥) → ((x : Bor (List ℕ)) → t ≡ Number x → ⊥) → value d (token_of t ∷ ts) ≡ Some (j, r)
     → attributes_changed way j ≡ changed way j
-attributes_other way d t ts j r one two is =
-    other_changed way (token_of t) j (first_token d (token_of t) ts j r is) (no_bracket t one) (no_number t two)
+attributes_other way d t ts j r one two is = search (arith, other_changed, first_token, no_bracket, no_number)
 
 -- ---- arrays
 
@@ -60,9 +44,7 @@ module _ (p : Parse Json) (way : Direction) where
 
   pub attributes_end : (n : ℕ) (out ts r : List Token) → length ts ≤ n → after_end_array ts ≡ Some r
       → written tokens_under out (items p n ts) ≡ Some (out ++ Token.begin_array ∷ Token.end_array ∷ [], r)
-  attributes_end n out ts r enough e =
-      ap (written tokens_under out) (items_end p n ts r enough e)
-      ∙ ap (λ j. Some (out ++ json_tokens j, r)) (none_changed way)
+  attributes_end n out ts r enough e = search (arith, written, items_end, json_tokens, none_changed)
 
   pub attributes_single : (n : ℕ) (out now ts s r : List Token) (j : Json) → length ts ≤ n → length s < length ts
       → after_end_array ts ≡ None → p ts ≡ Some (j, s) → after_end_array s ≡ Some r
@@ -76,8 +58,7 @@ module _ (p : Parse Json) (way : Direction) where
   several_items : (n : ℕ) (s r : List Token) (js : Items) → after_end_array s ≡ None → items p n s ≡ Some (js, r)
       → (i : Json) × (more : Items) × (js ≡ item i more)
   unfolding items
-  several_items zero s r js going e = grind arith
-  several_items (suc n) s r js going e = grind arith
+  several_items n s r js going e = grind arith
 
   several_written : (n : ℕ) (out now s : List Token) (j : Json) → after_end_array s ≡ None
       → now ≡ (out ++ Token.begin_array ∷ []) ++ json_tokens (changed way j)

@@ -1,5 +1,6 @@
 -- A changed text, as in the public contracts.
-use Rattle.city_decimals.proofs.Prelude.{arith, ◌≡◌, ℕ, List, [], ◌++◌, IsUtf8, IsDecodedLine, IsChanged, Direction, Decode}
+use Rattle.city_decimals.proofs.Prelude.{arith, ◌≡◌, ℕ, List, [], ◌++◌, IsUtf8, IsDecodedLine, IsChanged, Direction}
+use Rattle.city_decimals.proofs.Prelude.{Decode}
 
 pub changed_decoded : (limit : ℕ) (text out : List ℕ) → IsChanged limit Decode text out → IsDecodedLine text out
 changed_decoded limit text out h = (limit, h.j, h.value, h.out_is)

@@ -223,8 +223,7 @@ bare_value : (k key : List ℕ) (j : Json) (text rest : List ℕ) → key ≡ es
     → text ≡ value_text j ++ rest → (bytes_eq key (codes "attributes") ≡ true → BeginsBare text)
     → is_attributes k ≡ true → is_bare j ≡ true
 bare_value k key j text rest is h e begins at =
-    begins_bare j text rest h e (begins ((bytes_eq-Decides key (codes "attributes")).1 (is
-    ∙ ap escape ((bytes_eq-Decides k (codes "attributes")).0 at) ∙ escaped_attributes)))
+    search (arith, begins_bare, bytes_eq-Decides, codes, escape, escaped_attributes)
 
 pub member_plain : (f : Json → Json) (m : Bool → List ℕ → Json → Json)
     → ((top : Bool) (k : List ℕ) (j : Json) → (top && is_transform k j) ≡ false → is_tag k ≡ false
@@ -233,11 +232,8 @@ pub member_plain : (f : Json → Json) (m : Bool → List ℕ → Json → Json)
     → bytes_eq key (35 ∷ []) ≡ false → (top && bytes_eq key (codes "transform")) ≡ false
     → (bytes_eq key (codes "attributes") ≡ true → BeginsBare b.2) → IsCopied f limit b d
     → IsMemberCopied (m top) later limit a d
-member_plain f m form later top limit a b d key (k, is, passed) other no_frame begins rest =
-    let untagged = untagged_key k key is other in
-    member_of f (m top) later limit a b d k rest.j passed rest.moves (form top k rest.j
-    (not_framed top k key rest.j is no_frame) untagged
-    (bare_value k key rest.j b.2 d.2 is rest.numbers rest.moves.0 begins)) untagged rest.numbers rest.shallow
+member_plain f m form later top limit a b d key named other no_frame begins rest =
+    search (arith, untagged_key, member_of, not_framed, bare_value)
 
 pub member_framed : (f : Json → Json) (m : Bool → List ℕ → Json → Json)
     → ((top : Bool) (k : List ℕ) (j : Json) → top ≡ true → is_transform k j ≡ true → m top k j ≡ f j)

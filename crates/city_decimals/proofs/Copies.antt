@@ -17,9 +17,7 @@ take_plus a n xs =
 
 -- the text left to read, after n more bytes
 pub rest_more : (text rest : List ℕ) (at n : ℕ) → drop at text ≡ rest → rest ≡ take n rest ++ drop (at + n) text
-rest_more text rest at n is =
-    sym (take-append-drop n rest)
-    ∙ ap (λ r. take n rest ++ r) (ap (drop n) (sym is) ∙ drop-drop n at text)
+rest_more text rest at n is = grind (arith, take-append-drop n rest, drop-drop n at text)
 
 -- the piece not yet written, with n more bytes
 pub piece_more : (before text rest now : List ℕ) (start at n : ℕ) → start ≤ at → drop at text ≡ rest

@@ -1,14 +1,13 @@
 -- A value is changed part by part, in either direction.
 use Rattle.city_decimals.proofs.Prelude.{arith, ◌≡◌, ℕ, List, [], ◌∷◌, ◌++◌, Bool, true, false, Some, ap, Json, null}
-use Rattle.city_decimals.proofs.Prelude.{boolean, string, array, object, Items, no_items, item, Members}
-use Rattle.city_decimals.proofs.Prelude.{no_members, member, value, Token, json_tokens, items_tokens, members_tokens}
-use Rattle.city_decimals.proofs.Prelude.{is_attributes, is_tag, is_transform, IsUntagged, top_changed, changed}
-use Rattle.city_decimals.proofs.Prelude.{items_changed, members_changed, member_changed, frame_changed, object_made}
-use Rattle.city_decimals.proofs.Prelude.{Direction, Encode, Decode}
+use Rattle.city_decimals.proofs.Prelude.{boolean, string, array, object, Items, no_items, item, Members, no_members}
+use Rattle.city_decimals.proofs.Prelude.{member, value, Token, json_tokens, items_tokens, members_tokens, is_attributes}
+use Rattle.city_decimals.proofs.Prelude.{is_tag, is_transform, IsUntagged, top_changed, changed, items_changed}
+use Rattle.city_decimals.proofs.Prelude.{members_changed, member_changed, frame_changed, object_made, Direction, Encode}
+use Rattle.city_decimals.proofs.Prelude.{Decode}
 use Rattle.std.proofs.Common.{◌&&◌}
 use Rattle.city_decimals.specs.internal.Forms.{is_bare}
 use Rattle.city_decimals.specs.internal.Directions.{is_decode}
-use Rattle.city_decimals.proofs.Bare.{not_shielded, no_shield}
 use Rattle.city_decimals.proofs.Starts.{encoded_other, decoded_other}
 
 pub string_changed : (way : Direction) (s : List ℕ) → changed way (string s) ≡ string s
@@ -53,8 +52,7 @@ member_tokens way top k j ms = ap members_tokens (first_changed way top k j ms)
 -- a member neither under the tag nor in a frame nor of a shield has no form
 pub plain_member : (way : Direction) (top : Bool) (k : List ℕ) (j : Json) → (top && is_transform k j) ≡ false
     → is_tag k ≡ false → (is_attributes k ≡ true → is_bare j ≡ true) → member_changed way top k j ≡ changed way j
-plain_member way top k j no_frame untagged bare =
-    grind (arith, not_shielded k j untagged bare, no_shield k j untagged bare)
+plain_member way top k j no_frame untagged bare = search arith
 
 -- a transform at the top is framed
 pub framed_member : (way : Direction) (top : Bool) (k : List ℕ) (j : Json) → top ≡ true → is_transform k j ≡ true

@@ -1,10 +1,9 @@
 -- Setting, taking out and expecting members has the same effect on members as read as on the members themselves.
-use Rattle.city_decimals.proofs.Prelude.{arith, ◌≡◌, ℕ, List, [], ◌∷◌, Bool, true, false, cond, Option, Some, None}
-use Rattle.city_decimals.proofs.Prelude.{Ordering, refl, sym, ap, ◌∙◌, subst, option_map, option_and_then}
-use Rattle.city_decimals.proofs.Prelude.{match_ordering, bytes_eq, bytes_eq-Decides, MembersHaveNumbers}
-use Rattle.city_decimals.proofs.Prelude.{Data, put, of_json, of_members, Some_inj, is_whole, in_form, tagged, encoded}
-use Rattle.city_decimals.proofs.Prelude.{encoded_members, number_or, has_shield, only, decoded, decoded_members, Plain}
-use Rattle.city_decimals.proofs.Prelude.{Shielded, is_shielded}
+use Rattle.city_decimals.proofs.Prelude.{arith, ◌≡◌, ℕ, List, [], ◌∷◌, Bool, false, cond, Option, Some, None, Ordering}
+use Rattle.city_decimals.proofs.Prelude.{refl, sym, ap, ◌∙◌, subst, option_map, option_and_then, match_ordering}
+use Rattle.city_decimals.proofs.Prelude.{bytes_eq, bytes_eq-Decides, MembersHaveNumbers, Data, put, of_json, of_members}
+use Rattle.city_decimals.proofs.Prelude.{Some_inj, is_whole, in_form, tagged, encoded, encoded_members, number_or}
+use Rattle.city_decimals.proofs.Prelude.{has_shield, only, decoded, decoded_members, Plain, Shielded, is_shielded}
 use Rattle.std.proofs.Common.{Less, Equal, Greater, ◌||◌}
 use Rattle.std.specs.Prelude.{◌↔◌, is_some, not}
 use Rattle.std.proofs.lemmas.Map.Lookups.{exact_bytes}
@@ -39,15 +38,11 @@ ordered_read (json.member k j ms) found ds read h =
 
 members_back : (ms : json.Members) (ds : Members) → MembersHaveNumbers ms → AreRead ms ds
     → decoded_members false (members_outline ds) ≡ arranged_members ms json.no_members
-members_back ms ds h read =
-    let k = members_kept ms h no_members json.no_members refl tt in
-    ap (λ ds. decoded_members false (members_outline ds)) (Some_inj _ _ (sym read ∙ k.read)) ∙ k.back
+members_back ms ds h read = grind (arith, members_kept ms h no_members json.no_members refl tt)
 
 object_back : (ms : json.Members) (ds : Members) → MembersHaveNumbers ms → AreRead ms ds
     → decoded (outline (object ds)) ≡ arranged (json.object ms)
-object_back ms ds h read =
-    let k = kept (json.object ms) h in
-    ap (λ d. decoded (outline d)) (Some_inj _ _ (sym (ap (option_map object) read) ∙ k.read)) ∙ k.back
+object_back ms ds h read = grind (arith, kept (json.object ms) h)
 
 -- ---- found members
 
@@ -59,13 +54,7 @@ at_step : (name k : List ℕ) (j : json.Json) (x : Data) (found : Members) (late
     → bytes_eq k name ≡ b → member_read k j ≡ Some x
     → found_or name later (get_member name (put k x found))
     ≡ found_or name (find.later_or later (cond b (Some j) None)) (get_member name found)
-at_step name k j x found (Some i) b e is = refl
-at_step name k j x found None true e is =
-    let same = (bytes_eq-Decides k name).0 e in
-    ap (λ n. get_member n (put k x found)) (sym same) ∙ get_member-put k x found ∙ sym is
-    ∙ ap (λ n. member_read n j) same
-at_step name k j x found None false e is =
-    get_member-put_other name k x found (λ same. absurd (cc (e, (bytes_eq-Decides k name).1 (sym same))))
+at_step name k j x found later b e is = search (arith, bytes_eq-Decides, put, get_member-put, get_member-put_other)
 
 read_at : (name : List ℕ) (ms : json.Members) (found ds : Members) → more ms found ≡ Some ds
     → get_member name ds ≡ found_or name (find.get_member name ms) (get_member name found)
@@ -135,13 +124,8 @@ out_step : (b : Bool) (name k : List ℕ) (j : json.Json) (x : Data) (ms : json.
     → bytes_eq name k ≡ b → AreOrdered found → member_read k j ≡ Some x
     → more (leave_out name ms) (without name (put k x found)) ≡ Some ds
     → more (cond b (leave_out name ms) (json.member k j (leave_out name ms))) (without name found) ≡ Some ds
-out_step true name k j x ms found ds e h is rest =
-    let same = (bytes_eq-Decides name k).0 e in
-    ap (more (leave_out name ms)) (sym (ap (λ n. without name (put n x found)) (sym same)
-    ∙ without_same name x found)) ∙ rest
-out_step false name k j x ms found ds e h is rest =
-    ap (option_and_then (λ d. more (leave_out name ms) (put k d (without name found)))) is
-    ∙ ap (more (leave_out name ms)) (sym (without_other name k x found e h)) ∙ rest
+out_step b name k j x ms found ds e h is rest =
+    search (arith, bytes_eq-Decides, put, without_same, option_and_then, without_other)
 
 read_without : (name : List ℕ) (ms : json.Members) (found ds : Members) → AreOrdered found → more ms found ≡ Some ds
     → more (leave_out name ms) (without name found) ≡ Some (without name ds)
@@ -261,9 +245,7 @@ decoded_at name (member l x ds) h =
 same_there : (k : List ℕ) (d : Data) (o : Option Data) → member_read k (value_at k d) ≡ Some d
     → ((e : Data) → o ≡ Some e → member_read k (value_at k e) ≡ Some e)
     → option_map (value_at k) o ≡ Some (value_at k d) → o ≡ Some d
-same_there k d None h hs e = grind arith
-same_there k d (Some x) h hs e =
-    sym (hs x refl) ∙ ap (member_read k) (Some_inj _ _ e) ∙ h
+same_there k d o h hs e = grind arith
 
 among_within : (es ds : Members) → AreOrdered ds → AreAmong es ds
     → AreWithin (decoded_members false (members_outline es)) (decoded_members false (members_outline ds))
@@ -284,16 +266,7 @@ pub expect_kept : (a s : json.Members) (ds es : Members) → MembersHaveNumbers 
     → AreRead s es
     → AreAmong es ds ↔ AreWithin (arranged_members s json.no_members) (arranged_members a json.no_members)
 expect_kept a s ds es h g read expected =
-    let order = ordered_read a no_members ds read tt in
-    let here = members_back a ds h read in
-    let wanted = members_back s es g expected in (
-      λ all. subst (λ ms. AreWithin ms (arranged_members a json.no_members)) wanted
-          (subst (AreWithin (decoded_members false (members_outline es))) here (among_within es ds order all)),
-      λ all. within_among es ds order (again_read s no_members es g expected tt)
-          (again_read a no_members ds h read tt)
-          (subst (AreWithin (decoded_members false (members_outline es))) (sym here)
-          (subst (λ ms. AreWithin ms (arranged_members a json.no_members)) (sym wanted) all)),
-    )
+    search (arith, ordered_read, members_back, decoded_members, among_within, within_among, again_read)
 
 -- ---- written in their place
 

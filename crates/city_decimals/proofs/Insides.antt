@@ -1,12 +1,10 @@
 -- The value in a form is the same whether it is decoded first or last.
 use Rattle.city_decimals.proofs.Prelude.{◌≡◌, ℕ, ◌≤◌, List, Bool, true, false, cond, None, length, refl, arith, ◌&&◌}
 use Rattle.city_decimals.proofs.Prelude.{Json, object, Members, json_tokens, HasNumbers, is_tag, is_frame, is_transform}
-use Rattle.city_decimals.proofs.Prelude.{number, string, array, boolean, null, no_items, item, Option, has_shield}
-use Rattle.city_decimals.proofs.Prelude.{is_text, is_single, Token, [], ◌∷◌, ◌++◌, append_assoc, member, members_tokens}
-use Rattle.city_decimals.proofs.Prelude.{is_attributes, number_or, decoded_members, ap, only, fronted, number_in}
+use Rattle.city_decimals.proofs.Prelude.{has_shield, is_single, Token, [], ◌∷◌, ◌++◌, append_assoc, member}
+use Rattle.city_decimals.proofs.Prelude.{members_tokens, is_attributes, decoded_members, ap, only, fronted, number_in}
 use Rattle.city_decimals.proofs.Prelude.{out_of_form, decoded}
 use Rattle.std.proofs.Common.{◌||◌}
-use Rattle.std.specs.Prelude.{not}
 use Rattle.std.proofs.lemmas.List.{length-append}
 use Rattle.city_decimals.specs.internal.Inner.{front, inner}
 use Rattle.city_decimals.proofs.Bools.{and_right}
@@ -21,30 +19,8 @@ only_decoded b j = grind arith
 front_decoded : (j : Json) → is_frame j ≡ true → decoded (front j) ≡ fronted (decoded j)
 front_decoded j h = grind arith
 
--- a number or an object is neither a text nor an array of one
-no_text : (o : Option (List ℕ)) (ms : Members) → is_text (number_or o ms) ≡ false
-no_text o ms = grind arith
-
-pub no_single : (o : Option (List ℕ)) (ms : Members) → is_single (number_or o ms) ≡ false
-no_single o ms = grind arith
-
-text_decoded : (j : Json) → is_text (decoded j) ≡ is_text j
-text_decoded null = refl
-text_decoded (boolean b) = refl
-text_decoded (number s) = refl
-text_decoded (string s) = refl
-text_decoded (array js) = refl
-text_decoded (object ms) = no_text (number_in ms) (decoded_members false ms)
-
 pub single_decoded : (j : Json) → is_single (decoded j) ≡ is_single j
-single_decoded null = refl
-single_decoded (boolean b) = refl
-single_decoded (number s) = refl
-single_decoded (string s) = refl
-single_decoded (array no_items) = refl
-single_decoded (array (item j no_items)) = ap not (text_decoded j)
-single_decoded (array (item j (item i js))) = refl
-single_decoded (object ms) = no_single (number_in ms) (decoded_members false ms)
+single_decoded j = grind arith
 
 pub shield_decoded : (k : List ℕ) (j : Json) → has_shield k (decoded j) ≡ has_shield k j
 shield_decoded k j = ap (λ b. is_tag k || (is_attributes k && b)) (single_decoded j)

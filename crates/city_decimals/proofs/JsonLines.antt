@@ -1,6 +1,6 @@
 -- A text of JSON lines has no other line.
-use Rattle.city_decimals.proofs.Prelude.{◌≡◌, ℕ, suc, List, [], ◌∷◌, ◌++◌, Some, refl, sym}
-use Rattle.city_decimals.proofs.Prelude.{◌∙◌, arith, subst, IsUtf8, IsLinesFault, IsFaultTo, DecimalsFault, document_to}
+use Rattle.city_decimals.proofs.Prelude.{◌≡◌, ℕ, suc, List, [], ◌∷◌, ◌++◌, Some, refl, arith, subst, IsUtf8}
+use Rattle.city_decimals.proofs.Prelude.{IsLinesFault, IsFaultTo, DecimalsFault, document_to}
 use Rattle.city_decimals.specs.Lines.{HasNoNewline, ArePairs, first_text, AreJson, lines_text, HasJsonLines}
 use Rattle.city_decimals.specs.declared.fault.DecimalsFault.TheVariants.{OutOfMemory, NotJson}
 
@@ -38,7 +38,4 @@ no_bad_line limit (l ∷ ls) rest (p ∷ ps) bad after json last are none e faul
 
 pub memory_alone : (limit : ℕ) (text : List ℕ) (f : DecimalsFault) → HasJsonLines limit text → IsLinesFault limit text f
     → f ≡ OutOfMemory
-memory_alone limit text OutOfMemory lines fault = refl
-memory_alone limit text NotJson lines (pairs, bad, after, are, none, is, fault) =
-    absurd (no_bad_line limit lines.lines lines.rest pairs bad after lines.json lines.last are none
-    (sym lines.text_is ∙ is) fault)
+memory_alone limit text f lines fault = search (arith, no_bad_line)

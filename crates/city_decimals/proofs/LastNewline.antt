@@ -1,11 +1,11 @@
 -- A newline behind a printed text changes none of its tokens.
-use Rattle.city_decimals.proofs.Prelude.{◌≡◌, ℕ, Bool, true, false, cond, ◌&&◌, List, [], ◌∷◌, ◌++◌, refl, sym, ap, ap₂, ◌∙◌}
-use Rattle.city_decimals.proofs.Prelude.{subst, append_assoc, append-nil, Token, Json, HasNumbers, print, json_tokens}
-use Rattle.city_decimals.proofs.Prelude.{tokens, escape, quoted}
-use Rattle.std.proofs.Common.{inl, inr}
+use Rattle.std.proofs.Common.{arith, inl, inr}
+use Rattle.city_decimals.proofs.Prelude.{◌≡◌, ℕ, Bool, true, false, cond, ◌&&◌, List, [], ◌∷◌, ◌++◌, refl, sym, ap, ap₂}
+use Rattle.city_decimals.proofs.Prelude.{◌∙◌, subst, append_assoc, append-nil, Token, Json, HasNumbers, print}
+use Rattle.city_decimals.proofs.Prelude.{json_tokens, tokens, escape, quoted}
 use Rattle.json.specs.Token.{begin_object, end_object, begin_array, end_array, key, string, number, boolean, null, bad}
 use Rattle.json.specs.Word.{ends_word, word}
-use Rattle.json.specs.Lex.{Lexeme, token, comma, colon, string_token, lex, between, fresh, punctuate}
+use Rattle.json.specs.Lex.{Lexeme, token, colon, lex, between, fresh, punctuate}
 use Rattle.json.specs.Print.{token_text, begins, ends, separator, print_from, IsPrintable, ArePrintable}
 use Rattle.json.proofs.Printed.Strings.{content-escape, lex-escape}
 use Rattle.json.proofs.Printed.Numbers.{lex-number, in_word-ended}
@@ -29,9 +29,7 @@ value_ends (bad ∷ ts) r e = refl
 
 lex_quoted : (s r : List ℕ) → lex between (quoted s ++ r) ≡ token (string s) ∷ lex between r
 unfolding lex
-lex_quoted s r =
-    ap (λ l. lex between (34 ∷ l)) (append_assoc (escape s) (34 ∷ []) r)
-    ∙ ap₂ (λ o l. token (string_token o) ∷ l) (content-escape s r) (lex-escape s r)
+lex_quoted s r = search (arith, append_assoc, escape, content-escape, lex-escape)
 
 -- the lexemes of a token, whatever stands behind it
 lexed : (t : Token) → IsPrintable t → (ls : List Lexeme)
@@ -64,8 +62,7 @@ lexed bad h = absurd h
 behind_comma : (b : Bool) (x y : List ℕ) → lex between x ≡ lex between y
     → lex between (cond b (44 ∷ []) [] ++ x) ≡ lex between (cond b (44 ∷ []) [] ++ y)
 unfolding lex
-behind_comma true x y e = ap (λ l. comma ∷ l) e
-behind_comma false x y e = e
+behind_comma b x y e = grind arith
 
 no_lexeme : (c : Bool) (ts : List Token) → ArePrintable ts
     → lex between (print_from c ts ++ 10 ∷ []) ≡ lex between (print_from c ts)

@@ -2,8 +2,8 @@
 use Rattle.city_decimals.proofs.Prelude.{◌≡◌, ℕ, ◌-◌, List, [], ◌∷◌, ◌++◌, Bool, false, Option, Some, None, refl, sym}
 use Rattle.city_decimals.proofs.Prelude.{ap, ◌∙◌, arith, append_assoc, Token, Json, Members, member, Parse, read_key}
 use Rattle.city_decimals.proofs.Prelude.{json_tokens, members_tokens, Some_inj, is_tag, number_under, number_in}
-use Rattle.city_decimals.proofs.Prelude.{number_or, decoded_members, decoded_object, members_changed, object_made, Direction}
-use Rattle.city_decimals.proofs.Prelude.{Encode, Decode, written}
+use Rattle.city_decimals.proofs.Prelude.{number_or, decoded_members, decoded_object, members_changed, object_made}
+use Rattle.city_decimals.proofs.Prelude.{Direction, Encode, Decode, written}
 use Rattle.json.specs.Json.{members}
 
 -- if the members encode no number, they are written behind a brace

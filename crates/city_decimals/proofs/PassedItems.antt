@@ -1,9 +1,9 @@
 -- Items that are passed unchanged, one after another and within one another.
-use Rattle.city_decimals.proofs.Prelude.{◌≡◌, ℕ, ◌+◌, ◌-◌, ◌<◌, ◌≤◌, suc, List, ◌∷◌, ◌++◌, length, drop, Bool, true, false}
-use Rattle.city_decimals.proofs.Prelude.{cond, refl, sym, ap, ap₂, ◌∙◌, arith, append_assoc, length-drop, Json, number, array}
-use Rattle.city_decimals.proofs.Prelude.{Items, no_items, item, IsNumber, ItemsHaveNumbers, depth, encoded_items}
-use Rattle.city_decimals.proofs.Prelude.{decoded_items, tagged, is_whole, Moves, State, value_text, items_text}
-use Rattle.city_decimals.proofs.Prelude.{comma_if, AreItemsCopied, changed, items_changed, Direction, Encode, Decode}
+use Rattle.city_decimals.proofs.Prelude.{◌≡◌, ℕ, ◌+◌, ◌-◌, ◌<◌, ◌≤◌, suc, List, ◌∷◌, ◌++◌, length, drop, Bool, true}
+use Rattle.city_decimals.proofs.Prelude.{false, cond, refl, sym, ap, ap₂, ◌∙◌, arith, append_assoc, length-drop, Json}
+use Rattle.city_decimals.proofs.Prelude.{number, array, Items, no_items, item, IsNumber, ItemsHaveNumbers, depth}
+use Rattle.city_decimals.proofs.Prelude.{encoded_items, decoded_items, tagged, is_whole, Moves, State, value_text}
+use Rattle.city_decimals.proofs.Prelude.{items_text, comma_if, AreItemsCopied, changed, items_changed, Direction}
 use Rattle.city_decimals.proofs.Prelude.{append-nil, get_or, take, subst}
 use Rattle.std.proofs.Math.Seq.{take-append_seam}
 use Rattle.std.proofs.lemmas.List.{take-append-drop, drop-drop, drop_more}
@@ -30,8 +30,7 @@ same_array : (js : Items) → AreSame js → IsSame (array js)
 same_array js h = let all = same_items js h in (all.0, ap array all.1, ap array all.2)
 
 same_changed : (way : Direction) (j : Json) → IsSame j → changed way j ≡ j
-same_changed Encode j h = h.1
-same_changed Decode j h = h.2
+same_changed way j h = grind arith
 
 -- ---- the rest of the text
 
@@ -75,15 +74,11 @@ nothing_goes later limit text = (no_items, refl, tt, omega arith)
 
 later_passed : (later : Bool) (js : Items) (n : ℕ) → AreSame js → length (front_text later js) ≡ n
     → (later || nat_lt 0 n) ≡ later_after later js
-later_passed true no_items n h e = refl
-later_passed false no_items n h e = grind arith
-later_passed true (item j js) n h e = refl
-later_passed false (item j js) n h e = lt-ltb 0 n (omega (arith, e, value_some j h.0.0, length-append (value_text j) (front_text true js)))
+later_passed later js n h e = search (arith, no_items, item, lt-ltb, value_some, length-append, value_text)
 
 front_len : (front end text : List ℕ) (n : ℕ) → n ≤ length text → text ≡ front ++ end → end ≡ drop n text
     → length front ≡ n
-front_len front end text n h e is =
-    omega (arith, h, ap length e, length-append front end, ap length is, length-drop n text)
+front_len front end text n h e is = search (arith, length-append, length-drop)
 
 -- the bytes passed are those of the items
 pub front_passed : (later : Bool) (limit : ℕ) (text : List ℕ) (n : ℕ) (p : ArePassed later limit text n)
@@ -122,7 +117,8 @@ items_passed way later limit (item j js) a b d h low moves rest =
       j = j;
       moves = (
         moves.0 ∙ append_assoc comma (value_text j ++ more) b.2
-            ∙ ap (λ r. comma ++ r) (append_assoc (value_text j) more b.2) ∙ sym (append_assoc comma (value_text j) (more ++ b.2)),
+            ∙ ap (λ r. comma ++ r) (append_assoc (value_text j) more b.2)
+            ∙ sym (append_assoc comma (value_text j) (more ++ b.2)),
         ap (λ i. a.1 ++ (comma ++ value_text i)) (sym same),
       );
       numbers = h.0.0;
@@ -153,8 +149,7 @@ passed_then way later limit a b end result (js, same, low, moves, is) rest =
 
 pub passed_shorter : (later : Bool) (limit : ℕ) (a b : State) (result : Bool) → HasPassed later limit a b result
     → length b.2 ≤ length a.2
-passed_shorter later limit a b result (js, same, low, moves, is) =
-    omega (arith, ap length moves.0, length-append (front_text later js) b.2)
+passed_shorter later limit a b result passed = search (arith, length-append)
 
 -- ---- a text passed
 
@@ -162,7 +157,8 @@ passed_shorter later limit a b result (js, same, low, moves, is) =
 pub number_passes : (text s : List ℕ) (at n : ℕ) → IsKept s → take n (drop at text) ≡ s → IsPassed text at (at + n)
 number_passes text s at n kept is level later limit end low rest =
     item_goes level later limit (number s) (comma_if later ++ drop at text) (drop (at + n) text) end
-    (ap (λ r. comma_if later ++ r) (sym (take-append-drop n (drop at text)) ∙ ap₂ (λ x y. x ++ y) is (drop-drop n at text)))
+    (ap (λ r. comma_if later ++ r) (sym (take-append-drop n (drop at text))
+    ∙ ap₂ (λ x y. x ++ y) is (drop-drop n at text)))
     (same_number s kept.0 kept.1) (omega (arith, low)) rest
 
 pub drop_comma : (text : List ℕ) (at : ℕ) → at < length text → get_or text at 0 ≡ 44
@@ -172,24 +168,16 @@ drop_comma text at h is = drop_more text at 0 h ∙ ap (λ x. x ∷ drop (at + 1
 -- items, a comma, and more items
 pub passed_on : (text : List ℕ) (from comma to : ℕ) → comma < length text → get_or text comma 0 ≡ 44
     → IsPassed text from comma → IsPassed text (comma + 1) to → IsPassed text from to
-passed_on text from comma to h is first second level later limit end low rest =
-    first level later limit end low
-    (subst (λ t. GoesOn level true limit t end) (sym (drop_comma text comma h is)) (second level true limit end low rest))
+passed_on text from comma to h is first second level later limit end low rest = search (arith, drop_comma)
 
 pub comma_first : (later : Bool) (text : List ℕ) (n : ℕ) → n ≡ length (comma_if later)
     → take (length (comma_if later)) text ≡ comma_if later → comma_if later ++ drop n text ≡ text
-comma_first later text n is begins =
-    ap₂ (λ a k. a ++ drop k text) (sym begins) is ∙ take-append-drop (length (comma_if later)) text
+comma_first later text n is begins = grind arith
 
 pub array_opens_at : (text : List ℕ) (at level : ℕ) (later : Bool) (limit : ℕ) (end : List ℕ) → at < length text
     → get_or text at 0 ≡ 91 → GoesOn (level + 1) false limit (drop (at + 1) text) end
     → GoesOn level later limit (comma_if later ++ drop at text) end
-array_opens_at text at level later limit end h is rest =
-    let sum : level + 1 ≡ suc level = omega arith in
-    subst (λ t. GoesOn level later limit (comma_if later ++ t) end)
-    (sym (drop_more text at 0 h ∙ ap (λ x. x ∷ drop (at + 1) text) is))
-    (array_opens level later limit (drop (at + 1) text) end
-    (subst (λ k. GoesOn k false limit (drop (at + 1) text) end) sum rest))
+array_opens_at text at level later limit end h is rest = search (arith, comma_if, drop_more, array_opens)
 
 pub array_ends_at : (text : List ℕ) (at level limit : ℕ) (end : List ℕ) → at < length text → get_or text at 0 ≡ 93
     → 0 < level → level ≤ limit → GoesOn (level - 1) true limit (drop (at + 1) text) end
@@ -203,14 +191,9 @@ array_ends_at text at (suc level) limit end h is some low rest =
 
 pub comma_at : (text : List ℕ) (at level limit : ℕ) (end : List ℕ) → at < length text → get_or text at 0 ≡ 44
     → GoesOn level true limit (comma_if true ++ drop (at + 1) text) end → GoesOn level true limit (drop at text) end
-comma_at text at level limit end h is rest =
-    subst (λ t. GoesOn level true limit t end) (sym (drop_comma text at h is)) rest
+comma_at text at level limit end h is rest = search (arith, drop_comma)
 
 pub passed_whole : (text : List ℕ) (at level : ℕ) (later : Bool) (limit : ℕ) → at ≤ length text → level ≡ 0
     → ((end : List ℕ) → GoesOn level true limit (drop at text) end → GoesOn 0 later limit text end)
     → ArePassed later limit text at
-passed_whole text at level later limit h none goes = (
-  h,
-  goes (drop at text) (subst (λ k. GoesOn k true limit (drop at text) (drop at text)) (sym none)
-      (nothing_goes true limit (drop at text))),
-)
+passed_whole text at level later limit h none goes = search (arith, nothing_goes)

@@ -1,16 +1,15 @@
 -- Numbers given by their digits.
 use Rattle.city_decimals.proofs.Prelude.{◌≡◌, ℕ, ◌<◌, List, true, subst, arith, bytes_eq-Decides, IsNumber, escape}
-use Rattle.city_decimals.proofs.Prelude.{number_of-decimal, is_whole, IsPlain, is_written_so, number_of, Some, ◌∷◌, suc, sym, ap}
-use Rattle.city_decimals.proofs.Prelude.{◌∙◌, ◌≤◌, get_or, get_or-take, length, length-take, take, drop, ◌+◌, decimal_digit}
-use Rattle.std.proofs.Common.{◌^◌}
+use Rattle.city_decimals.proofs.Prelude.{number_of-decimal, is_whole, IsPlain, is_written_so, number_of, Some, ◌∷◌, suc}
+use Rattle.city_decimals.proofs.Prelude.{sym, ap, ◌∙◌, ◌≤◌, get_or, get_or-take, length, length-take, take, drop, ◌+◌}
+use Rattle.city_decimals.proofs.Prelude.{decimal_digit}
+use Rattle.std.proofs.Common.{◌^◌, get_or-drop, negsuc}
 use Rattle.std.specs.Prelude.{decimal, zero}
 use Rattle.std.specs.Char.{is_ascii_digit}
 use Rattle.std.specs.Fmt.{signed_decimal}
 use Rattle.std.specs.List.{prefix_len}
-use Rattle.std.proofs.Common.{get_or-drop}
 use Rattle.std.proofs.lemmas.List.{drop_more}
 use Rattle.std.proofs.lemmas.List.Sums.{prefix_len-le-length, prefix_len_passes}
-use Rattle.std.proofs.Common.{negsuc}
 use Rattle.serde_json.specs.Data.{negative}
 use Rattle.serde_json.proofs.Numbers.{number_of-negative}
 use Rattle.city_decimals.specs.internal.PlainNumbers.{IsKept}
@@ -45,10 +44,12 @@ negative_is_kept s p first =
     by found.0 found.1 found.2
   where
     by : (n : ℕ) → n < 10 ^ 18 → decimal n ≡ s → IsKept (45 ∷ s)
-    by zero small is = absurd (omega (arith, first, ap (λ t. get_or t 0 0) (sym is ∙ sym (sym (decimal_digit 0 (omega arith))))))
+    by zero small is =
+        absurd (omega (arith, first, ap (λ t. get_or t 0 0) (sym is ∙ sym (sym (decimal_digit 0 (omega arith))))))
     by (suc n) small is =
         let text : signed_decimal (negsuc n) ≡ 45 ∷ s = ap (λ t. 45 ∷ t) is in
-        let read : number_of (45 ∷ s) ≡ Some (negative (negsuc n)) = ap number_of (sym text) ∙ number_of-negative n (omega (arith, small)) in (
+        let read : number_of (45 ∷ s) ≡ Some (negative (negsuc n)) =
+        ap number_of (sym text) ∙ number_of-negative n (omega (arith, small)) in (
           subst IsNumber text (IsNumber-signed_decimal (negsuc n) (omega (arith, small))),
           ap (is_written_so (45 ∷ s)) read ∙ (bytes_eq-Decides _ _).1 text,
         )
@@ -66,20 +67,13 @@ digit_between x e = grind arith
 pub digits_are_plain : (text : List ℕ) (n : ℕ) → 0 < n → n ≤ 18 → n ≡ prefix_len is_ascii_digit text
     → (get_or text 0 0 ≡ 48 → n ≤ 1) → IsPlain (take n text)
 digits_are_plain text n some few is first =
-    let within : n ≤ length text = omega (arith, is, prefix_len-le-length is_ascii_digit text) in
-    let long : length (take n text) ≡ n = omega (arith, length-take n text, within) in
-    record {
-      some = omega (arith, long, some);
-      few = omega (arith, long, few);
-      first = λ e. omega (arith, long, some, first (sym (get_or-take n text 0 0 some) ∙ e));
-      digits = λ i l. subst (λ x. (48 ≤ x) × (x ≤ 57)) (sym (get_or-take n text i 0 (omega (arith, long, l))))
-          (digit_between _ (prefix_len_passes is_ascii_digit text i 0 (omega (arith, long, l, is))));
-    }
+    search (arith, prefix_len-le-length, length-take, get_or-take, digit_between, prefix_len_passes)
 
 pub digits_kept : (text : List ℕ) (at n : ℕ) → 0 < n → n ≤ 18 → n ≡ prefix_len is_ascii_digit (drop at text)
     → (get_or text at 0 ≡ 48 → n ≤ 1) → IsKept (take n (drop at text))
 digits_kept text at n some few is first =
-    let here : get_or (drop at text) 0 0 ≡ get_or text at 0 = get_or-drop at text 0 0 ∙ ap (λ i. get_or text i 0) (omega arith) in
+    let here : get_or (drop at text) 0 0 ≡ get_or text at 0 =
+    get_or-drop at text 0 0 ∙ ap (λ i. get_or text i 0) (omega arith) in
     plain_is_kept _ (digits_are_plain (drop at text) n some few is (λ e. first (sym here ∙ e)))
 
 -- and behind a minus sign
@@ -88,7 +82,8 @@ pub negative_kept : (text : List ℕ) (at n : ℕ) → at < length text → get_
     → IsKept (take (1 + n) (drop at text))
 negative_kept text at n h minus some few is no_zero =
     let rest = drop (at + 1) text in
-    let here : get_or rest 0 0 ≡ get_or text (at + 1) 0 = get_or-drop (at + 1) text 0 0 ∙ ap (λ i. get_or text i 0) (omega arith) in
+    let here : get_or rest 0 0 ≡ get_or text (at + 1) 0 =
+    get_or-drop (at + 1) text 0 0 ∙ ap (λ i. get_or text i 0) (omega arith) in
     let p = digits_are_plain rest n some few is (λ e. absurd (no_zero (sym here ∙ e))) in
     let front : get_or (take n rest) 0 0 ≡ get_or text (at + 1) 0 = get_or-take n rest 0 0 some ∙ here in
     let low = (p.digits 0 p.some).0 in

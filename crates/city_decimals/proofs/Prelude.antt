@@ -46,13 +46,13 @@ pub use Rattle.city_decimals.specs.declared.direction.Direction.{Direction}
 pub use Rattle.city_decimals.specs.declared.direction.Direction.TheVariants.{Decode, Encode}
 pub use Rattle.city_decimals.specs.internal.Changes.{IsChanged, top_changed}
 pub use Rattle.city_decimals.specs.internal.Compact.{AreItemsCopied, AreMembersCopied, IsCopied, IsFrameCopied}
-pub use Rattle.city_decimals.specs.internal.Compact.{IsItemCopied, IsUntagged, State, comma_if, items_text, members_text}
-pub use Rattle.city_decimals.specs.internal.Compact.{value_text}
+pub use Rattle.city_decimals.specs.internal.Compact.{IsItemCopied, IsUntagged, State, comma_if, items_text}
+pub use Rattle.city_decimals.specs.internal.Compact.{members_text, value_text}
 pub use Rattle.city_decimals.specs.internal.Copies.{IsPlainByte, Moves}
 pub use Rattle.city_decimals.specs.internal.Forms.{tokens_after}
 pub use Rattle.city_decimals.specs.internal.Objects.{decoded_object}
-pub use Rattle.city_decimals.specs.internal.Passed.{ArePassed, front_text}
+pub use Rattle.city_decimals.specs.internal.Passed.{ArePassed}
 pub use Rattle.city_decimals.specs.internal.PlainNumbers.{IsPlain}
 pub use Rattle.city_decimals.specs.internal.Streams.{written}
-pub use Rattle.city_decimals.specs.internal.Directions.{changed, frame_changed, items_changed, member_changed, members_changed}
-pub use Rattle.city_decimals.specs.internal.Directions.{object_made}
+pub use Rattle.city_decimals.specs.internal.Directions.{changed, frame_changed, items_changed, member_changed}
+pub use Rattle.city_decimals.specs.internal.Directions.{members_changed, object_made}

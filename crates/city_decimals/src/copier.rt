@@ -1,6 +1,6 @@
 //! Copies a compact text in pieces, except for bytes left out.
 ghost use Rattle.std.specs.Prelude.{◌≡◌, ◌∷◌, ◌++◌, ◌+◌, ◌<◌, ◌≤◌, get_or, [], ℕ, List, true, false, length, take};
-ghost use Rattle.std.specs.Prelude.{drop, IfOk, IfErr, IfSome};
+ghost use Rattle.std.specs.Prelude.{IfOk, IfErr, IfSome};
 ghost use Rattle.std.specs.Bool.{OnTrue};
 ghost use Rattle.std.specs.Str.{IsUtf8};
 ghost use Rattle.json.specs.Json.{Items};
@@ -168,6 +168,7 @@ impl<'a> Copier<'a> {
     }
 
     /// Leaves these bytes out if they are next.
+    #[inline(always)]
     pub(crate) fn skip(&mut self, bytes: &[u8]) -> Option<()>
         ensures before { self.new.0 ≡ self.old.0 }
         ensures moves { IfSome result (λ _. Moves self.old self.new bytes.now []) }
@@ -314,7 +315,7 @@ fn begins_with(text: &[u8], bytes: &[u8]) -> bool
     ensures len { OnTrue result (length bytes.now ≤ length text.now) }
     ensures value { OnTrue result (take (length bytes.now) text.now ≡ bytes.now) }
 {
-    text.len() >= bytes.len() && &text[..bytes.len()] == bytes
+    text.starts_with(bytes)
 }
 
 /// Whether the next item is a string or an object, or there is none.

@@ -3,8 +3,7 @@ ghost use Rattle.std.specs.Prelude.{◌≡◌, ◌∷◌, ◌++◌, false, OnOk,
 ghost use Rattle.json.specs.Token.{begin_object, key};
 ghost use Rattle.json.specs.Json.{no_members, member};
 ghost use Rattle.json.specs.Print.{IsNumber};
-ghost use Rattle.json.specs.Tree.{json_tokens, items_tokens, members_tokens, HasNumbers, ItemsHaveNumbers};
-ghost use Rattle.json.specs.Tree.{MembersHaveNumbers};
+ghost use Rattle.json.specs.Tree.{json_tokens, items_tokens, HasNumbers, ItemsHaveNumbers, MembersHaveNumbers};
 ghost use Rattle.json.specs.Value.{value_view, items_view, members_view};
 ghost use Rattle.city_decimals.specs.Decoded.{number_in, number_under, decoded, decoded_items, out_of_form};
 ghost use Rattle.city_decimals.specs.internal.Objects.{decoded_object};

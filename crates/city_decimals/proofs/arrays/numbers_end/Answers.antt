@@ -32,5 +32,6 @@ loop-at-preserved c =
       omega (arith, high),
       omega (arith, high),
       λ any. all,
-      λ to more. passed_on text c.args.from (l.at + len.result) to (omega (arith, high)) c.if-text-end-ne44.false all more,
+      λ to more. passed_on text c.args.from (l.at + len.result) to (omega (arith, high))
+          c.if-text-end-ne44.false all more,
     )

@@ -32,7 +32,8 @@ pub copy_items-items-smaller : goal.copy_items-items-smaller
 copy_items-items-smaller t c =
     let w = c.args.way in
     let more = c.pass_whole_items-later-in-items in
-    let one : IsItemCopied (changed w) c.items.later c.args.depth c.items.copier c.copy_item.new.copier = search rules in
+    let one : IsItemCopied (changed w) c.items.later c.args.depth c.items.copier c.copy_item.new.copier =
+    search rules in
     omega (
       arith,
       item_shorter (changed w) c.items.later c.args.depth c.items.copier c.copy_item.new.copier one,
@@ -43,7 +44,8 @@ pub copy_items-items-preserved : goal.copy_items-items-preserved
 copy_items-items-preserved t c =
     let w = c.args.way in
     let more = c.pass_whole_items-later-in-items in
-    let one : IsItemCopied (changed w) c.items.later c.args.depth c.items.copier c.copy_item.new.copier = search rules in (
+    let one : IsItemCopied (changed w) c.items.later c.args.depth c.items.copier c.copy_item.new.copier =
+    search rules in (
       search rules,
       λ end rest. c.items.invariant.1 end (items_first (changed w) (items_changed w) (item_changed w) c.items.later
           c.args.depth c.items.copier c.copy_item.new.copier end one (passed_then w true c.args.depth

@@ -1,6 +1,6 @@
-use Rattle.city_decimals.proofs.Prelude.{rules, refl, ◌≡◌, ◌+◌, ◌-◌, ◌∷◌, [], ◌++◌, length, take, drop, sym, ap, ◌∙◌, subst}
-use Rattle.city_decimals.proofs.Prelude.{arith, take_all, length-drop, append_assoc, AreDecodedLines, IsLinesFault}
-use Rattle.city_decimals.proofs.Prelude.{IsFaultTo, DecimalsFault}
+use Rattle.city_decimals.proofs.Prelude.{rules, refl, ◌≡◌, ◌+◌, ◌-◌, ◌∷◌, [], ◌++◌, length, take, drop, sym, ap, ◌∙◌}
+use Rattle.city_decimals.proofs.Prelude.{subst, arith, take_all, length-drop, append_assoc, AreDecodedLines}
+use Rattle.city_decimals.proofs.Prelude.{IsLinesFault, IsFaultTo, DecimalsFault}
 use Rattle.std.specs.Prelude.{Result, IfErr}
 use Rattle.std.specs.Result.{IsErrAnd}
 use Rattle.city_decimals.proofs.Changes.{changed_decoded}

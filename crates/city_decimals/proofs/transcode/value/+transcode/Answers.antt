@@ -14,8 +14,8 @@ use Rattle.city_decimals.proofs.Objects.{object_written, object_put, first_is_no
 use Rattle.city_decimals.proofs.Streams.{none_written, written_as, written_with, token_first, value_shorter}
 use Rattle.city_decimals.proofs.Streams.{item_written, items_over, member_written, members_over}
 use Rattle.city_decimals.proofs.Directions.{string_changed, boolean_changed, null_changed, array_changed, item_tokens}
-use Rattle.city_decimals.proofs.Directions.{no_items_changed, member_tokens, no_members_changed, object_is_made, no_object}
-use Rattle.city_decimals.proofs.Directions.{untagged_here}
+use Rattle.city_decimals.proofs.Directions.{no_items_changed, member_tokens, no_members_changed, object_is_made}
+use Rattle.city_decimals.proofs.Directions.{no_object, untagged_here}
 use Rattle.city_decimals.proofs.Attributes.{attributes_other, attributes_end, attributes_single, attributes_several}
 use Rattle.city_decimals.proofs.transcode.value.+transcode.Goals as goal
 
@@ -182,8 +182,8 @@ transcode_members-returns-clause-ok t c =
     let done : written (f k) (out ++ Token.key k ∷ []) (p s)
     ≡ Some (now, r) = rw (← c.in_ok-key.ensures.ok) c.in_ok-transcode_member.ensures.ok in
     let less = value_shorter (f k) c.args.depth (out ++ Token.key k ∷ []) now s r done in
-    on_ok_weaker c.transcode_more.result (λ e n enough. member_written p f g (member_tokens c.args.way c.args.top) n k out
-    now (Token.key k ∷ s) s r (omega (arith, enough)) refl done
+    on_ok_weaker c.transcode_more.result (λ e n enough. member_written p f g (member_tokens c.args.way c.args.top) n k
+    out now (Token.key k ∷ s) s r (omega (arith, enough)) refl done
     ∙ e (n - 1) (omega (arith, enough, less))) c.transcode_more.ensures.ok
 
 pub transcode_members-returns-clause-err : goal.transcode_members-returns-clause-err
@@ -360,8 +360,8 @@ transcode_attributes_items-returns-clause-ok t c =
     let less : length s < length ts = rw (← going.1) c.in_ok-first.ensures.shorter in
     let made = c.in_ok-write_tree.ensures.tokens
     ∙ ap (λ us. us ++ json_tokens (changed c.args.way j)) c.in_ok-begin_array-2.ensures.ok in
-    on_ok_weaker c.transcode_items.result (λ e n enough. attributes_several (value c.args.depth) c.args.way n out now ts s
-    j (omega (arith, enough, less)) going.0 (rw (← going.1) c.in_ok-first.ensures.ok) more.0 made
+    on_ok_weaker c.transcode_items.result (λ e n enough. attributes_several (value c.args.depth) c.args.way n out now ts
+    s j (omega (arith, enough, less)) going.0 (rw (← going.1) c.in_ok-first.ensures.ok) more.0 made
     ∙ ap (λ us. written (λ js. items_tokens (items_changed c.args.way js)) now (items (value c.args.depth) (n - 1) us))
     (sym more.1)
     ∙ e (n - 1) (omega (arith, enough, less, ap length more.1))) c.transcode_items.ensures.ok
