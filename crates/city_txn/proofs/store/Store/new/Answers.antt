@@ -7,7 +7,7 @@ invariant_of-result c =
     new_in_place (record {
       alloc = c.args.alloc;
       city = c.args.city;
-      undo = c.new.result;
+      transactions = c.new.result;
       logs = c.new-2.result;
       may_have_orphan = false;
     })
@@ -18,7 +18,7 @@ returns c =
     new_state (record {
       alloc = c.args.alloc;
       city = c.args.city;
-      undo = c.new.result;
+      transactions = c.new.result;
       logs = c.new-2.result;
       may_have_orphan = false;
     })
