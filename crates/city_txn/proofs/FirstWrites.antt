@@ -1,12 +1,11 @@
 -- An id reserved and written at once, in a transaction without marks.
 use Rattle.city_txn.proofs.Prelude.{arith, ◌≡◌, ◌==◌, ◌&&◌, ◌||◌, ◌∙◌, ℕ, List, [], ◌∷◌, ◌++◌, length, Bool, true}
-use Rattle.city_txn.proofs.Prelude.{false, Option, None, Some, Ok, Result, refl, ap, subst, if◌then◌else◌, unwrap_or}
-use Rattle.city_txn.proofs.Prelude.{object_at, same_id, Object, same_id_true}
-use Rattle.city_txn.proofs.Prelude.{same_id_back, left_at_end, image_at, reservations_of, Inside, UndoImage}
-use Rattle.city_txn.proofs.Prelude.{write_at, State, state_of, IsInPlace, Became, Write}
-use Rattle.city_txn.proofs.Prelude.{write_of, is_orphan_there, slice_cmp, nat_cmp, Change, plans, AreOf}
+use Rattle.city_txn.proofs.Prelude.{false, Option, None, Some, refl, ap, subst, if◌then◌else◌, unwrap_or, object_at}
+use Rattle.city_txn.proofs.Prelude.{same_id, Object, same_id_true, same_id_back, left_at_end, image_at, reservations_of}
+use Rattle.city_txn.proofs.Prelude.{Inside, UndoImage, write_at, State, state_of, IsInPlace, Became, Write, write_of}
+use Rattle.city_txn.proofs.Prelude.{written_with, write_in, is_orphan_there, slice_cmp, nat_cmp, Change, plans}
 use Rattle.city_txn.proofs.Prelude.{MayReserve, is_reserved, is_some, same_id_itself}
-use Rattle.std.proofs.Common.{is_none, is_ok, OnOk, OnErr, Err, option_map}
+use Rattle.std.proofs.Common.{is_none, option_map}
 use Rattle.std.specs.BTreeMap.{IsOrdered}
 use Rattle.city_model.specs.CityMap.{CityMap, CityValue, changed}
 use Rattle.city_txn.specs.Placeholder.{placeholder}
@@ -112,12 +111,7 @@ put_written a k {v} seen s id may_reserve false city all x (Some i) is t listed 
     let reserved = reserved_before a k seen s id may_reserve (ap is_some is) in
     let w = write_at (here a id) (image a id) in
     let stays : Became (same_id id) (λ q. here a id) (λ q. image a id) a.city city a.transactions.images all.images =
-    record {
-      frame = t.frame;
-      object_is = λ q. let y = t.object_is q in let at = same_id_true id q in grind arith;
-      image_is = λ q. let y = t.image_is q in let at = same_id_true id q in grind arith;
-      ordered = t.ordered;
-    } in
+    grind (arith, same_id_true) in
     rewritten v (record a { city = city; transactions = all; may_have_orphan = may }) false s id (Some (s, x)) w
     (own_written a k seen s id reserved city all stays (same refl) w may
     (λ h. ((plain h).0, plain_at a.city a.transactions.images k.plain (plain h).0 id)) (λ mine room. grind arith))
@@ -137,23 +131,7 @@ only_planned ws p e q =
     ap (λ (xs : Change). plans xs q) e
     ∙ (let b = same_id_back p.0 q in let c = same_id_back q p.0 in grind arith)
 
-only_at : (ws : Change) (p : List ℕ × Option Object) → ws ≡ p ∷ [] → (s : ℕ) (x y : List ℕ → Option Write)
-    → ((q : List ℕ) → x q ≡ (if same_id p.0 q then Some (s, p.1) else y q)) → (f : CityMap) → AreOf f ws
-    → (q : List ℕ) → x q ≡ (if plans ws q then Some (s, f q) else y q)
-only_at ws p is s x y w f of q =
-    let first : p.1 ≡ f p.0 = (subst (λ (xs : Change). AreOf f xs) is of).0 in
-    let is_planned = only_planned ws p is q in let at = same_id_true p.0 q in let e = w q in grind arith
-
-module _ {E : Type 0} (ws : Change) (p : List ℕ × Option Object) (is : ws ≡ p ∷ []) (s : ℕ)
-    (x y : List ℕ → Option Write) where
-  pub only_ok : (r : Result (Unit {0}) E)
-      → ((q : List ℕ) → x q ≡ (if is_ok r && same_id p.0 q then Some (s, p.1) else y q))
-      → OnOk r ((f : CityMap) → AreOf f ws → (q : List ℕ) → x q ≡ (if plans ws q then Some (s, f q) else y q))
-  only_ok (Ok v) w = only_at ws p is s x y w
-  only_ok (Err e) w = tt
-
-  pub only_err : (r : Result (Unit {0}) E)
-      → ((q : List ℕ) → x q ≡ (if is_ok r && same_id p.0 q then Some (s, p.1) else y q))
-      → OnErr r ((q : List ℕ) → x q ≡ y q)
-  only_err (Ok v) w = tt
-  only_err (Err e) w = w
+pub only_written : (ws : Change) (p : List ℕ × Option Object) → ws ≡ p ∷ [] → (s : ℕ) (has : Bool) (q : List ℕ)
+    (y : Option Write) → (if has && same_id p.0 q then Some (s, p.1) else y)
+    ≡ (if has then written_with s (write_in ws q) y else y)
+only_written ws p is s has q y = let back = same_id_back p.0 q in grind arith

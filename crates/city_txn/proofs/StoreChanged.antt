@@ -186,19 +186,13 @@ module _ (a : Inside) (k : IsInPlace a) {v : State} (seen : state_of a ≡ v) (s
       let f = list_any-append (same_id q) (reservations_of a.transactions.reservations.entries s) (id ∷ []) in
       let e = listed r in grind (arith, same_id_back)
 
-  still_open : (r : ℕ) → is_begun (state_of with_it) r ≡ is_begun (state_of a) r
-  still_open r =
-      let e = listed r in
-      let was_open : is_begun (state_of a) s ≡ true = ap (λ (u : State). is_begun u s) seen ∙ is_opened in
-      grind arith
-
-  unorphaned_then : IsPlain may city all.images
-  unorphaned_then = plain_by city all.images (λ h q.
-      one_of_plain (has && same_id id q) _ _ _ _ (t.object_is q) (t.image_is q)
-      (ap is_orphan_written writes ∙ (plain h).1) (plain_at a.city a.transactions.images k.plain (plain h).0 q))
-
   reserved_in_place : IsInPlace with_it
-  reserved_in_place = let more = more_reserved in let u = unorphaned_then in grind (arith, same_id_true)
+  reserved_in_place =
+      let more = more_reserved in
+      let plain_still : IsPlain may city all.images = plain_by city all.images (λ h q.
+      one_of_plain (has && same_id id q) _ _ _ _ (t.object_is q) (t.image_is q)
+      (ap is_orphan_written writes ∙ (plain h).1) (plain_at a.city a.transactions.images k.plain (plain h).0 q)) in
+      grind (arith, same_id_true)
 
   writes_then : (q : List ℕ) → write_of (state_of with_it).writes q
       ≡ (if has && same_id id q then w else write_of (state_of a).writes q)
@@ -214,7 +208,9 @@ module _ (a : Inside) (k : IsInPlace a) {v : State} (seen : state_of a ≡ v) (s
       city = committed_is with_it reserved_in_place (store_committed (state_of a)) (λ q.
           let was = city_is a k q in let y = t.object_is q in let j = t.image_is q in let at = same_id_true id q in
           grind arith);
-      opened = still_open;
+      opened = λ r.
+          let was_open : is_begun (state_of a) s ≡ true = ap (λ (u : State). is_begun u s) seen ∙ is_opened in
+          let e = listed r in grind arith;
       writes = λ q. let now = writes_then q in let was = writes_is a k q in let at = same_id_true id q in grind arith;
       logs = λ r ne. refl;
       reserved = λ r q h. let more = more_reserved r q in grind arith;
@@ -334,12 +330,10 @@ module _ (a : Inside) (k : IsInPlace a) {v : State} (seen : state_of a ≡ v) (s
       (plain_at a.city a.transactions.images k.plain h q)
   unorphaned_at (inr shut) q = ap (λ i. is_orphan_written (write_at (object_at city.1 q) i)) (none_left shut q)
 
-  unorphaned_left : IsPlain may city all.images
-  unorphaned_left = plain_by city all.images (λ h. unorphaned_at (plain h))
-
   ended_in_place : IsInPlace without_it
   ended_in_place =
-      let m = mine in let e = reserved_left in let l = listed_left in let u = unorphaned_left in grind arith
+      let m = mine in let e = reserved_left in let l = listed_left in
+      let u : IsPlain may city all.images = plain_by city all.images (λ h. unorphaned_at (plain h)) in grind arith
 
   committed_at_end : (e : End) → Became (has_id ids) (λ q. left_at_end e (here a q) (image a q)) (λ q. None) a.city city
       a.transactions.images all.images → store_committed (state_of without_it) ≡ map_at_end e (state_of a) s

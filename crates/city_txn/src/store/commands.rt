@@ -2,13 +2,12 @@
 //!
 //! The writes of a plan are made in two steps: first all ids are reserved and noted, then all are
 //! written.
-ghost use Rattle.std.specs.Prelude.{◌≡◌, ℕ, List, Some, length, true, false, OnOk, OnErr, if◌then◌else◌};
-ghost use Rattle.city_model.specs.CityMap.{CityMap, same_id};
+ghost use Rattle.std.specs.Prelude.{◌≡◌, ℕ, List, length, true, false, is_ok, OnOk, if◌then◌else◌};
+ghost use Rattle.city_model.specs.CityMap.{same_id};
 ghost use Rattle.city_model.specs.Marks.{marks_from};
 ghost use Rattle.city_model.specs.Scripts.{is_end, is_mark};
 ghost use Rattle.city_model.specs.Writing.{write_in};
 ghost use Rattle.city_model.specs.declared.command.Command.{Command};
-ghost use Rattle.city_model.specs.internal.Plans.{AreOf};
 ghost use Rattle.city_txn.specs.UndoLog.{log_of, written_at_mark};
 ghost use Rattle.city_txn.specs.Writes.{write_of};
 ghost use Rattle.city_txn.specs.internal.LogTests.{has_mark};
@@ -84,10 +83,9 @@ impl Store {
         requires { MayReserve self.old stamp (plans writes) }
         ensures touches { Touches stamp (plans writes) self.old self.new }
         ensures marks { (store_written self.new stamp).1 ≡ (store_written self.old stamp).1 }
-        ensures ok { OnOk result ((f : CityMap) → AreOf f writes → (id : List ℕ) →
-            write_of self.new.writes id
-            ≡ (if plans writes id then Some (stamp, f id) else write_of self.old.writes id)) }
-        ensures err { OnErr result ((id : List ℕ) → write_of self.new.writes id ≡ write_of self.old.writes id) }
+        ensures writes { (q : List ℕ) → write_of self.new.writes q
+            ≡ (if is_ok result then written_with stamp (write_in writes q) (write_of self.old.writes q)
+            else write_of self.old.writes q) }
     {
         if self.writes_once(stamp, writes.as_slice()) {
             self.write_once(stamp, writes.into_vec())
@@ -115,10 +113,9 @@ impl Store {
         requires unmarked { length (log_of self.old.logs stamp) ≡ 0 }
         ensures touches { Touches stamp (plans writes.items) self.old self.new }
         ensures marks { (store_written self.new stamp).1 ≡ (store_written self.old stamp).1 }
-        ensures ok { OnOk result ((f : CityMap) → AreOf f writes.items → (id : List ℕ) →
-            write_of self.new.writes id
-            ≡ (if plans writes.items id then Some (stamp, f id) else write_of self.old.writes id)) }
-        ensures err { OnErr result ((id : List ℕ) → write_of self.new.writes id ≡ write_of self.old.writes id) }
+        ensures writes { (q : List ℕ) → write_of self.new.writes q
+            ≡ (if is_ok result then written_with stamp (write_in writes.items q) (write_of self.old.writes q)
+            else write_of self.old.writes q) }
     {
         match writes.pop() {
             Some((id, object)) => self.put(stamp, id, object),
@@ -131,10 +128,9 @@ impl Store {
         requires { MayReserve self.old stamp (plans writes) }
         ensures touches { Touches stamp (plans writes) self.old self.new }
         ensures marks { (store_written self.new stamp).1 ≡ (store_written self.old stamp).1 }
-        ensures ok { OnOk result ((f : CityMap) → AreOf f writes → (id : List ℕ) →
-            write_of self.new.writes id
-            ≡ (if plans writes id then Some (stamp, f id) else write_of self.old.writes id)) }
-        ensures err { OnErr result ((id : List ℕ) → write_of self.new.writes id ≡ write_of self.old.writes id) }
+        ensures writes { (q : List ℕ) → write_of self.new.writes q
+            ≡ (if is_ok result then written_with stamp (write_in writes q) (write_of self.old.writes q)
+            else write_of self.old.writes q) }
     {
         self.make_ready(stamp, writes.as_slice())?;
         self.set_all(stamp, writes.into_vec());

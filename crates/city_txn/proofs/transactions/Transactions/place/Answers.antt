@@ -1,6 +1,5 @@
 use Rattle.city_txn.proofs.Prelude.{arith, rules, ◌≡◌, ℕ, List, refl, Some, true, false, same_id, same_id_itself}
-use Rattle.city_txn.proofs.Prelude.{object_at, image_at}
-use Rattle.city_txn.proofs.Prelude.{unwrap_or, Became}
+use Rattle.city_txn.proofs.Prelude.{object_at, image_at, unwrap_or, Became}
 use Rattle.std.proofs.Common.{is_none}
 use Rattle.city_model.specs.CityMap.{changed}
 use Rattle.city_txn.specs.Placeholder.{placeholder}
