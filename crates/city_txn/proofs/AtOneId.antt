@@ -20,7 +20,7 @@ use Rattle.city_model.specs.CityMap.{CityValue}
 use Rattle.city_txn.specs.Writes.{made_by}
 use Rattle.city_txn.specs.internal.Images.{is_orphan_written}
 use Rattle.city_txn.specs.internal.InPlace.{IsPlain}
-use Rattle.city_txn.specs.internal.UndoState.{Images}
+use Rattle.city_txn.specs.internal.Transactions.{Images}
 
 -- a map's keys are tested as numbers are
 pub tied : (s t : ℕ) → is_at (nat_cmp s) t ≡ (s == t)
@@ -67,7 +67,7 @@ here a q = object_at a.city.1 q
 
 -- and the image
 abbrev pub image : Inside → List ℕ → Option UndoImage
-image a q = image_at a.undo.images q
+image a q = image_at a.transactions.images q
 
 module _ (a : Inside) (k : IsInPlace a) (q : List ℕ) where
   pub city_is : store_committed (state_of a) q ≡ committed_at (here a q) (image a q)
@@ -77,11 +77,11 @@ module _ (a : Inside) (k : IsInPlace a) (q : List ℕ) where
       (sorted_made (λ r o. committed_at (Some o) (image a r)) (entries a.city.1) (entries_ascend a.city.1)))
       ∙ at_made (λ r o. committed_at (Some o) (image a r)) (entries a.city.1) q (entries_ascend a.city.1)
       ∙ ap (λ f. through (λ o. committed_at (Some o) (image a q)) (f q)) (sym (at_entries a.city.1))
-      ∙ (let slot = k.has_slot q in grind arith)
+      ∙ (let room = k.has_room q in grind arith)
 
   pub writes_is : write_of (state_of a).writes q ≡ write_at (here a q) (image a q)
   writes_is =
-      let made = at_made (λ r i. write_at (here a r) (Some i)) a.undo.images.entries q k.ordered in grind arith
+      let made = at_made (λ r i. write_at (here a r) (Some i)) a.transactions.images.entries q k.ordered in grind arith
 
   pub view_is : (s : ℕ)
       → store_view (state_of a) s q ≡ own_or s (write_at (here a q) (image a q)) (committed_at (here a q) (image a q))
@@ -109,7 +109,8 @@ unfolding IsPlain
 plain_by city images p = p
 
 -- one of two objects stands at an id
-pub one_of_plain : (b : Bool) (x y : Option Object) {z : Option Object} (i j : Option UndoImage) {k : Option UndoImage} → z ≡ (if b then x else y)
+pub one_of_plain : (b : Bool) (x y : Option Object) {z : Option Object} (i j : Option UndoImage) {k : Option UndoImage}
+    → z ≡ (if b then x else y)
     → k ≡ (if b then i else j) → is_orphan_written (write_at x i) ≡ false → is_orphan_written (write_at y j) ≡ false
     → is_orphan_written (write_at z k) ≡ false
 one_of_plain true x y i j e f g h = (λ n. is_orphan_written (write_at (e n) (f n))) ∙ g
@@ -117,12 +118,13 @@ one_of_plain false x y i j e f g h = (λ n. is_orphan_written (write_at (e n) (f
 
 -- ---- a new store, and one at rest
 
-pub new_in_place : (a : Inside) → a.undo.images.entries ≡ [] → a.undo.reservations.entries ≡ [] → a.logs ≡ []
+pub new_in_place : (a : Inside) → a.transactions.images.entries ≡ [] → a.transactions.reservations.entries ≡ []
+    → a.logs ≡ []
     → IsInPlace a
 unfolding IsStrictlySortedBy IsPlain
 new_in_place a none shut unlogged = record {
   ordered = rw none tt;
-  has_slot = λ id h. grind arith;
+  has_room = λ id h. grind arith;
   listed = λ s id. grind arith;
   noted = λ s id h. grind arith;
   plain = λ h id. grind arith;
@@ -133,13 +135,14 @@ unwritten None h = refl
 unwritten (Some i) h = absurd (false≢true (sym (h i.by) ∙ eq-eqb i.by i.by refl))
 
 -- if no transaction is open, the city is as it stands
-pub idle_city : (a : Inside) → IsInPlace a → a.undo.reservations.entries ≡ [] → (state_of a).city ≡ a.city.1
+pub idle_city : (a : Inside) → IsInPlace a → a.transactions.reservations.entries ≡ [] → (state_of a).city ≡ a.city.1
 idle_city a k shut = same_objects (state_of a).city a.city.1 (λ i q. (city_is a k q
     ∙ ap (committed_at (here a q)) (unwritten (image a q)
     (λ s. sym (k.listed s q) ∙ ap (λ reservations. has_id (reservations_of reservations s) q) shut))) i)
 
 -- the state of a new one
-pub new_state : (a : Inside) → a.undo.images.entries ≡ [] → a.undo.reservations.entries ≡ [] → a.logs ≡ []
+pub new_state : (a : Inside) → a.transactions.images.entries ≡ [] → a.transactions.reservations.entries ≡ []
+    → a.logs ≡ []
     → state_of a ≡ record { frame = a.city.0; city = a.city.1; writes = []; opened = []; logs = [] }
 new_state a none shut unlogged = λ i. record {
   frame = a.city.0;

@@ -3,7 +3,6 @@ pub mod AtOneId
 pub mod ChangeMade
 pub mod CoreFields
 pub mod FirstWrites
-pub mod OneIdChanged
 pub mod PerformDone
 pub mod PlanWritten
 pub mod Prelude

@@ -2,7 +2,7 @@
 use Rattle.city_txn.proofs.Prelude.{arith, ◌≡◌, ℕ, List, [], Bool, true, false, Some, Result, Ok, refl, ap, sym}
 use Rattle.city_txn.proofs.Prelude.{◌∙◌, subst, false≢true, Command, Reply, WentBack, CityMap, Snapshot, marks_from, locks_of}
 use Rattle.city_txn.proofs.Prelude.{locks_id_exclusively, action, answer, written_at_mark, written_by, own_with, map_with}
-use Rattle.city_txn.proofs.Prelude.{marks_with, AreOf, from_mapped, keys_of, IsPerform}
+use Rattle.city_txn.proofs.Prelude.{marks_with, from_mapped, keys_of, IsPerform, written_with, write_in}
 use Rattle.std.proofs.Common.{IsErr, if◌then◌else◌}
 use Rattle.city_txn.specs.internal.Prelude.{Refused, NoMark, Change, Action, Refuses, Edits, applied, reply_of}
 use Rattle.city_txn.specs.internal.Prelude.{is_mark, write_of, own_write, Logs, log_of, has_mark, State, store_own}
@@ -14,6 +14,7 @@ use Rattle.city_model.proofs.ActionKinds.{IsKindOf, kind_of}
 use Rattle.city_model.proofs.FrameLaw.{exclusive_is_named}
 use Rattle.city_model.proofs.FramedActions.{edits_locked}
 use Rattle.city_txn.specs.internal.Performing.{MayPerform, plans as writes_of, seen}
+use Rattle.city_txn.proofs.PlanWritten.{written_planned}
 use Rattle.city_txn.proofs.Touched.{touches_itself, touches_more}
 use Rattle.city_txn.proofs.UndoLogs.{no_mark_from, mark_is_there}
 use Rattle.city_model.specs.declared.command.Command.TheVariants as commands
@@ -130,14 +131,14 @@ module _ (s : ℕ) (c : Command) (v : State) where
               is_failed
 
           pub written_performed : {E : Type 0}
-              → ((f : CityMap) → AreOf f change → (q : List ℕ)
-              → write_of w.writes q ≡ (if writes_of change q then Some (s, f q) else write_of v.writes q))
+              → ((q : List ℕ) → write_of w.writes q ≡ written_with s (write_in change q) (write_of v.writes q))
               → IsPerform {E = E} s c (Ok r) v w
           written_performed done =
               let n = of_plan.after in
               let a = Edits r (keys_of change) n in
               let own_next : (q : List ℕ) → store_own w s q ≡ own_with (store_own v s) (keys_of change) n q =
-              λ q. let e = done n of_plan.objects q in grind arith in
+              λ q. let e = done q in
+              let planned_to = written_planned n change of_plan.objects s q (write_of v.writes q) in grind arith in
               record {
                 reply = reply_as a of_plan.edits;
                 found = λ _. refl;

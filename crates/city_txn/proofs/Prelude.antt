@@ -40,7 +40,7 @@ pub use Rattle.city_txn.specs.internal.Prelude.{StandsUnderLocks, Snapshot, Went
 pub use Rattle.city_txn.specs.internal.Prelude.{held, is_open, locks_id_exclusively, locks_of, map_with}
 pub use Rattle.city_txn.specs.internal.Prelude.{marks_from, marks_with, mode_of, own_with, snapshot, step, unmarked}
 pub use Rattle.city_txn.specs.internal.Prelude.{view, view_with, written, written_at_mark, written_by}
-pub use Rattle.city_txn.specs.internal.Slots.{Became}
+pub use Rattle.city_txn.specs.internal.Reserved.{Became}
 pub use Rattle.city_txn.specs.internal.State.{ChangesWrites, MayReserve, OthersWritesStay, State, Touches, is_reserved}
 pub use Rattle.city_txn.specs.internal.State.{store_committed, store_own, store_view, store_written, written_with}
-pub use Rattle.city_txn.specs.internal.UndoState.{image_at, reservations_of}
+pub use Rattle.city_txn.specs.internal.Transactions.{image_at, reservations_of}

@@ -2,12 +2,12 @@
 pub mod Codes
 pub mod Core
 pub mod Ending
-pub mod FirstWrites
 pub mod Images
 pub mod InPlace
+pub mod LeastAmong
 pub mod LogTests
 pub mod Performing
 pub mod Prelude
-pub mod Slots
+pub mod Reserved
 pub mod State
-pub mod UndoState
+pub mod Transactions

@@ -3,19 +3,19 @@
 //! - `txn_core`: the core, and its answers
 //! - `command_locks`: the locks of a command, how it asks for them, and the answer to expect
 //! - `store`: the one city as written in place, each transaction's view of it, and commands done on it
-//! - `undo`, `undo_image`: reservations, and the previous objects of written ids
+//! - `transactions`, `undo_image`: reservations, and the previous objects of written ids
 //! - `undo_logs`: the way of a transaction back to its marks
 //! - `end`: how a transaction ends
-//! - `slot`, `placeholder`: places in the city for written ids, and the object that holds an empty one
+//! - `reserved`, `placeholder`: room in the city for reserved ids, and the object that keeps it
 #![tactic(auto)]
 
 mod command_locks;
 mod end;
 pub mod placeholder;
-mod slot;
+mod reserved;
 mod store;
+mod transactions;
 mod txn_core;
-mod undo;
 mod undo_image;
 mod undo_logs;
 

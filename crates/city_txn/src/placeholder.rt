@@ -1,4 +1,4 @@
-//! The object that holds an empty slot.
+//! The object that keeps the room of an absent one.
 ghost use Rattle.std.specs.Prelude.{◌≡◌, unwrap_or};
 ghost use Rattle.city_txn.specs.Placeholder.{placeholder};
 
@@ -12,7 +12,7 @@ use city_model::shared_ids::SharedIds;
 use serde_json::Map;
 use std::alloc::Global;
 
-/// A generic object without geometry, kept members or relations, to hold the slot of an absent
+/// A generic object without geometry, kept members or relations, to keep the room of an absent
 /// object. Doesn't allocate.
 pub fn placeholder(alloc: Global) -> Object
     ensures { result ≡ placeholder }

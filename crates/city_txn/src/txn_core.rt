@@ -21,7 +21,6 @@ use city_model::change::Change;
 use city_model::city::City;
 use city_model::command::{Cause, Command, Reply};
 use city_model::copied::Copied;
-use city_model::orphans::least_orphan_in;
 use std::alloc::Global;
 use std::marker::Model;
 use thiserror::Error;
@@ -183,25 +182,19 @@ impl Core {
         ensures fault { IfErr result (λ fault. fault ≡ (if is_open self.now stamp then TxnFault.OutOfMemory else TxnFault.NotOpen stamp)) }
         ensures not_open { is_open self.now stamp ≡ false → IsErr result }
     {
-        if !self.is_open(stamp) {
-            return Err(TxnFault::NotOpen(stamp));
+        if let Some(cause) = self.refusal(stamp)? {
+            return Ok(Prepared::Refused(cause));
         }
         let Ok(change) = self.store.change(stamp) else {
             return Err(TxnFault::OutOfMemory);
         };
-        if let Some(id) = least_orphan_in(&change) {
-            let Ok(id) = id.copy(self.store.alloc()) else {
-                return Err(TxnFault::OutOfMemory);
-            };
-            return Ok(Prepared::Refused(Cause::Orphan(id)));
-        }
         Ok(Prepared::Ready(change))
     }
 
     /// Why a commit of the transaction would be refused; `None` if it may commit. Changes nothing.
     ///
-    /// It finds what `prepare` finds, but copies no object if the transaction may commit. `NotOpen`
-    /// is returned exactly if the stamp isn't open.
+    /// It finds what `prepare` finds, but copies no object. `NotOpen` is returned exactly if the stamp
+    /// isn't open.
     pub fn refusal(&self, stamp: u64) -> Result<Option<Cause>, TxnFault>
         ensures allowed { IfOk result (λ cause. IfNone cause (IsChangeOf self.now stamp (change_in self.now.writes stamp))) }
         ensures refused { IfOk result (λ cause. IfSome cause (RefusesCommit self.now stamp)) }
@@ -211,14 +204,13 @@ impl Core {
         if !self.is_open(stamp) {
             return Err(TxnFault::NotOpen(stamp));
         }
-        if !self.store.has_orphan(stamp) {
+        let Some(id) = self.store.least_orphan(stamp) else {
             return Ok(None);
-        }
-        match self.prepare(stamp) {
-            Ok(Prepared::Refused(cause)) => Ok(Some(cause)),
-            Ok(Prepared::Ready(_)) => Ok(None),
-            Err(fault) => Err(fault),
-        }
+        };
+        let Ok(id) = id.copy(self.store.alloc()) else {
+            return Err(TxnFault::OutOfMemory);
+        };
+        Ok(Some(Cause::Orphan(id)))
     }
 
     /// Makes the transaction's view the committed city, and gives its locks back. Doesn't allocate.

@@ -7,7 +7,7 @@ use Rattle.city_txn.specs.declared.end.End.TheVariants.{Commit, RollBack}
 use Rattle.city_txn.specs.declared.undo_image.UndoImage.{UndoImage}
 use Rattle.city_txn.specs.internal.Images.{seen_under, before_image}
 use Rattle.city_txn.specs.internal.State.{State, store_committed, store_view}
-use Rattle.city_txn.specs.internal.UndoState.{Images, image_at}
+use Rattle.city_txn.specs.internal.Transactions.{Images, image_at}
 
 -- the object at an id after the end, from the object and the image there: the transaction's, or the previous one
 abbrev pub left_at_end : End → Option Object → Option UndoImage → Option Object

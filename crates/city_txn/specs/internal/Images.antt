@@ -1,17 +1,18 @@
 -- The meaning of an undo image at its id, if the city has x there.
-use Rattle.std.specs.Prelude.{ℕ, Bool, true, false, Option, None, Some, is_none}
+use Rattle.std.specs.Prelude.{ℕ, Bool, false, Option, None, Some, is_none, unwrap_or}
 use Rattle.std.specs.Prelude.{if◌then◌else◌}
+use Rattle.std.specs.Option.{option_flatten}
 use Rattle.city_model.specs.declared.object.Object.{Object}
 use Rattle.city_model.specs.Relations.{is_orphan_there}
 use Rattle.city_txn.specs.declared.undo_image.UndoImage.{UndoImage}
 
--- the object for its transaction: none if a placeholder holds the slot
+-- the object for its transaction: none if a placeholder stands there
 abbrev pub seen_under : Option Object → UndoImage → Option Object
 seen_under x i = if i.deleted then None else x
 
 -- the previous object; until the first write, the current one
 abbrev pub before_image : Option Object → UndoImage → Option Object
-before_image x i = if i.unwritten then seen_under x i else i.before
+before_image x i = unwrap_or i.before (seen_under x i)
 
 -- the committed object, with or without an image
 abbrev pub committed_at : Option Object → Option UndoImage → Option Object
@@ -21,7 +22,7 @@ committed_at x (Some i) = before_image x i
 -- the write of the image: its transaction, and the object for it
 abbrev pub write_at : Option Object → Option UndoImage → Option (ℕ × Option Object)
 write_at x None = None
-write_at x (Some i) = if i.unwritten then None else Some (i.by, seen_under x i)
+write_at x (Some i) = if is_none i.before then None else Some (i.by, seen_under x i)
 
 -- whether an orphan was written
 abbrev pub is_orphan_written : Option (ℕ × Option Object) → Bool
@@ -32,23 +33,31 @@ abbrev pub writer_of : Option UndoImage → Option ℕ
 writer_of None = None
 writer_of (Some i) = Some i.by
 
+-- the image of an id reserved and not written
+abbrev pub unwritten_image : ℕ → Bool → UndoImage
+unwritten_image stamp deleted = record { by = stamp; deleted = deleted; before = None }
+
+-- of one written over x at once
+abbrev pub first_image : ℕ → Option Object → Bool → UndoImage
+first_image stamp x deleted = record { by = stamp; deleted = deleted; before = Some x }
+
 -- the image after a write over x
 abbrev pub written_over : Option Object → Bool → UndoImage → UndoImage
-written_over x deleted i =
-    record { by = i.by; unwritten = false; deleted = deleted; before = before_image x i }
+written_over x deleted i = record { by = i.by; deleted = deleted; before = Some (before_image x i) }
 
-abbrev pub unwritten_image : ℕ → Bool → UndoImage
-unwritten_image stamp deleted = record { by = stamp; unwritten = true; deleted = deleted; before = None }
+-- with or without an image before
+abbrev pub image_put : ℕ → Option Object → Bool → Option UndoImage → UndoImage
+image_put stamp x deleted None = first_image stamp x deleted
+image_put stamp x deleted (Some i) = written_over x deleted i
 
 -- the object to put back into the city if the write is undone
 abbrev pub put_back : UndoImage → Option Object
-put_back i = if i.unwritten then None else i.before
-
--- the image after that: nothing is written, and a placeholder holds the slot if there was no previous object
-abbrev pub image_unwritten : UndoImage → UndoImage
-image_unwritten i = if i.unwritten then i
-    else record { by = i.by; unwritten = true; deleted = is_none i.before; before = None }
+put_back i = option_flatten i.before
 
 abbrev pub put_back_at : Option UndoImage → Option Object
 put_back_at None = None
 put_back_at (Some i) = put_back i
+
+-- the image after that: nothing is written, and a placeholder stands there if there was no previous object
+abbrev pub image_unwritten : UndoImage → UndoImage
+image_unwritten i = if is_none i.before then i else unwritten_image i.by (is_none (put_back i))

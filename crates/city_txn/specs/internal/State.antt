@@ -5,7 +5,7 @@ use Rattle.city_model.specs.declared.frame.Frame.{Frame}
 use Rattle.city_model.specs.CityMap.{Objects, CityMap, object_at, has_id, same_id}
 use Rattle.city_model.specs.declared.object.Object.{Object}
 use Rattle.city_txn.specs.internal.LogTests.{is_noted}
-use Rattle.city_txn.specs.internal.UndoState.{Reservations, listed_by, reservations_of}
+use Rattle.city_txn.specs.internal.Transactions.{Reservations, listed_by, reservations_of}
 use Rattle.city_txn.specs.UndoLog.{OwnWrites, Written, Logs, log_of, marked, has_before}
 use Rattle.city_txn.specs.Writes.{Write, write_of, own_or, own_write, unless_by}
 

@@ -18,9 +18,9 @@ pub returns-in_err-write_all-in-Writes : goal.returns-in_err-write_all-in-Writes
 returns-in_err-write_all-in-Writes c =
     let e = c.in_err-write_all-in-Writes.ensures in
     unwritten_performed _ _ _ c.requires.no_mark _ c.in_ok-cause.ensures.plan _ _ c.in-Writes.is _ e.touches e.marks _
-    c.from_residual-in_err-write_all-in-Writes.ensures.0 e.err
+    c.from_residual-in_err-write_all-in-Writes.ensures.0 e.writes
 
 pub returns-in_ok-write_all-in-Writes : goal.returns-in_ok-write_all-in-Writes
 returns-in_ok-write_all-in-Writes c =
     let e = c.in_ok-write_all-in-Writes.ensures in
-    written_performed _ _ _ c.requires.no_mark _ c.in_ok-cause.ensures.plan _ _ c.in-Writes.is _ e.touches e.marks e.ok
+    written_performed _ _ _ c.requires.no_mark _ c.in_ok-cause.ensures.plan _ _ c.in-Writes.is _ e.touches e.marks e.writes

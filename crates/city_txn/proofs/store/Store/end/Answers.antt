@@ -6,7 +6,7 @@ use Rattle.city_txn.proofs.store.Store.end.Goals as goal
 done : (c : After-has_orphan_still-self-inside) → Ending c.args.stamp c.args.end c.args.self.now
     (record c.self.inside {
       city = c.end_at.new.city;
-      undo = c.end_at.new.self;
+      transactions = c.end_at.new.self;
       logs = c.close.new.self;
       may_have_orphan = c.has_orphan_still-self-inside.result;
     })
@@ -29,4 +29,5 @@ pub invariant_of-self : goal.invariant_of-self
 invariant_of-self c = (done (goal.at.invariant_of-self c).After-has_orphan_still-self-inside).in_place
 
 pub returns : goal.returns
-returns c = let at = done (goal.at.returns c).After-has_orphan_still-self-inside in record { city = at.city; forgets = at.forgets }
+returns c = let at = done (goal.at.returns c).After-has_orphan_still-self-inside in
+    record { city = at.city; forgets = at.forgets }

@@ -12,7 +12,7 @@ invariant_of-self-2 c =
     ap (λ (v : State). is_reserved v c.args.stamp id) c.self.view_is ∙ c.requires in
     record {
       ordered = k.ordered;
-      has_slot = k.has_slot;
+      has_room = k.has_room;
       listed = k.listed;
       noted = λ t q h.
           let e = c.in_ok-push.ensures.ok t in let was = k.noted t q in let at = same_id_true id q in grind arith;

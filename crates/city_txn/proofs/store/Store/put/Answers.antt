@@ -1,18 +1,19 @@
-use Rattle.city_txn.proofs.Prelude.{◌∙◌, ap, refl, arith, State}
+use Rattle.city_txn.proofs.Prelude.{◌∙◌, ap, refl, arith, Some, State}
 use Rattle.std.proofs.Common.{is_ok}
 use Rattle.city_txn.specs.internal.State.{is_begun}
 use Rattle.city_txn.proofs.AtOneId.{image}
-use Rattle.city_txn.proofs.FirstWrites.{FirstWritten, put_written}
+use Rattle.city_txn.proofs.FirstWrites.{put_written}
+use Rattle.city_txn.proofs.StoreChanged.{FirstWritten}
 use Rattle.city_txn.proofs.store.Store.put.Goals.{After-put}
 use Rattle.city_txn.proofs.store.Store.put.Goals as goal
 
 done : (c : After-put) → FirstWritten c.args.self.now
     (record c.self.inside {
       city = c.put.new.city;
-      undo = c.put.new.self;
+      transactions = c.put.new.self;
       may_have_orphan = c.has_orphan_then-self-inside.result;
     }) (is_ok c.put.result)
-    c.args.stamp c.args.id c.args.object
+    c.args.stamp c.args.id (Some (c.args.stamp, c.args.object))
 done c =
     put_written c.self.inside c.self.invariant c.self.view_is c.args.stamp c.args.id c.requires (is_ok c.put.result)
     c.put.new.city c.put.new.self c.args.object (image c.self.inside c.args.id) refl

@@ -4,12 +4,12 @@ use Rattle.city_txn.proofs.store.Store.restore.Goals.{After-unwrite}
 use Rattle.city_txn.proofs.store.Store.restore.Goals as goal
 
 done : (c : After-unwrite) → OwnWritten c.args.self.now
-    (record c.self.inside { city = c.unwrite.new.city; undo = c.unwrite.new.self }) c.args.stamp c.args.id None
+    (record c.self.inside { city = c.unwrite.new.city; transactions = c.unwrite.new.self }) c.args.stamp c.args.id None
 done c =
     own_written c.self.inside c.self.invariant c.self.view_is c.args.stamp c.args.id c.requires c.unwrite.new.city
     c.unwrite.new.self c.unwrite.ensures.became c.unwrite.ensures.reservations None
     c.self.inside.may_have_orphan (λ h. (h, refl))
-    (λ mine slot. grind arith)
+    (λ mine room. grind arith)
 
 pub invariant_of-self : goal.invariant_of-self
 invariant_of-self c = (done (goal.at.invariant_of-self c).After-unwrite).in_place

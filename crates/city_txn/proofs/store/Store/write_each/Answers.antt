@@ -1,7 +1,7 @@
 use Rattle.city_txn.proofs.Prelude.{◌≡◌, ◌∙◌, ap, rules, subst, Change, write_in, store_own, written_with, Touches}
 use Rattle.city_txn.proofs.Prelude.{write_of, log_of, marked, is_noted, plans}
 use Rattle.city_txn.specs.UndoLog.{Written}
-use Rattle.city_txn.proofs.PlanWritten.{unnoted_stays, written_planned}
+use Rattle.city_txn.proofs.PlanWritten.{unnoted_stays}
 use Rattle.city_txn.proofs.Touched.{touches_on, touches_writes}
 use Rattle.city_txn.proofs.UndoLogs.{marked_same}
 use Rattle.city_txn.proofs.store.Store.write_each.Goals.{After-make_ready}
@@ -38,9 +38,7 @@ returns-clause-marks c =
     (c.set_all.ensures.writes q))
     ∙ ap (λ (x : Written). x.1) c.make_ready.ensures.marks
 
-pub returns-clause-ok : goal.returns-clause-ok
-returns-clause-ok c f of q =
-    let s = c.args.stamp in
+pub returns-clause-writes : goal.returns-clause-writes
+returns-clause-writes c q =
     c.set_all.ensures.writes q
-    ∙ (λ i. written_with s (write_in (c.into_vec.ensures i) q) (c.make_ready.ensures.writes q i))
-    ∙ written_planned f c.args.writes of s q (write_of c.args.self.now.writes q)
+    ∙ (λ i. written_with c.args.stamp (write_in (c.into_vec.ensures i) q) (c.make_ready.ensures.writes q i))

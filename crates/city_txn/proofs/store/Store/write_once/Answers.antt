@@ -1,5 +1,6 @@
 use Rattle.city_txn.proofs.Prelude.{◌≡◌, ◌∙◌, ◌∷◌, [], same_id, plans, write_of}
-use Rattle.city_txn.proofs.FirstWrites.{only_one, only_planned, only_ok, only_err}
+use Rattle.std.proofs.Common.{is_ok}
+use Rattle.city_txn.proofs.FirstWrites.{only_one, only_planned, only_written}
 use Rattle.city_txn.proofs.Touched.{touches_more}
 use Rattle.city_txn.proofs.store.Store.write_once.Goals.{In-Some}
 use Rattle.city_txn.proofs.store.Store.write_once.Goals as goal
@@ -23,14 +24,9 @@ returns-in-Some-clause-touches c =
     touches_more c.args.stamp (same_id c.in-Some.id) (plans c.args.writes.items) c.args.self.now c.put.new.self
     (λ q h. only_planned c.args.writes.items (c.in-Some.id, c.in-Some.object) is q ∙ h) c.put.ensures.touches
 
-pub returns-in-Some-clause-ok : goal.returns-in-Some-clause-ok
-returns-in-Some-clause-ok c =
-    only_ok c.args.writes.items (c.in-Some.id, c.in-Some.object)
-    (is_only (goal.at.returns-in-Some-clause-ok c).In-Some) c.args.stamp
-    (write_of c.put.new.self.writes) (write_of c.args.self.now.writes) c.put.result c.put.ensures.writes
-
-pub returns-in-Some-clause-err : goal.returns-in-Some-clause-err
-returns-in-Some-clause-err c =
-    only_err c.args.writes.items (c.in-Some.id, c.in-Some.object)
-    (is_only (goal.at.returns-in-Some-clause-err c).In-Some) c.args.stamp
-    (write_of c.put.new.self.writes) (write_of c.args.self.now.writes) c.put.result c.put.ensures.writes
+pub returns-in-Some-clause-writes : goal.returns-in-Some-clause-writes
+returns-in-Some-clause-writes c q =
+    c.put.ensures.writes q
+    ∙ only_written c.args.writes.items (c.in-Some.id, c.in-Some.object)
+    (is_only (goal.at.returns-in-Some-clause-writes c).In-Some) c.args.stamp (is_ok c.put.result) q
+    (write_of c.args.self.now.writes q)

@@ -1,6 +1,6 @@
 use Rattle.city_txn.proofs.Prelude.{◌≡◌, length}
 use Rattle.city_txn.specs.internal.Ending.{EndedBut}
-use Rattle.city_txn.proofs.undo.Undo.end_all.Given as goal
+use Rattle.city_txn.proofs.transactions.Transactions.end_all.Given as goal
 
 abbrev pub invariant-loop-id : goal.invariant-loop-id
 invariant-loop-id l = record {

@@ -1,7 +1,7 @@
 use Rattle.city_txn.proofs.Prelude.{◌≡◌, [], arith, refl}
 use Rattle.std.proofs.lemmas.List.{nil_from_length}
 use Rattle.city_txn.proofs.StoreChanged.{none_ended, one_ended, all_ended}
-use Rattle.city_txn.proofs.undo.Undo.end_all.Goals as goal
+use Rattle.city_txn.proofs.transactions.Transactions.end_all.Goals as goal
 
 pub loop-id-init : goal.loop-id-init
 loop-id-init c = record { ended = none_ended c.args.end c.args.city.now c.args.self.now.images; reservations = refl }
@@ -12,7 +12,7 @@ settle-requires c =
     let object = c.loop-id.invariant.ended.objects id in
     let image = c.loop-id.invariant.ended.images id in
     let there = c.in-Some.ensures.value in
-    let slot = c.requires id in
+    let room = c.requires id in
     grind arith
 
 pub loop-id-preserved : goal.loop-id-preserved

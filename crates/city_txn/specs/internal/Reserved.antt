@@ -5,11 +5,11 @@ use Rattle.std.specs.Cmp.Lexicographic.{slice_cmp}
 use Rattle.std.specs.BTreeMap.{IsOrdered}
 use Rattle.city_model.specs.CityMap.{CityValue, CityMap, object_at}
 use Rattle.city_txn.specs.declared.undo_image.UndoImage.{UndoImage}
-use Rattle.city_txn.specs.internal.UndoState.{Images, image_at}
+use Rattle.city_txn.specs.internal.Transactions.{Images, image_at}
 
--- an object or a placeholder stands at the id
-abbrev pub HasSlot : CityValue → List ℕ → Type 0
-HasSlot city id = is_some (object_at city.1 id) ≡ true
+-- an object or a placeholder stands at the id, so it is set without memory
+abbrev pub HasRoom : CityValue → List ℕ → Type 0
+HasRoom city id = is_some (object_at city.1 id) ≡ true
 
 -- at the ids these objects stand now, with these images; elsewhere nothing changed
 pub record Became (ids : List ℕ → Bool) (objects : CityMap) (images : List ℕ → Option UndoImage)

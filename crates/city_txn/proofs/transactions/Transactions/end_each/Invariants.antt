@@ -1,5 +1,5 @@
 use Rattle.city_txn.proofs.Prelude.{take, ◌≡◌, None, has_id, object_at, left_at_end, Became, image_at}
-use Rattle.city_txn.proofs.undo.Undo.end_each.Given as goal
+use Rattle.city_txn.proofs.transactions.Transactions.end_each.Given as goal
 
 abbrev pub invariant-loop-id : goal.invariant-loop-id
 invariant-loop-id l = record {

@@ -1,14 +1,12 @@
-//! Slots of the city: made, filled, and cleared.
+//! Room in the city for reserved ids: made, filled, and cleared. An id has room if an object or a
+//! placeholder stands there.
 ghost use Rattle.std.specs.Prelude.{◌≡◌, ℕ, List, None, Some, unwrap_or, IfOk, OnOk, OnErr, is_none, if◌then◌else◌};
 ghost use Rattle.std.specs.Option.{option_or};
 ghost use Rattle.city_model.specs.CityMap.{object_at, changed};
-ghost use Rattle.city_txn.specs.internal.Ending.{left_at_end};
 ghost use Rattle.city_txn.specs.Placeholder.{placeholder};
-ghost use Rattle.city_txn.specs.internal.Slots.{HasSlot};
+ghost use Rattle.city_txn.specs.internal.Reserved.{HasRoom};
 
-use crate::end::End;
 use crate::placeholder::placeholder;
-use crate::undo_image::UndoImage;
 use city_model::OutOfMemory;
 use city_model::city::City;
 use city_model::copied::Copied;
@@ -16,10 +14,10 @@ use city_model::object::Object;
 use city_model::text::Id;
 use std::alloc::Global;
 
-/// Gives the id a slot: a placeholder, if the object is absent. If memory runs out, the city is
+/// Makes room for the id: a placeholder, if the object is absent. If memory runs out, the city is
 /// unchanged.
 #[tactic(auto, using(city_model::proofs::Ids::same_id_true, crate::proofs::StoreChanged::set_at))]
-pub fn make(city: &mut City, alloc: Global, id: &Id, absent: bool) -> Result<(), OutOfMemory>
+pub fn make_room(city: &mut City, alloc: Global, id: &Id, absent: bool) -> Result<(), OutOfMemory>
     requires { absent ≡ is_none (object_at city.old.1 id.now) }
     ensures after { OnOk result ((q : List ℕ) → object_at city.new.1 q
         ≡ changed (object_at city.old.1) id.now (Some (unwrap_or (object_at city.old.1 id.now) placeholder)) q) }
@@ -44,10 +42,10 @@ pub fn clear(city: &mut City, id: &Id, deleted: bool)
     }
 }
 
-/// Sets the object of an id with a slot, and returns the previous one.
+/// Sets the object of an id with room, and returns the previous one.
 #[tactic(auto, using(crate::proofs::StoreChanged::set_at))]
 pub fn swap(city: &mut City, id: Id, object: Object) -> Object
-    requires { HasSlot city.old id }
+    requires { HasRoom city.old id }
     ensures old { object_at city.old.1 id ≡ Some result }
     ensures after { (q : List ℕ) → object_at city.new.1 q ≡ changed (object_at city.old.1) id (Some object) q }
     ensures frame { city.new.0 ≡ city.old.0 }
@@ -82,10 +80,10 @@ pub fn put(
     }
 }
 
-/// Sets the object, if there is one, at an id with a slot.
+/// Sets the object, if there is one, at an id with room.
 #[tactic(auto, using(city_model::proofs::Ids::same_id_true, crate::proofs::StoreChanged::set_at))]
 pub fn refill(city: &mut City, id: Id, object: Option<Object>)
-    requires { HasSlot city.old id }
+    requires { HasRoom city.old id }
     ensures after { (q : List ℕ) → object_at city.new.1 q
         ≡ changed (object_at city.old.1) id (option_or object (object_at city.old.1 id)) q }
     ensures frame { city.new.0 ≡ city.old.0 }
@@ -98,30 +96,19 @@ pub fn refill(city: &mut City, id: Id, object: Option<Object>)
     }
 }
 
-/// Ends the image's transaction at one id: keeps its write, or restores the previous object.
+/// Puts the object back at an id with room, or removes what stands there if there is none.
 #[tactic(auto, using(city_model::proofs::Ids::same_id_true, crate::proofs::StoreChanged::set_at))]
-pub fn settle(city: &mut City, id: Id, end: End, image: UndoImage)
-    requires { HasSlot city.old id }
-    ensures after { (q : List ℕ) → object_at city.new.1 q
-        ≡ changed (object_at city.old.1) id (left_at_end end (object_at city.old.1 id) (Some image)) q }
+pub fn put_back(city: &mut City, id: Id, object: Option<Object>)
+    requires { HasRoom city.old id }
+    ensures after { (q : List ℕ) → object_at city.new.1 q ≡ changed (object_at city.old.1) id object q }
     ensures frame { city.new.0 ≡ city.old.0 }
 {
-    let UndoImage {
-        by: _,
-        unwritten,
-        deleted,
-        before,
-    } = image;
-    match end {
-        End::Commit => clear(city, &id, deleted),
-        End::RollBack => {
-            if unwritten {
-                clear(city, &id, deleted);
-            } else if let Some(object) = before {
-                let _ = swap(city, id, object);
-            } else {
-                let _ = city.remove(&id);
-            }
+    match object {
+        Some(object) => {
+            let _ = swap(city, id, object);
+        }
+        None => {
+            let _ = city.remove(&id);
         }
     }
 }

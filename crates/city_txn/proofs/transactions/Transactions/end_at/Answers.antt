@@ -1,5 +1,5 @@
 use Rattle.city_txn.proofs.StoreChanged.{ended_at}
-use Rattle.city_txn.proofs.undo.Undo.end_at.Goals as goal
+use Rattle.city_txn.proofs.transactions.Transactions.end_at.Goals as goal
 
 pub returns-then-alone-clause-became : goal.returns-then-alone-clause-became
 returns-then-alone-clause-became c =

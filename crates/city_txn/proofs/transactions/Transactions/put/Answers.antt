@@ -1,8 +1,8 @@
 use Rattle.city_txn.proofs.Prelude.{◌≡◌, None, arith, object_at, image_at}
 use Rattle.std.proofs.Common.{is_none}
-use Rattle.city_txn.specs.internal.FirstWrites.{image_put}
+use Rattle.city_txn.specs.internal.Images.{image_put}
 use Rattle.city_txn.proofs.FirstWrites.{first_taken_back}
-use Rattle.city_txn.proofs.undo.Undo.put.Goals as goal
+use Rattle.city_txn.proofs.transactions.Transactions.put.Goals as goal
 
 pub returns-in-Err-clause-became : goal.returns-in-Err-clause-became
 returns-in-Err-clause-became c =

@@ -1,5 +1,5 @@
 use Rattle.city_txn.proofs.StoreChanged.{taken_back}
-use Rattle.city_txn.proofs.undo.Undo.reserve.Goals as goal
+use Rattle.city_txn.proofs.transactions.Transactions.reserve.Goals as goal
 
 pub returns-in_default-clause-became : goal.returns-in_default-clause-became
 returns-in_default-clause-became c =

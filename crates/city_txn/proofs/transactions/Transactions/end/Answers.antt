@@ -1,6 +1,6 @@
 use Rattle.city_txn.proofs.Prelude.{arith, rules}
 use Rattle.std.proofs.lemmas.Map.Lookups.{exact_bytes}
-use Rattle.city_txn.proofs.undo.Undo.end.Goals as goal
+use Rattle.city_txn.proofs.transactions.Transactions.end.Goals as goal
 
 pub settle-requires : goal.settle-requires
 settle-requires c =

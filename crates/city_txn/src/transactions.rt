@@ -1,4 +1,4 @@
-//! Undo images and reservations, to end the open transactions.
+//! The open transactions: their reserved ids, and an undo image of each.
 ghost use Rattle.std.specs.Prelude.{◌≡◌, ◌↔◌, ◌==◌, IsTrue, ℕ, List, [], ◌∷◌, ◌++◌, None, Some, IfOk, OnOk, OnErr, is_none, is_ok, is_some, true, ◌&&◌, option_copied, option_map, unwrap_or, if◌then◌else◌};
 ghost use Rattle.std.specs.BTreeMap.{IsOrdered};
 ghost use Rattle.std.specs.Cmp.Lexicographic.{slice_cmp};
@@ -8,14 +8,13 @@ ghost use Rattle.city_model.specs.CityMap.{changed, has_id, object_at, same_id};
 ghost use Rattle.city_txn.specs.Placeholder.{placeholder};
 ghost use Rattle.city_txn.specs.declared.end.End.{End};
 ghost use Rattle.city_txn.specs.internal.Ending.{left_at_end};
-ghost use Rattle.city_txn.specs.internal.FirstWrites.{image_put};
-ghost use Rattle.city_txn.specs.internal.Images.{unwritten_image, written_over, image_unwritten, put_back_at};
-ghost use Rattle.city_txn.specs.internal.Slots.{Became, HasSlot};
-ghost use Rattle.city_txn.specs.internal.UndoState.{image_at, listed_by, reservations_of};
+ghost use Rattle.city_txn.specs.internal.Images.{unwritten_image, written_over, image_unwritten, put_back, put_back_at, image_put};
+ghost use Rattle.city_txn.specs.internal.Reserved.{Became, HasRoom};
+ghost use Rattle.city_txn.specs.internal.Transactions.{image_at, listed_by, reservations_of};
 
 use crate::end::End;
 use crate::placeholder::object_or_placeholder;
-use crate::slot;
+use crate::reserved;
 use crate::undo_image::UndoImage;
 use city_locks::by_stamp::{push, push_at};
 use city_model::OutOfMemory;
@@ -27,21 +26,22 @@ use city_model::text::Id;
 use std::alloc::Global;
 use std::collections::BTreeMap;
 
-/// An undo image for each reserved id, and the reserved ids of each open transaction, by its stamp.
+/// The open transactions: an undo image of each reserved id, and the reserved ids of each transaction,
+/// by its stamp.
 #[derive(Drop)]
-pub struct Undo {
+pub struct Transactions {
     alloc: Global,
     images: BTreeMap<Id, UndoImage>,
     reservations: BTreeMap<u64, Sequence<Id>>,
 }
 
-impl Undo {
+impl Transactions {
     /// No stamp is open, and no id reserved. Doesn't allocate.
     pub fn new(alloc: Global) -> Self
         ensures images { result.images.entries ≡ [] }
         ensures reservations { result.reservations.entries ≡ [] }
     {
-        Undo {
+        Transactions {
             alloc,
             images: BTreeMap::new(alloc),
             reservations: BTreeMap::new(alloc),
@@ -90,7 +90,7 @@ impl Undo {
         Ok(())
     }
 
-    /// Reserves an id without image for the stamp: it gets a slot, and an unwritten image. If memory
+    /// Reserves an id without image for the stamp: it gets room, and an unwritten image. If memory
     /// runs out, nothing changes.
     pub fn reserve(&mut self, city: &mut City, stamp: u64, id: &Id) -> Result<(), OutOfMemory>
         requires { image_at self.old.images id.now ≡ None }
@@ -112,7 +112,7 @@ impl Undo {
         Ok(())
     }
 
-    /// Gives an id without image a slot, and an unwritten image. If memory runs out, nothing changes.
+    /// Gives an id without image room, and an unwritten image. If memory runs out, nothing changes.
     #[tactic(auto, using(city_model::proofs::Ids::same_id_true))]
     fn add_image(&mut self, city: &mut City, stamp: u64, id: &Id) -> Result<(), OutOfMemory>
         requires { image_at self.old.images id.now ≡ None }
@@ -124,14 +124,9 @@ impl Undo {
     {
         let key = id.copy(self.alloc)?;
         let absent = city.get(id).is_none();
-        let image = UndoImage {
-            by: stamp,
-            unwritten: true,
-            deleted: absent,
-            before: None,
-        };
+        let image = UndoImage::unwritten(stamp, absent);
         self.images.insert(key, image)?;
-        let Ok(()) = slot::make(city, self.alloc, id, absent) else {
+        let Ok(()) = reserved::make_room(city, self.alloc, id, absent) else {
             let _ = self.images.remove(id);
             return Err(OutOfMemory);
         };
@@ -147,7 +142,7 @@ impl Undo {
         id: Id,
         object: Option<Object>,
     ) -> Result<(), OutOfMemory>
-        requires slot { is_some (image_at self.old.images id) ≡ true → HasSlot city.old id }
+        requires room { is_some (image_at self.old.images id) ≡ true → HasRoom city.old id }
         requires opened { is_some (listed_by self.old.reservations.entries stamp) ≡ true }
         ensures became { Became (λ q. is_ok result && same_id id q)
             (λ q. Some (unwrap_or object placeholder))
@@ -180,7 +175,7 @@ impl Undo {
         id: &Id,
         object: Option<Object>,
     ) -> Result<bool, OutOfMemory>
-        requires { is_some (image_at self.old.images id.now) ≡ true → HasSlot city.old id.now }
+        requires { is_some (image_at self.old.images id.now) ≡ true → HasRoom city.old id.now }
         ensures became { Became (λ q. is_ok result && same_id id.now q)
             (λ q. Some (unwrap_or object placeholder))
             (λ q. Some (image_put stamp (object_at city.old.1 id.now) (is_none object) (image_at self.old.images id.now)))
@@ -190,14 +185,9 @@ impl Undo {
     {
         let key = id.copy(self.alloc)?;
         let deleted = object.is_none();
-        let standing = object_or_placeholder(self.alloc, object);
-        let before = slot::put(city, self.alloc, id, standing)?;
-        let image = UndoImage {
-            by: stamp,
-            unwritten: false,
-            deleted,
-            before,
-        };
+        let object = object_or_placeholder(self.alloc, object);
+        let before = reserved::put(city, self.alloc, id, object)?;
+        let image = UndoImage::written(stamp, before, deleted);
         match self.keep_image(city, key, image)? {
             Some(old) => {
                 self.keep_before(id, old);
@@ -207,7 +197,7 @@ impl Undo {
         }
     }
 
-    /// Keeps the image of an id with a slot, and returns its old image. If memory runs out, the
+    /// Keeps the image of an id with room, and returns its old image. If memory runs out, the
     /// previous object goes back into the city.
     #[tactic(auto, using(city_model::proofs::Ids::same_id_true))]
     fn keep_image(
@@ -216,7 +206,7 @@ impl Undo {
         key: Id,
         image: UndoImage,
     ) -> Result<Option<UndoImage>, OutOfMemory>
-        requires { HasSlot city.old key }
+        requires { HasRoom city.old key }
         ensures objects { (q : List ℕ) → object_at city.new.1 q
             ≡ (if is_ok result then object_at city.old.1 q
             else changed (object_at city.old.1) key (left_at_end End.RollBack (object_at city.old.1 key) (Some image)) q) }
@@ -231,7 +221,7 @@ impl Undo {
             Ok(old) => Ok(old),
             Err(refused) => {
                 let (key, image) = refused.value;
-                slot::settle(city, key, End::RollBack, image);
+                image.settle(city, key, End::RollBack);
                 Err(OutOfMemory)
             }
         }
@@ -242,7 +232,7 @@ impl Undo {
     fn keep_before(&mut self, id: &Id, old: UndoImage)
         requires { is_some (image_at self.old.images id.now) ≡ true }
         ensures images { (q : List ℕ) → image_at self.new.images q ≡ (if same_id id.now q
-            then option_map (λ image. written_over image.before image.deleted old) (image_at self.old.images id.now)
+            then option_map (λ image. written_over (put_back image) image.deleted old) (image_at self.old.images id.now)
             else image_at self.old.images q) }
         ensures ordered { IsOrdered (slice_cmp nat_cmp) self.new.images }
         ensures reservations { self.new.reservations ≡ self.old.reservations }
@@ -256,7 +246,7 @@ impl Undo {
     /// Puts the object, or a placeholder, at a reserved id of the city, and the previous object
     /// into its image. Doesn't allocate.
     pub fn write(&mut self, city: &mut City, id: Id, object: Option<Object>)
-        requires has_slot { HasSlot city.old id }
+        requires has_room { HasRoom city.old id }
         requires there { is_some (image_at self.old.images id) ≡ true }
         ensures became { Became (same_id id) (λ q. Some (unwrap_or object placeholder))
             (λ q. option_map (written_over (object_at city.old.1 id) (is_none object)) (image_at self.old.images id))
@@ -264,10 +254,10 @@ impl Undo {
         ensures reservations { self.new.reservations ≡ self.old.reservations }
     {
         let deleted = object.is_none();
-        let standing = object_or_placeholder(self.alloc, object);
+        let object = object_or_placeholder(self.alloc, object);
         match self.images.get_mut(&id) {
             Some(image) => {
-                let old = slot::swap(city, id, standing);
+                let old = reserved::swap(city, id, object);
                 image.write_over(old, deleted);
             }
             None => unreachable!(),
@@ -277,7 +267,7 @@ impl Undo {
     /// Undoes the write of a reserved id, if there is one: the previous object goes back into the
     /// city. Doesn't allocate.
     pub fn unwrite(&mut self, city: &mut City, id: Id)
-        requires has_slot { HasSlot city.old id }
+        requires has_room { HasRoom city.old id }
         requires there { is_some (image_at self.old.images id) ≡ true }
         ensures became { Became (same_id id)
             (λ q. option_or (put_back_at (image_at self.old.images id)) (object_at city.old.1 id))
@@ -288,7 +278,7 @@ impl Undo {
         match self.images.get_mut(&id) {
             Some(image) => {
                 let before = image.unwrite();
-                slot::refill(city, id, before);
+                reserved::refill(city, id, before);
             }
             None => unreachable!(),
         }
@@ -297,34 +287,34 @@ impl Undo {
     /// Ends a transaction at the id, and removes the id's image, if there is one. Doesn't allocate.
     #[tactic(auto, using(city_model::proofs::Ids::same_id_true))]
     pub fn end(&mut self, city: &mut City, end: End, id: &Id)
-        requires { is_some (image_at self.old.images id.now) ≡ true → HasSlot city.old id.now }
+        requires { is_some (image_at self.old.images id.now) ≡ true → HasRoom city.old id.now }
         ensures became { Became (same_id id.now)
             (λ q. left_at_end end (object_at city.old.1 id.now) (image_at self.old.images id.now)) (λ q. None)
             city.old city.new self.old.images self.new.images }
         ensures reservations { self.new.reservations ≡ self.old.reservations }
     {
         if let Some((key, image)) = self.images.remove_entry(id) {
-            slot::settle(city, key, end, image);
+            image.settle(city, key, end);
         }
     }
 
     /// Ends a transaction at all ids with an image, and removes the images. Doesn't allocate.
     pub fn end_all(&mut self, city: &mut City, end: End)
-        requires { (q : List ℕ) → is_some (image_at self.old.images q) ≡ true → HasSlot city.old q }
+        requires { (q : List ℕ) → is_some (image_at self.old.images q) ≡ true → HasRoom city.old q }
         ensures became { Became (λ q. is_some (image_at self.old.images q))
             (λ q. left_at_end end (object_at city.old.1 q) (image_at self.old.images q)) (λ q. None)
             city.old city.new self.old.images self.new.images }
         ensures reservations { self.new.reservations ≡ self.old.reservations }
     {
         while let Some((id, image)) = self.images.pop_last() {
-            slot::settle(city, id, end, image);
+            image.settle(city, id, end);
         }
     }
 
     /// Ends the transaction at the ids. If it is `alone`, no other is open: all images are at its ids,
     /// and none is looked up. Doesn't allocate.
     pub fn end_at(&mut self, city: &mut City, end: End, ids: &[Id], alone: bool)
-        requires slots { (q : List ℕ) → is_some (image_at self.old.images q) ≡ true → HasSlot city.old q }
+        requires room { (q : List ℕ) → is_some (image_at self.old.images q) ≡ true → HasRoom city.old q }
         requires alone { alone ≡ true → (q : List ℕ) → is_some (image_at self.old.images q) ≡ true → has_id ids.now q ≡ true }
         ensures became { Became (has_id ids.now)
             (λ q. left_at_end end (object_at city.old.1 q) (image_at self.old.images q)) (λ q. None)
@@ -340,7 +330,7 @@ impl Undo {
 
     /// Ends the transaction at the ids, one after another. Doesn't allocate.
     fn end_each(&mut self, city: &mut City, end: End, ids: &[Id])
-        requires { (q : List ℕ) → is_some (image_at self.old.images q) ≡ true → HasSlot city.old q }
+        requires { (q : List ℕ) → is_some (image_at self.old.images q) ≡ true → HasRoom city.old q }
         ensures became { Became (has_id ids.now)
             (λ q. left_at_end end (object_at city.old.1 q) (image_at self.old.images q)) (λ q. None)
             city.old city.new self.old.images self.new.images }
