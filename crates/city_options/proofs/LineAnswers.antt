@@ -1,7 +1,7 @@
 -- The answer to a line, by clap's findings and faults.
-use Rattle.city_options.proofs.LineFindings.{ending, fault, flag_found, given, goes, line_fault, model, rows}
-use Rattle.city_options.proofs.LineFindings.{scripts, text_found, value}
-use Rattle.city_options.proofs.LineWalk.{End, at_end, excess, excess_if, model_next, over, rules, top}
+use Rattle.city_options.proofs.LineFindings.{ending, fault, flag_found, goes, line_fault, model, rows, scripts}
+use Rattle.city_options.proofs.LineFindings.{text_found, value}
+use Rattle.city_options.proofs.LineWalk.{End, at_end, cityed_rules, excess, model_next, over, top}
 use Rattle.city_options.specs.CommandLines.{AnswersCheck, AnswersCheckedNames, AnswersNames, AnswersOptions, AnswersRun}
 use Rattle.city_options.specs.CommandLines.{AsksForText, Atomic, Check, Decimals, Explain, Flag, IsLineOf, IsName}
 use Rattle.city_options.specs.CommandLines.{IsUnknownOption, IsWantOfMemory, Line, MeetsUnknownOption, Output, Valued}
@@ -24,8 +24,8 @@ use Rattle.clap.specs.declared.error.kind.ErrorKind.{ErrorKind}
 use Rattle.clap.specs.declared.error.kind.ErrorKind.TheVariants.{DisplayHelp, DisplayVersion, OutOfMemory}
 use Rattle.clap.specs.declared.error.kind.ErrorKind.TheVariants.{UnknownArgument}
 use Rattle.clap.specs.declared.parser.matches.Found.{Found}
-use Rattle.std.proofs.Common.{Bool, Err, List, None, Ok, Option, Result, Some, [], ap, ap₂, arith, codes, false, inl}
-use Rattle.std.proofs.Common.{inr, refl, subst, suc, sym, true, ◌∙◌, ◌∷◌, ◌≡◌, ◌⊎◌}
+use Rattle.std.proofs.Common.{Bool, Err, List, None, Ok, Option, Result, Some, [], ap, ap₂, arith, codes, cond, false}
+use Rattle.std.proofs.Common.{inl, inr, refl, subst, suc, sym, true, ◌∙◌, ◌∷◌, ◌≡◌, ◌⊎◌}
 use Rattle.std.proofs.Math.Path.{fun_ext}
 use Rattle.std.proofs.lemmas.Bool.{false_from_ne_true}
 use Rattle.std.proofs.lemmas.Slice.Eq.{bytes_eq-Decides}
@@ -35,8 +35,6 @@ use Rattle.std.specs.Str.{bytes_eq}
 
 abbrev pub Answer : Type 0
 Answer = Result Asked LineFault
-
--- ---- a line without a fault
 
 -- a third name is a fault
 few : (names : List Text) → excess names model_next ≡ [] → names_of (slice_get names 0) (slice_get names 1) ≡ names
@@ -58,8 +56,6 @@ read_line {line} {args} found given is are free read =
     ∙ few line.names (sym (line_fault is) ∙ free) in
     ap₂ (λ (v : Valued → Option Text) (h : Flag → Bool). record (line_of given) { value = v; has = h }) values flags
     ∙ ap (λ (n : List Text). record line { names = n }) names
-
--- ---- a line with a fault
 
 -- an error answers names if memory ran out or there are more than two
 names_refused : (names : List Text) (options : Options) (to : Destination) (r : Answer) → IsErr r
@@ -83,8 +79,6 @@ pub wanting : (r : Answer) → IsErrAnd r (λ f. f ≡ LineFault.OutOfMemory) �
 wanting (Ok a) h = absurd h
 wanting (Err f) h = ap (λ (e : LineFault). Err e) h
 
--- ---- names alone
-
 -- a line without options
 names_line : (names : List Text) → All IsName names → IsLineOf (record empty_line { names = names }) names
 names_line [] named = ends
@@ -97,28 +91,18 @@ pub names_answered : (names : List Text) (r : Answer) → ((line : Line) → IsL
 names_answered names r answered named =
     (answered _ (names_line names named)).0 plain_options plain_destination (refl, refl, refl, refl) (refl, refl)
 
--- ---- an option that is unknown
-
+-- an option that is unknown
 module _ (option : Text) (unknown : IsUnknownOption option) where
   is_no : (known : Text) → unknown.name ≢ known → bytes_eq known unknown.name ≡ false
   is_no known differs = false_from_ne_true (bytes_eq known unknown.name) (λ same.
       differs (sym ((bytes_eq-Decides known unknown.name).0 same)))
 
-  no_rule : arg_by_long rules unknown.name ≡ None
+  no_rule : arg_by_long cityed_rules unknown.name ≡ None
   no_rule =
       let o = λ (o : Valued). is_no (value_name o) (unknown.no_value o) in
       let f = λ (f : Flag). is_no (flag_name f) (unknown.no_flag f) in
-      rw (
-        is_no _ unknown.no_help,
-        is_no _ unknown.no_version,
-        f Decimals,
-        o Workers,
-        o Watch,
-        o Output,
-        f Atomic,
-        f Explain,
-        f Check,
-      ) refl
+      rw (is_no _ unknown.no_help, is_no _ unknown.no_version, f Decimals, f Atomic, f Explain, f Check)
+      (rw (o Workers, o Watch, o Output) refl)
 
   no_dashes : bytes_eq option (45 ∷ 45 ∷ []) ≡ false
   no_dashes = false_from_ne_true (bytes_eq option (45 ∷ 45 ∷ [])) (λ same.
@@ -131,7 +115,7 @@ module _ (option : Text) (unknown : IsUnknownOption option) where
   unfolding walk_fault
   refused_next end rest = rw (no_dashes, unknown.long, no_rule) refl
 
-excess_and_more : (b : Bool) → or_else (excess_if b) (UnknownArgument ∷ []) ≡ UnknownArgument ∷ []
+excess_and_more : (b : Bool) → or_else (cond b (UnknownArgument ∷ []) []) (UnknownArgument ∷ []) ≡ UnknownArgument ∷ []
 excess_and_more true = refl
 excess_and_more false = refl
 
@@ -154,8 +138,6 @@ text_fault word rest (inl is) = (DisplayHelp, ap (λ (w : Text). fault (w ∷ re
 text_fault word rest (inr (inl is)) = (DisplayHelp, ap (λ (w : Text). fault (w ∷ rest)) is, inl refl)
 text_fault word rest (inr (inr (inl is))) = (DisplayVersion, ap (λ (w : Text). fault (w ∷ rest)) is, inr refl)
 text_fault word rest (inr (inr (inr is))) = (DisplayVersion, ap (λ (w : Text). fault (w ∷ rest)) is, inr refl)
-
--- ---- the kind of an error
 
 pub not_free : {k : ErrorKind} {kinds : Kinds} → kinds ≡ k ∷ [] → kinds ≡ [] → ⊥
 not_free {k} one none = let bad : k ∷ [] ≡ [] = sym one ∙ none in absurd (cc)
@@ -180,7 +162,7 @@ fault_answered {line} kind r is memory refused (inr among) =
     line_refused line r (refused (inr (by_over (over line.names model_next) found)))
     (λ fits. absurd (subst (IsAmong kind) fits found))
   where
-    by_over : (b : Bool) → IsAmong kind (excess_if b) → kind ≡ UnknownArgument
+    by_over : (b : Bool) → IsAmong kind (cond b (UnknownArgument ∷ []) []) → kind ≡ UnknownArgument
     by_over true (inl same) = same
     by_over true (inr bad) = absurd bad
     by_over false bad = absurd bad

@@ -1,6 +1,6 @@
 -- Clap's findings in a line: its options and its first two names.
-use Rattle.city_options.proofs.LineWalk.{AreDistinct, Goes, Place, at_end, behind, excess, line_goes, model_next}
-use Rattle.city_options.proofs.LineWalk.{none_next, put_last, row_of, rows_in, rules, run, scripts_next, top}
+use Rattle.city_options.proofs.LineWalk.{AreDistinct, Goes, Place, at_end, behind, cityed_rules, excess, line_goes}
+use Rattle.city_options.proofs.LineWalk.{model_next, none_next, put_last, row_of, rows_in, run, scripts_next, top}
 use Rattle.city_options.specs.CommandLines.{Atomic, Check, Decimals, Explain, Flag, IsLineOf, Line, Output, Valued}
 use Rattle.city_options.specs.CommandLines.{Watch, Workers, ends, flag_name, gives_flag, gives_name, gives_output}
 use Rattle.city_options.specs.CommandLines.{gives_value, value_name, with_flag, with_name, with_value}
@@ -32,7 +32,7 @@ abbrev pub fault : List Text → Kinds
 fault args = built_fault app nothing_held args
 
 abbrev pub rows : List Text → List Row
-rows args = rows_after rules [] args
+rows args = rows_after cityed_rules [] args
 
 abbrev found : Text → List Row → Option Row
 found id = find (λ r. bytes_eq r.id id)
@@ -92,14 +92,14 @@ kind model = 2
 kind scripts = 3
 
 abbrev kind_of : Text → ℕ
-kind_of id = option_map_or (λ (a : Rule). cond (takes_values a) (unwrap_or a.index 0 + 1) 0) (arg_by_id rules id) 0
+kind_of id = option_map_or (λ (a : Rule). cond (takes_values a) (unwrap_or a.index 0 + 1) 0) (arg_by_id cityed_rules id) 0
 
 -- the finding for an id behind the defaults, by the finding before
 abbrev with_defaults : Text → List Rule → Option Row → Option Row
-with_defaults id rules o = fold (λ p a. option_or p (found id (with_default [] a))) o rules
+with_defaults id rs o = fold (λ p a. option_or p (found id (with_default [] a))) o rs
 
 -- the options and names, one by one
-slots : (s : Slot) → (kind_of (id s) ≡ kind s) × (with_defaults (id s) rules None ≡ default s)
+slots : (s : Slot) → (kind_of (id s) ≡ kind s) × (with_defaults (id s) cityed_rules None ≡ default s)
 slots (value Workers) = (refl, refl)
 slots (value Watch) = (refl, refl)
 slots (value Output) = (refl, refl)
@@ -174,17 +174,13 @@ holds model_next (gives_name n line rest name is) = more _ _ model n refl adds (
   where
     adds : Adds (given_in scripts_next line) model n (given_in model_next (with_name n line))
     adds model = refl
-    adds scripts = refl
     adds t = aside model t n _ refl
 holds scripts_next (gives_name n line rest name is) = more _ _ scripts n refl adds (holds none_next is)
   where
     adds : Adds (given_in none_next line) scripts n (given_in scripts_next (with_name n line))
     adds scripts = refl
-    adds model = refl
     adds t = aside scripts t n _ refl
 holds none_next (gives_name n line rest name is) = holds none_next is
-
--- ---- the defaults
 
 or_none : {X : Type 0} (o : Option X) → option_or o None ≡ o
 or_none None = refl
@@ -214,19 +210,19 @@ found_default id a rows = by_test (has_row a.id rows) a.defaults refl
         ap (found id) (put_last a.id (more_values DefaultValue (v ∷ vs)) (by_default a v vs ∷ []) rows has)
         ∙ find-append (λ r. bytes_eq r.id id) rows (by_default a v vs ∷ [])
 
-found_behind : (id : Text) (rows : List Row) (rules : List Rule)
-    → found id (fold with_default rows rules) ≡ with_defaults id rules (found id rows)
+found_behind : (id : Text) (rows : List Row) (rs : List Rule)
+    → found id (fold with_default rows rs) ≡ with_defaults id rs (found id rows)
 found_behind id rows [] = refl
 found_behind id rows (a ∷ rs) =
     found_behind id (with_default rows a) rs ∙ ap (with_defaults id rs) (found_default id a rows)
 
-or_default : (s : Slot) (o : Option Row) → with_defaults (id s) rules o ≡ option_or o (default s)
+or_default : (s : Slot) (o : Option Row) → with_defaults (id s) cityed_rules o ≡ option_or o (default s)
 or_default s None = (slots s).1
 or_default s (Some r) = refl
 
 -- a default right in itself is no fault
-defaults_right : (rules : List Rule) (rows : List Row) → AllByRecursion (λ a. default_fault [] a ≡ []) rules
-    → defaults_fault rows rules ≡ []
+defaults_right : (rs : List Rule) (rows : List Row) → AllByRecursion (λ a. default_fault [] a ≡ []) rs
+    → defaults_fault rows rs ≡ []
 unfolding defaults_fault
 defaults_right [] rows right = refl
 defaults_right (a ∷ rs) rows right = ap₂ or_else (by_test (has_row a.id rows)) (defaults_right rs (with_default rows a) right.1)
@@ -235,8 +231,6 @@ defaults_right (a ∷ rs) rows right = ap₂ or_else (by_test (has_row a.id rows
     by_test true = refl
     by_test false = right.0
 
--- ---- the end of a line
-
 or_no_fault : (k : Kinds) → or_else k [] ≡ k
 or_no_fault [] = refl
 or_no_fault (k ∷ ks) = refl
@@ -244,9 +238,9 @@ or_no_fault (k ∷ ks) = refl
 -- the fault of a walk from its start
 abbrev pub ending : Kinds × Walk → Kinds
 ending end = or_else end.0 (or_else (entered_fault app end.1.stopped)
-    (or_else (settle_fault rules false end.1.held)
-    (or_else (defaults_fault (settled rules end.1.held).rows rules)
-    (check_fault top (finished rules end.1.held) (is_some (entered app end.1.stopped))))))
+    (or_else (settle_fault cityed_rules false end.1.held)
+    (or_else (defaults_fault (settled cityed_rules end.1.held).rows cityed_rules)
+    (check_fault top (finished cityed_rules end.1.held) (is_some (entered app end.1.stopped))))))
 
 module _ {line : Line} {args : List Text} (is : IsLineOf line args) where
   pub goes : Goes (walk_from nothing_held) (excess line.names model_next) args (rows_in model_next is)
@@ -260,17 +254,17 @@ module _ {line : Line} {args : List Text} (is : IsLineOf line args) where
   unfolding walk_fault
   line_fault =
       let held = (at_end goes.end).held in
-      let right = defaults_right rules (settled rules held).rows
+      let right = defaults_right cityed_rules (settled cityed_rules held).rows
       (refl, (refl, (refl, (refl, (refl, (refl, (refl, (refl, (refl, (refl, (refl, tt))))))))))) in
       ap ending at_last ∙ rw (goes.end.rests.0, right) (or_no_fault _ ∙ or_no_fault _)
 
   found_at : (s : Slot) → found (id s) (rows args)
       ≡ option_or (option_map (row_of (id s)) (given_in model_next line s)) (default s)
   found_at s =
-      ap (λ end. found (id s) (finished rules end.1.held)) at_last
-      ∙ ap (λ held. found (id s) (fold with_default held rules)) goes.end.rests.1
-      ∙ found_behind (id s) (rows_in model_next is) rules
-      ∙ ap (with_defaults (id s) rules) ((holds model_next is).0 s) ∙ or_default s _
+      ap (λ end. found (id s) (finished cityed_rules end.1.held)) at_last
+      ∙ ap (λ held. found (id s) (fold with_default held cityed_rules)) goes.end.rests.1
+      ∙ found_behind (id s) (rows_in model_next is) cityed_rules
+      ∙ ap (with_defaults (id s) cityed_rules) ((holds model_next is).0 s) ∙ or_default s _
 
   pub text_found : (s : Slot) → default s ≡ None → first_of (id s) (rows args) ≡ given_in model_next line s
   text_found s none = ap (option_and_then (λ (r : Row). slice_get r.values 0)) (found_at s ∙ ap (option_or _) none)

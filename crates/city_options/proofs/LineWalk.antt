@@ -25,8 +25,8 @@ use Rattle.std.specs.Str.{bytes_eq}
 abbrev pub top : Shape
 top = (built cityed_command).top
 
-abbrev pub rules : List Rule
-rules = top.rules
+abbrev pub cityed_rules : List Rule
+cityed_rules = top.rules
 
 -- ---- rows
 
@@ -68,19 +68,19 @@ at rows pending place = record (walk_from (held rows pending)) { position = plac
 
 -- the faults from there on, and where it ends
 abbrev pub run : Walk → List Text → Kinds × Walk
-run w words = (walk_fault top [] w words, fold (walked rules []) w words)
+run w words = (walk_fault top [] w words, fold (walked cityed_rules []) w words)
 
 abbrev pub behind : Kinds → Kinds × Walk → Kinds × Walk
 behind kinds end = (or_else kinds end.0, end.1)
 
 step : (w : Walk) (word : Text) (rest : List Text) {kinds : Kinds} {next : Walk} → turn_fault top [] w word ≡ kinds
-    → walked rules [] w word ≡ next → run w (word ∷ rest) ≡ behind kinds (run next rest)
+    → walked cityed_rules [] w word ≡ next → run w (word ∷ rest) ≡ behind kinds (run next rest)
 unfolding walk_fault
 step w word rest faults is = ap₂ (λ (k : Kinds) (v : Walk). behind k (run v rest)) faults is
 
 -- a name is no option
 no_option : (w : Waiting) (p : ℕ) (word : Text) (h : Held) (met : Option Text) → met ≡ None → IsName word
-    → (subcommand_or_other rules met w p word h ≡ plain_word rules w word h) × (other_fault top met word h ≡ [])
+    → (subcommand_or_other cityed_rules met w p word h ≡ plain_word cityed_rules w word h) × (other_fault top met word h ≡ [])
 no_option w p [] h met none name = (rw none refl, rw none refl)
 no_option w p (b ∷ bs) h met none name =
     let no_hyphen : (b == 45) ≡ false = false_from_ne_true (b == 45) (λ same.
@@ -94,18 +94,18 @@ waits w rows pending p = record (at rows pending p) { waiting = w }
 name_step : (w : Waiting) (rows : List Row) (pending : Option (Text × List Text)) (p : ℕ) (word : Text) (rest : List Text)
     → subcommand_met [] w word ≡ None → IsName word
     → run (waits w rows pending p) (word ∷ rest)
-    ≡ (let met = plain_word rules w word (held rows pending) in behind (step_fault top p met.0 met.1)
-    (run (after_step rules word (waits w rows pending p) met.0 met.1) rest))
+    ≡ (let met = plain_word cityed_rules w word (held rows pending) in behind (step_fault top p met.0 met.1)
+    (run (after_step cityed_rules word (waits w rows pending p) met.0 met.1) rest))
 unfolding walked
 name_step w rows pending p word rest none name =
     let no = no_option w p word (held rows pending) _ none name in
     step (waits w rows pending p) word rest (ap₂ (λ (f : Kinds) (met : Held × Step). or_else f (step_fault top p met.0 met.1)) no.1 no.0)
-    (ap (λ (met : Held × Step). after_step rules word (waits w rows pending p) met.0 met.1) no.0)
+    (ap (λ (met : Held × Step). after_step cityed_rules word (waits w rows pending p) met.0 met.1) no.0)
 
 -- what is pending there is no fault, and with it the rows are these
 abbrev pub Rests : List Row → Option (Text × List Text) → List Row → Type 0
 Rests rows pending found =
-    (settle_fault rules false (held rows pending) ≡ []) × (settled_rows rules pending rows ≡ found)
+    (settle_fault cityed_rules false (held rows pending) ≡ []) × (settled_rows cityed_rules pending rows ≡ found)
 
 -- the end of a walk, with these rows
 pub record End (all : List Row) : Type 0 where
@@ -142,9 +142,9 @@ used id v rows lacks = (
 module _ (rows : List Row) (pending : Option (Text × List Text)) {found : List Row} (rests : Rests rows pending found) (p : ℕ) where
   value_step : (o : Valued) (v : Text) → has_row (value_name o) found ≡ false
       → (turn_fault top [] (at rows pending p) (codes "--" ++ value_name o) ≡ [])
-      × (walked rules [] (at rows pending p) (codes "--" ++ value_name o)
+      × (walked cityed_rules [] (at rows pending p) (codes "--" ++ value_name o)
       ≡ waits (option (value_name o)) found (Some (value_name o, [])) p)
-      × (option_word (arg_by_id rules (value_name o)) (value_name o) v (held found (Some (value_name o, [])))
+      × (option_word (arg_by_id cityed_rules (value_name o)) (value_name o) v (held found (Some (value_name o, [])))
       ≡ (held found (Some (value_name o, v ∷ [])), idle))
       × Rests found (Some (value_name o, v ∷ [])) (found ++ row_of (value_name o) v ∷ [])
   unfolding clap_on_literals
@@ -164,7 +164,7 @@ module _ (rows : List Row) (pending : Option (Text × List Text)) {found : List 
 
   flag_step : (f : Flag) → has_row (flag_name f) found ≡ false
       → (turn_fault top [] (at rows pending p) (codes "--" ++ flag_name f) ≡ [])
-      × (walked rules [] (at rows pending p) (codes "--" ++ flag_name f)
+      × (walked cityed_rules [] (at rows pending p) (codes "--" ++ flag_name f)
       ≡ at (found ++ row_of (flag_name f) (codes "true") ∷ []) None p)
   unfolding clap_on_literals
   flag_step Decimals lacks =
@@ -192,12 +192,8 @@ over (n ∷ names) model_next = over names scripts_next
 over (n ∷ names) scripts_next = over names none_next
 over (n ∷ names) none_next = true
 
-abbrev pub excess_if : Bool → Kinds
-excess_if more = cond more (UnknownArgument ∷ []) []
-
--- which is a fault
 abbrev pub excess : List Text → Place → Kinds
-excess names place = excess_if (over names place)
+excess names place = cond (over names place) (UnknownArgument ∷ []) []
 
 -- the rows of the line's arguments, in their order
 abbrev pub rows_in : {line : Line} {args : List Text} → Place → IsLineOf line args → List Row

@@ -1,12 +1,13 @@
-use Rattle.clap.specs.Words.{App, HasKind, fault_of, found_of, is_simple, is_simple_and_free, matches_of}
 use Rattle.city_options.proofs.LineAnswers.{IsText, fault_answered, line_refused, names_answered, not_free, only}
 use Rattle.city_options.proofs.LineAnswers.{read_line, text_fault, unknown_fault, wanting}
 use Rattle.city_options.proofs.LineFindings.{fault}
-use Rattle.city_options.proofs.command_line.asked_by.Goals as goal
 use Rattle.city_options.specs.CommandLines.{AnswersOptions, IsLineOf, Line}
+use Rattle.clap.specs.Simple.{App}
 use Rattle.clap.specs.Walk.{Text}
+use Rattle.clap.specs.Words.{HasKind, fault_of, found_of, is_simple, is_simple_and_free, matches_of}
 use Rattle.clap.specs.declared.error.kind.ErrorKind.TheVariants.{UnknownArgument}
-use Rattle.std.proofs.Common.{◌≡◌, List, [], ap, drop, inr, map, refl, string_bytes, subst, sym, ◌∙◌}
+use Rattle.std.proofs.Common.{List, [], ap, drop, inr, map, refl, string_bytes, subst, sym, ◌∙◌, ◌≡◌}
+use Rattle.city_options.proofs.command_line.asked_by.Goals as goal
 
 pub returns-in_err-command : goal.returns-in_err-command
 returns-in_err-command c =
