@@ -66,10 +66,11 @@ names_refused (m ∷ []) options to r wrong short = (wrong, inr (short refl))
 names_refused (m ∷ s ∷ []) options to r wrong short = (inr (short refl), inr (short refl))
 names_refused (m ∷ s ∷ n ∷ names) options to r wrong short = (wrong, wrong)
 
-pub line_refused : (line : Line) (r : Answer) → IsErr r → (excess line.names model_next ≡ [] → IsWantOfMemory r)
-    → AnswersOptions line r
-line_refused line r wrong short =
-    let names = λ (options : Options) (to : Destination). names_refused line.names options to r wrong short in
+pub line_refused : {line : Line} {args : List Text} (r : Answer) → IsLineOf line args → IsErr r
+    → (fault args ≡ [] → IsWantOfMemory r) → AnswersOptions line r
+line_refused {line} r is wrong short =
+    let names = λ (options : Options) (to : Destination).
+    names_refused line.names options to r wrong (λ fits. short (line_fault is ∙ fits)) in
     elim (line.has Check) as (λ check. MatchBool check (AnswersCheck line r) (AnswersRun line r)) [
       | true ↦ (λ options of none. (names options plain_destination).1, λ run. wrong)
       | false ↦ (λ options to of there. (names options to).0, λ none. wrong)
@@ -125,8 +126,6 @@ unknown_fault args met =
     ap fault met.are ∙ ap ending (walk.passes (met.word ∷ met.rest))
     ∙ rw (refused_next met.word met.unknown walk.end met.rest, excess_and_more (over met.names model_next)) refl
 
--- ---- help and the version
-
 abbrev pub IsText : ErrorKind → Type 0
 IsText kind = (kind ≡ DisplayHelp) ⊎ (kind ≡ DisplayVersion)
 
@@ -146,23 +145,23 @@ not_free {k} one none = let bad : k ∷ [] ≡ [] = sym one ∙ none in absurd (
 abbrev HasOr : (ErrorKind → Type 0) → ErrorKind → Type 0
 HasOr P kind = (kind ≡ OutOfMemory) ⊎ P kind
 
+-- the one kind, or one of none
 pub only : {kind k : ErrorKind} {kinds : Kinds} (P : ErrorKind → Type 0) → kinds ≡ k ∷ [] → P k
     → HasOr (λ x. IsAmong x kinds) kind → HasOr P kind
 only P one p (inl short) = inl short
 only {kind} P one p (inr among) =
     elim (subst (IsAmong kind) one among) [ inl is ↦ inr (subst P (sym is) p) | inr bad ↦ absurd bad ]
 
+none_left : {kind : ErrorKind} {kinds : Kinds} → kinds ≡ [] → HasOr (λ x. IsAmong x kinds) kind → kind ≡ OutOfMemory
+none_left none (inl short) = short
+none_left {kind} none (inr among) = absurd (subst (IsAmong kind) none among)
+
 pub fault_answered : {line : Line} {args : List Text} (kind : ErrorKind) (r : Answer) → IsLineOf line args
     → (kind ≡ OutOfMemory → IsWantOfMemory r) → (HasOr (λ k. k ≡ UnknownArgument) kind → IsErr r)
     → HasOr (λ k. IsAmong k (fault args)) kind → AnswersOptions line r
-fault_answered {line} kind r is memory refused (inl short) =
-    line_refused line r (refused (inl short)) (λ _. memory short)
-fault_answered {line} kind r is memory refused (inr among) =
-    let found = subst (IsAmong kind) (line_fault is) among in
-    line_refused line r (refused (inr (by_over (over line.names model_next) found)))
-    (λ fits. absurd (subst (IsAmong kind) fits found))
+fault_answered {line} {args} kind r is memory refused has =
+    line_refused r is (refused (by_over (over line.names model_next) (line_fault is))) (λ free. memory (none_left free has))
   where
-    by_over : (b : Bool) → IsAmong kind (cond b (UnknownArgument ∷ []) []) → kind ≡ UnknownArgument
-    by_over true (inl same) = same
-    by_over true (inr bad) = absurd bad
-    by_over false bad = absurd bad
+    by_over : (b : Bool) → fault args ≡ cond b (UnknownArgument ∷ []) [] → HasOr (λ k. k ≡ UnknownArgument) kind
+    by_over true one = only (λ k. k ≡ UnknownArgument) one refl has
+    by_over false none = inl (none_left none has)

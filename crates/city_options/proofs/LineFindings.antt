@@ -44,8 +44,6 @@ has_found id (r ∷ rs) = elim (bytes_eq r.id id) as (λ b. (b || has_row id rs)
   | false ↦ has_found id rs
 ]
 
--- ---- what a line gives
-
 -- what has a row: an option, or a name by its place
 pub data Slot : Type 0 where
   value : Valued → Slot
@@ -60,24 +58,20 @@ id model = codes "MODEL"
 id scripts = codes "SCRIPTS"
 
 -- the names for MODEL and for SCRIPTS
-abbrev pub model_of : Place → List Text → Option Text
-model_of model_next names = slice_get names 0
-model_of _ names = None
-
-abbrev pub scripts_of : Place → List Text → Option Text
-scripts_of model_next names = slice_get names 1
-scripts_of scripts_next names = slice_get names 0
-scripts_of none_next names = None
+abbrev names_at : Place → List Text → Option Text × Option Text
+names_at model_next names = (slice_get names 0, slice_get names 1)
+names_at scripts_next names = (None, slice_get names 0)
+names_at none_next names = (None, None)
 
 -- the text of its row
-abbrev pub given : (Valued → Option Text) → (Flag → Bool) → Option Text → Option Text → Slot → Option Text
-given values flags m s (value o) = values o
-given values flags m s (flag f) = cond (flags f) (Some (codes "true")) None
-given values flags m s model = m
-given values flags m s scripts = s
+abbrev given : (Valued → Option Text) → (Flag → Bool) → Option Text × Option Text → Slot → Option Text
+given values flags names (value o) = values o
+given values flags names (flag f) = cond (flags f) (Some (codes "true")) None
+given values flags names model = names.0
+given values flags names scripts = names.1
 
 abbrev pub given_in : Place → Line → Slot → Option Text
-given_in place line = given line.value line.has (model_of place line.names) (scripts_of place line.names)
+given_in place line = given line.value line.has (names_at place line.names)
 
 -- the row by default
 abbrev pub default : Slot → Option Row
@@ -130,16 +124,15 @@ more : (before : Slot → Option Text) {after : Slot → Option Text} (held : Li
 more before held s v lacks adds holds = (
   λ t.
       ap (cond (bytes_eq (id s) (id t)) (Some (row_of (id s) v))) (holds.0 t)
-      ∙ by_test (id t) (before t) (bytes_eq (id s) (id t)) (bytes_eq-Decides (id s) (id t)).0
+      ∙ (elim (bytes_eq (id s) (id t)) as (λ b. (b ≡ true → id s ≡ id t)
+      → cond b (Some (row_of (id s) v)) (option_map (row_of (id t)) (before t))
+      ≡ option_map (row_of (id t)) (cond b (Some v) (before t))) [
+        | true ↦ λ same. ap (λ i. Some (row_of i v)) (same refl)
+        | false ↦ λ same. refl
+      ]) (bytes_eq-Decides (id s) (id t)).0
       ∙ ap (option_map (row_of (id t))) (sym (adds t)),
   (has_found (id s) held ∙ ap is_some (holds.0 s ∙ ap (option_map (row_of (id s))) lacks), holds.1),
 )
-  where
-    by_test : (other : Text) (o : Option Text) (b : Bool) → (b ≡ true → id s ≡ other)
-        → cond b (Some (row_of (id s) v)) (option_map (row_of other) o)
-        ≡ option_map (row_of other) (cond b (Some v) o)
-    by_test other o true same = ap (λ i. Some (row_of i v)) (same refl)
-    by_test other o false same = refl
 
 value_more : (o : Valued) (v : Text) (place : Place) (line : Line) (held : List Row) → line.value o ≡ None
     → Holds (given_in place line) held → Holds (given_in place (with_value o v line)) (row_of (value_name o) v ∷ held)
@@ -154,7 +147,7 @@ flag_more : (b has : Bool) → cond (cond b true has) (Some (codes "true")) None
 flag_more true has = refl
 flag_more false has = refl
 
-nothing : (s : Slot) → found (id s) [] ≡ option_map (row_of (id s)) (given (λ o. None) (λ f. false) None None s)
+nothing : (s : Slot) → found (id s) [] ≡ option_map (row_of (id s)) (given (λ o. None) (λ f. false) (None, None) s)
 nothing model = refl
 nothing s = refl
 

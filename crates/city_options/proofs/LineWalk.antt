@@ -28,8 +28,6 @@ top = (built cityed_command).top
 abbrev pub cityed_rules : List Rule
 cityed_rules = top.rules
 
--- ---- rows
-
 -- the row of an argument used once
 abbrev pub row_of : Text → Text → Row
 row_of id v =

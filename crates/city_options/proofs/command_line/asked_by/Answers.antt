@@ -14,7 +14,7 @@ returns-in_err-command c =
     let args : List Text = drop 1 (map string_bytes c.args.words.now) in
     let answer = c.from_residual.result in
     let short = wanting answer c.from_residual.ensures.1 in
-    let options = λ (line : Line) (is : IsLineOf line args). line_refused line answer (rw short refl) (λ fits. short) in
+    let options = λ (line : Line) (is : IsLineOf line args). line_refused answer is (rw short refl) (λ free. short) in
     record {
       names = names_answered args answer options;
       shown = λ word rest asks are. inr short;
