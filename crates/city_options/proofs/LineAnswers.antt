@@ -160,7 +160,8 @@ pub fault_answered : {line : Line} {args : List Text} (kind : ErrorKind) (r : An
     → (kind ≡ OutOfMemory → IsWantOfMemory r) → (HasOr (λ k. k ≡ UnknownArgument) kind → IsErr r)
     → HasOr (λ k. IsAmong k (fault args)) kind → AnswersOptions line r
 fault_answered {line} {args} kind r is memory refused has =
-    line_refused r is (refused (by_over (over line.names model_next) (line_fault is))) (λ free. memory (none_left free has))
+    line_refused r is (refused (by_over (over line.names model_next) (line_fault is)))
+    (λ free. memory (none_left free has))
   where
     by_over : (b : Bool) → fault args ≡ cond b (UnknownArgument ∷ []) [] → HasOr (λ k. k ≡ UnknownArgument) kind
     by_over true one = only (λ k. k ≡ UnknownArgument) one refl has

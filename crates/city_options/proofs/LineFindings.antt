@@ -39,10 +39,11 @@ found id = find (λ r. bytes_eq r.id id)
 
 has_found : (id : Text) (rows : List Row) → has_row id rows ≡ is_some (found id rows)
 has_found id [] = refl
-has_found id (r ∷ rs) = elim (bytes_eq r.id id) as (λ b. (b || has_row id rs) ≡ is_some (cond b (Some r) (found id rs))) [
-  | true ↦ refl
-  | false ↦ has_found id rs
-]
+has_found id (r ∷ rs) =
+    elim (bytes_eq r.id id) as (λ b. (b || has_row id rs) ≡ is_some (cond b (Some r) (found id rs))) [
+      | true ↦ refl
+      | false ↦ has_found id rs
+    ]
 
 -- what has a row: an option, or a name by its place
 pub data Slot : Type 0 where
@@ -86,7 +87,8 @@ kind model = 2
 kind scripts = 3
 
 abbrev kind_of : Text → ℕ
-kind_of id = option_map_or (λ (a : Rule). cond (takes_values a) (unwrap_or a.index 0 + 1) 0) (arg_by_id cityed_rules id) 0
+kind_of id =
+    option_map_or (λ (a : Rule). cond (takes_values a) (unwrap_or a.index 0 + 1) 0) (arg_by_id cityed_rules id) 0
 
 -- the finding for an id behind the defaults, by the finding before
 abbrev with_defaults : Text → List Rule → Option Row → Option Row
@@ -105,7 +107,8 @@ slots model = (refl, refl)
 slots scripts = (refl, refl)
 
 -- the row of s gives nothing to a slot of another kind
-aside : (s t : Slot) (v : Text) (o : Option Text) → (kind s == kind t) ≡ false → o ≡ cond (bytes_eq (id s) (id t)) (Some v) o
+aside : (s t : Slot) (v : Text) (o : Option Text) → (kind s == kind t) ≡ false
+    → o ≡ cond (bytes_eq (id s) (id t)) (Some v) o
 aside s t v o other = ap (λ b. cond b (Some v) o) (sym (false_from_ne_true (bytes_eq (id s) (id t)) (λ same.
     let are : kind s ≡ kind t =
     sym (slots s).0 ∙ ap kind_of ((bytes_eq-Decides (id s) (id t)).0 same) ∙ (slots t).0 in
@@ -119,8 +122,8 @@ Holds gives held = ((s : Slot) → found (id s) held ≡ option_map (row_of (id 
 abbrev Adds : (Slot → Option Text) → Slot → Text → (Slot → Option Text) → Type 0
 Adds before s v after = (t : Slot) → after t ≡ cond (bytes_eq (id s) (id t)) (Some v) (before t)
 
-more : (before : Slot → Option Text) {after : Slot → Option Text} (held : List Row) (s : Slot) (v : Text) → before s ≡ None
-    → Adds before s v after → Holds before held → Holds after (row_of (id s) v ∷ held)
+more : (before : Slot → Option Text) {after : Slot → Option Text} (held : List Row) (s : Slot) (v : Text)
+    → before s ≡ None → Adds before s v after → Holds before held → Holds after (row_of (id s) v ∷ held)
 more before held s v lacks adds holds = (
   λ t.
       ap (cond (bytes_eq (id s) (id t)) (Some (row_of (id s) v))) (holds.0 t)
@@ -198,7 +201,8 @@ found_default id a rows = by_test (has_row a.id rows) a.defaults refl
     by_test true [] has = sym (or_none (found id rows))
     by_test false [] has = sym (or_none (found id rows))
     by_test true (v ∷ vs) has = there (found id rows) (Some (by_default a v vs)) (bytes_eq a.id id) (λ same.
-        subst (λ i. is_some (found i rows) ≡ true) ((bytes_eq-Decides a.id id).0 same) (sym (has_found a.id rows) ∙ has))
+        subst (λ i. is_some (found i rows) ≡ true) ((bytes_eq-Decides a.id id).0 same)
+        (sym (has_found a.id rows) ∙ has))
     by_test false (v ∷ vs) has =
         ap (found id) (put_last a.id (more_values DefaultValue (v ∷ vs)) (by_default a v vs ∷ []) rows has)
         ∙ find-append (λ r. bytes_eq r.id id) rows (by_default a v vs ∷ [])
@@ -218,7 +222,8 @@ defaults_right : (rs : List Rule) (rows : List Row) → AllByRecursion (λ a. de
     → defaults_fault rows rs ≡ []
 unfolding defaults_fault
 defaults_right [] rows right = refl
-defaults_right (a ∷ rs) rows right = ap₂ or_else (by_test (has_row a.id rows)) (defaults_right rs (with_default rows a) right.1)
+defaults_right (a ∷ rs) rows right =
+    ap₂ or_else (by_test (has_row a.id rows)) (defaults_right rs (with_default rows a) right.1)
   where
     by_test : (b : Bool) → cond (b || is_empty a.defaults) [] (given_default_fault a a.defaults) ≡ []
     by_test true = refl

@@ -78,7 +78,8 @@ step w word rest faults is = ap₂ (λ (k : Kinds) (v : Walk). behind k (run v r
 
 -- a name is no option
 no_option : (w : Waiting) (p : ℕ) (word : Text) (h : Held) (met : Option Text) → met ≡ None → IsName word
-    → (subcommand_or_other cityed_rules met w p word h ≡ plain_word cityed_rules w word h) × (other_fault top met word h ≡ [])
+    → (subcommand_or_other cityed_rules met w p word h ≡ plain_word cityed_rules w word h)
+    × (other_fault top met word h ≡ [])
 no_option w p [] h met none name = (rw none refl, rw none refl)
 no_option w p (b ∷ bs) h met none name =
     let no_hyphen : (b == 45) ≡ false = false_from_ne_true (b == 45) (λ same.
@@ -89,15 +90,16 @@ no_option w p (b ∷ bs) h met none name =
 abbrev waits : Waiting → List Row → Option (Text × List Text) → ℕ → Walk
 waits w rows pending p = record (at rows pending p) { waiting = w }
 
-name_step : (w : Waiting) (rows : List Row) (pending : Option (Text × List Text)) (p : ℕ) (word : Text) (rest : List Text)
-    → subcommand_met [] w word ≡ None → IsName word
+name_step : (w : Waiting) (rows : List Row) (pending : Option (Text × List Text)) (p : ℕ) (word : Text)
+    (rest : List Text) → subcommand_met [] w word ≡ None → IsName word
     → run (waits w rows pending p) (word ∷ rest)
     ≡ (let met = plain_word cityed_rules w word (held rows pending) in behind (step_fault top p met.0 met.1)
     (run (after_step cityed_rules word (waits w rows pending p) met.0 met.1) rest))
 unfolding walked
 name_step w rows pending p word rest none name =
     let no = no_option w p word (held rows pending) _ none name in
-    step (waits w rows pending p) word rest (ap₂ (λ (f : Kinds) (met : Held × Step). or_else f (step_fault top p met.0 met.1)) no.1 no.0)
+    step (waits w rows pending p) word rest
+    (ap₂ (λ (f : Kinds) (met : Held × Step). or_else f (step_fault top p met.0 met.1)) no.1 no.0)
     (ap (λ (met : Held × Step). after_step cityed_rules word (waits w rows pending p) met.0 met.1) no.0)
 
 -- what is pending there is no fault, and with it the rows are these
@@ -137,7 +139,8 @@ used id v rows lacks = (
       ∙ put_last id (more_values CommandLine (v ∷ [])) (row_of id v ∷ []) rows lacks,
 )
 
-module _ (rows : List Row) (pending : Option (Text × List Text)) {found : List Row} (rests : Rests rows pending found) (p : ℕ) where
+module _ (rows : List Row) (pending : Option (Text × List Text)) {found : List Row} (rests : Rests rows pending found)
+    (p : ℕ) where
   value_step : (o : Valued) (v : Text) → has_row (value_name o) found ≡ false
       → (turn_fault top [] (at rows pending p) (codes "--" ++ value_name o) ≡ [])
       × (walked cityed_rules [] (at rows pending p) (codes "--" ++ value_name o)
@@ -216,7 +219,8 @@ module _ (all : List Row) (distinct : AreDistinct all) where
   unfolding clap_on_literals
   line_goes place ends found are rows pending rests =
       let last : Rests rows pending all = (rests.0, rests.1 ∙ sym (are ∙ append-nil found)) in
-      record { end = record { rows = rows; pending = pending; place = position place; rests = last }; passes = λ rest. refl }
+      let end : End all = record { rows = rows; pending = pending; place = position place; rests = last } in
+      record { end = end; passes = λ rest. refl }
   line_goes place (gives_value o v line rest lacks name more) found are rows pending rests =
       value_then rows pending rests (position place) o v name (fresh found _ _ are)
       (line_goes place more _ (next found _ _ are) found _)

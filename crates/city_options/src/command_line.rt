@@ -112,8 +112,8 @@ impl From<OutOfMemory> for LineFault {
 ///
 /// An answer other than a text has 1 to `MAX_WORKERS` workers, 1 without `--workers`, and 0 to `MAX_VIEWERS` viewers, 0
 /// without `--watch`. It takes numbers of any form with `--decimals`, and explains a fault with `--explain`. Its
-/// destination has the FILE of `--output` or `-o`, if there is one, and is atomic with `--atomic`. With `--check` it is a
-/// check, of a MODEL and maybe of SCRIPTS. The options stand in any order, and names before, between and after them.
+/// destination has the FILE of `--output` or `-o`, if there is one, and is atomic with `--atomic`. With `--check` it is
+/// a check, of a MODEL and maybe of SCRIPTS. The options stand in any order, and names before, between and after them.
 /// Refused: a number outside these ranges, a MODEL without SCRIPTS, a third name, and an option if it is unknown, comes
 /// twice or has no value; with `--check` a line without a MODEL, and an option for runs only.
 pub fn asked_by<'a>(alloc: Global, words: &'a [String]) -> Result<Asked<'a>, LineFault>

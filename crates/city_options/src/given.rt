@@ -1,6 +1,5 @@
 //! The request by the options and names of a command line.
-ghost use Rattle.std.specs.Prelude.{◌≡◌, ◌≢◌, ◌⊎◌, ◌≤◌, ℕ, Bool, true, List, Option, Some, None, Ok, Err};
-ghost use Rattle.std.specs.Prelude.{IfOk, IsErr, MatchOption, MatchResult, option_map};
+ghost use Rattle.std.specs.Prelude.{◌≤◌, ℕ, IfOk, MatchOption, MatchResult};
 ghost use Rattle.clap.specs.Words.{found_of};
 ghost use Rattle.city_options.specs.RunOptions.{AreWithin};
 ghost use Rattle.city_options.specs.CommandLines.{AnswersCheck, AnswersNames, AnswersOptions, AnswersRun};

@@ -3,8 +3,8 @@ use Rattle.std.specs.Prelude.{◌≡◌, ℕ, Bool, true, false, List, [], ◌�
 use Rattle.std.specs.Borrow.{Bor}
 use Rattle.clap.specs.Words.{first_value, one_text}
 use Rattle.clap.specs.declared.parser.matches.Found.{Found}
-use Rattle.city_options.specs.CommandLines.{Atomic, Check, Decimals, Explain, Flag, Line, Output, Valued, Watch, Workers}
-use Rattle.city_options.specs.CommandLines.{flag_name, value_name}
+use Rattle.city_options.specs.CommandLines.{Atomic, Check, Decimals, Explain, Flag, Line, Output, Valued}
+use Rattle.city_options.specs.CommandLines.{Watch, Workers, flag_name, value_name}
 use Rattle.city_options.specs.declared.given.Given.{Given}
 
 abbrev pub text_of : Option (Bor (List ℕ)) → Option (List ℕ)

@@ -33,7 +33,8 @@ returns-in-Ok c =
     sym (ap (λ (a : App). fault_of a words) command_is) ∙ c.in-Ok.ensures.kinds (ap is_simple_and_free command_is) in
     let answer = c.by_given.result in
     let options = λ (line : Line) (is : IsLineOf line args). subst (λ l. AnswersOptions l answer)
-    (read_line (found_of c.in-Ok.matches) c.given_in.result is are free c.given_in.ensures) c.by_given.ensures.answers in
+    (read_line (found_of c.in-Ok.matches) c.given_in.result is are free c.given_in.ensures)
+    c.by_given.ensures.answers in
     record {
       names = names_answered args answer options;
       shown = λ word rest asks is. absurd (not_free (ap fault is ∙ (text_fault word rest asks).1) free);
