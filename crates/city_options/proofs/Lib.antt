@@ -1,6 +1,3 @@
-pub mod FoundOptions
-pub mod GivenOptions
 pub mod LineAnswers
-pub mod OtherOptions
-pub mod Prelude
-pub mod Rows
+pub mod LineFindings
+pub mod LineWalk

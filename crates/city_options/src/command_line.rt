@@ -1,39 +1,36 @@
 //! The request of a command line.
-ghost use Rattle.std.specs.Prelude.{◌≡◌, ◌≢◌, ◌⊎◌, ◌≤◌, ◌∷◌, ℕ, Bool, true, false, List, Option, Some, None, Ok, Err};
-ghost use Rattle.std.specs.Prelude.{All, drop, map, option_map, string_bytes, IfOk, IsErr, MatchOption, MatchResult};
+ghost use Rattle.std.specs.Prelude.{◌≡◌, ◌⊎◌, ◌∷◌, ℕ, false, List, Err, All, drop, map, string_bytes, IfOk, IsErr};
 ghost use Rattle.clap.specs.Words.{app_of, kind_of, rule_of};
 ghost use Rattle.city_options.specs.RunOptions.{plain_destination, plain_options};
 ghost use Rattle.city_options.specs.CommandLines.{IsName, Line, IsLineOf, AnswersNames, AnswersOptions, IsShown};
-ghost use Rattle.city_options.specs.CommandLines.{AreOptionsOf, AsksForText, HasOptions, IsCount, MeetsUnknownOption};
+ghost use Rattle.city_options.specs.CommandLines.{AsksForText, HasOptions, MeetsUnknownOption};
 ghost use Rattle.city_options.specs.internal.CommandShape.{cityed_command, files_command, flag_rule, option_rule};
 ghost use Rattle.city_options.specs.internal.CommandShape.{output_rule, run_command, output_command};
-ghost use Rattle.city_options.specs.internal.CommandShape.{AnswersPlaces, AnswersCheckedPlaces, IsOfRun};
 
+use crate::given::{by_given, given_in};
 use crate::options::{Destination, Options};
-use city_board::MAX_VIEWERS;
 use city_model::OutOfMemory;
-use city_scheduler::MAX_WORKERS;
 use clap::error::ErrorKind;
 use clap::{Arg, ArgAction, Command, Error};
 use std::alloc::Global;
 
-const MODEL: &str = "MODEL";
+pub(crate) const MODEL: &str = "MODEL";
 
-const SCRIPTS: &str = "SCRIPTS";
+pub(crate) const SCRIPTS: &str = "SCRIPTS";
 
-const DECIMALS: &str = "decimals";
+pub(crate) const DECIMALS: &str = "decimals";
 
-const WORKERS: &str = "workers";
+pub(crate) const WORKERS: &str = "workers";
 
-const WATCH: &str = "watch";
+pub(crate) const WATCH: &str = "watch";
 
-const OUTPUT: &str = "output";
+pub(crate) const OUTPUT: &str = "output";
 
-const ATOMIC: &str = "atomic";
+pub(crate) const ATOMIC: &str = "atomic";
 
-const CHECK: &str = "check";
+pub(crate) const CHECK: &str = "check";
 
-const EXPLAIN: &str = "explain";
+pub(crate) const EXPLAIN: &str = "explain";
 
 const USAGE: &str = "\
 cityed [--decimals] [--workers N] [--watch K] [--output FILE] [--atomic] [--explain] [MODEL SCRIPTS]
@@ -115,8 +112,8 @@ impl From<OutOfMemory> for LineFault {
 ///
 /// An answer other than a text has 1 to `MAX_WORKERS` workers, 1 without `--workers`, and 0 to `MAX_VIEWERS` viewers, 0
 /// without `--watch`. It takes numbers of any form with `--decimals`, and explains a fault with `--explain`. Its
-/// destination has the FILE of `--output` or `-o`, if there is one, and is atomic with `--atomic`. With `--check` it is a
-/// check, of a MODEL and maybe of SCRIPTS. The options stand in any order, and names before, between and after them.
+/// destination has the FILE of `--output` or `-o`, if there is one, and is atomic with `--atomic`. With `--check` it is
+/// a check, of a MODEL and maybe of SCRIPTS. The options stand in any order, and names before, between and after them.
 /// Refused: a number outside these ranges, a MODEL without SCRIPTS, a third name, and an option if it is unknown, comes
 /// twice or has no value; with `--check` a line without a MODEL, and an option for runs only.
 pub fn asked_by<'a>(alloc: Global, words: &'a [String]) -> Result<Asked<'a>, LineFault>
@@ -131,21 +128,7 @@ pub fn asked_by<'a>(alloc: Global, words: &'a [String]) -> Result<Asked<'a>, Lin
 {
     let mut command = command(alloc)?;
     match command.try_get_matches_from_mut(words) {
-        Ok(matches) => {
-            let (workers, watch) = (matches.get_str(WORKERS), matches.get_str(WATCH));
-            let (decimals, explain) = (matches.get_flag(DECIMALS), matches.get_flag(EXPLAIN));
-            let (file, atomic) = (matches.get_str(OUTPUT), matches.get_flag(ATOMIC));
-            let check = matches.get_flag(CHECK);
-            let destination = Destination { file, atomic };
-            refuse_run_options(alloc, &mut command, check, workers, watch, destination)?;
-            let options = options_by(alloc, &mut command, workers, watch, decimals, explain)?;
-            let (model, scripts) = (matches.get_str(MODEL), matches.get_str(SCRIPTS));
-            if check {
-                by_checked_names(alloc, &mut command, options, model, scripts)
-            } else {
-                by_names(alloc, &mut command, options, destination, model, scripts)
-            }
-        }
+        Ok(matches) => by_given(alloc, &mut command, &given_in(&matches)),
         Err(error) => without_names(alloc, &error),
     }
 }
@@ -231,163 +214,13 @@ fn output_option<'a>(alloc: Global) -> Arg<'a>
     value_option(alloc, OUTPUT, "FILE", help).short('o')
 }
 
-/// Refuses an option for runs only, if `--check` is given.
-fn refuse_run_options<'a>(
-    alloc: Global,
-    command: &mut Command<'a>,
-    check: bool,
-    workers: Option<&str>,
-    watch: Option<&str>,
-    destination: Destination<'_>,
-) -> Result<(), LineFault>
-    ensures { MatchResult result
-        (λ _. check ≡ true → ¬ IsOfRun (option_map (λ s. s.now) workers.entry)
-        (option_map (λ s. s.now) watch.entry) destination.entry)
-        (λ _. (check ≡ true) × IsOfRun (option_map (λ s. s.now) workers.entry)
-        (option_map (λ s. s.now) watch.entry) destination.entry) }
-{
-    match of_run(workers, watch, destination) {
-        Some(message) if check => {
-            Err(mistake(alloc, command, ErrorKind::ArgumentConflict, message)?)
-        }
-        _ => Ok(()),
-    }
-}
-
-/// The mistake in the first option for runs only, beside `--check`. `None` if there is none.
-fn of_run(
-    workers: Option<&str>,
-    watch: Option<&str>,
-    destination: Destination<'_>,
-) -> Option<&'static str>
-    ensures { MatchOption result
-        (¬ IsOfRun (option_map (λ s. s.now) workers.entry) (option_map (λ s. s.now) watch.entry) destination.entry)
-        (λ _. IsOfRun (option_map (λ s. s.now) workers.entry) (option_map (λ s. s.now) watch.entry)
-        destination.entry) }
-{
-    if workers.is_some() {
-        Some("--check runs nothing, and takes no --workers")
-    } else if watch.is_some() {
-        Some("--check runs nothing, and takes no --watch")
-    } else if destination.file.is_some() {
-        Some("--check writes no model, and takes no --output")
-    } else if destination.atomic {
-        Some("--check writes no model, and takes no --atomic")
-    } else {
-        None
-    }
-}
-
-/// The options, by the texts of `--workers` and `--watch` and whether `--decimals` and `--explain`
-/// are given. Refuses a text if it is no number, or outside the option's range.
-fn options_by<'a>(
-    alloc: Global,
-    command: &mut Command<'a>,
-    workers: Option<&str>,
-    watch: Option<&str>,
-    decimals: bool,
-    explain: bool,
-) -> Result<Options, LineFault>
-    ensures { MatchResult result (AreOptionsOf (option_map (λ s. s.now) workers.entry)
-        (option_map (λ s. s.now) watch.entry) decimals explain)
-        (λ _. (options : _) → ¬ AreOptionsOf (option_map (λ s. s.now) workers.entry)
-        (option_map (λ s. s.now) watch.entry) decimals explain options) }
-{
-    let kind = ErrorKind::ValueValidation;
-    let Some(workers) = count_by(workers, 1, MAX_WORKERS) else {
-        return Err(mistake(
-            alloc,
-            command,
-            kind,
-            "--workers takes a number from 1 to 16",
-        )?);
-    };
-    let Some(viewers) = count_by(watch, 0, MAX_VIEWERS) else {
-        return Err(mistake(alloc, command, kind, "--watch takes a number from 0 to 4")?);
-    };
-    Ok(Options {
-        workers,
-        viewers,
-        decimals,
-        explain,
-    })
-}
-
-/// The number in an option's text, from `least` to `most`; `least` without a text. `None` if the
-/// text writes no such number.
-fn count_by(given: Option<&str>, least: usize, most: usize) -> Option<usize>
-    requires { least ≤ most }
-    ensures { MatchOption result
-        ((n : ℕ) → ¬ IsCount least most (option_map (λ s. s.now) given.entry) n)
-        (IsCount least most (option_map (λ s. s.now) given.entry)) }
-{
-    let Some(text) = given else {
-        return Some(least);
-    };
-    match text.parse::<usize>() {
-        Ok(count) if least <= count && count <= most => Some(count),
-        _ => None,
-    }
-}
-
-/// The refusal of options or names.
-fn mistake<'a>(
-    alloc: Global,
-    command: &mut Command<'a>,
-    kind: ErrorKind,
-    message: &str,
-) -> Result<LineFault, OutOfMemory> {
-    let error = command.error(kind, message)?;
-    Ok(LineFault::Refused(error.to_string(alloc)?))
-}
-
-/// The request by names of files. A model's without the scripts' is refused.
-fn by_names<'a>(
-    alloc: Global,
-    command: &mut Command<'a>,
-    options: Options,
-    destination: Destination<'a>,
-    model: Option<&'a str>,
-    scripts: Option<&'a str>,
-) -> Result<Asked<'a>, LineFault>
-    ensures { AnswersPlaces options destination.entry (option_map (λ s. s.now) model.entry)
-        (option_map (λ s. s.now) scripts.entry) result }
-{
-    match (model, scripts) {
-        (Some(model), Some(scripts)) => Ok(Asked::Files(options, destination, model, scripts)),
-        (None, _) => Ok(Asked::Input(options, destination)),
-        (Some(_), None) => {
-            let kind = ErrorKind::MissingRequiredArgument;
-            Err(mistake(alloc, command, kind, "a MODEL was given without SCRIPTS")?)
-        }
-    }
-}
-
-/// The request by names of files with `--check`. A line without a model's is refused.
-fn by_checked_names<'a>(
-    alloc: Global,
-    command: &mut Command<'a>,
-    options: Options,
-    model: Option<&'a str>,
-    scripts: Option<&'a str>,
-) -> Result<Asked<'a>, LineFault>
-    ensures { AnswersCheckedPlaces options (option_map (λ s. s.now) model.entry)
-        (option_map (λ s. s.now) scripts.entry) result }
-{
-    let Some(model) = model else {
-        let kind = ErrorKind::MissingRequiredArgument;
-        return Err(mistake(alloc, command, kind, "--check takes a MODEL")?);
-    };
-    Ok(Asked::Check(options, model, scripts))
-}
-
 /// The request of a line without names: help or the version. Any other is refused.
 fn without_names<'a>(alloc: Global, error: &Error) -> Result<Asked<'a>, LineFault>
     ensures memory { kind_of error.now ≡ ErrorKind.OutOfMemory → result ≡ Err LineFault.OutOfMemory }
-    ensures shown { (kind_of error.now ≡ ErrorKind.DisplayHelp)
-        ⊎ (kind_of error.now ≡ ErrorKind.DisplayVersion) → IsShown result }
-    ensures mistake { kind_of error.now ≢ ErrorKind.DisplayHelp
-        → kind_of error.now ≢ ErrorKind.DisplayVersion → IsErr result }
+    ensures shown { (kind_of error.now ≡ ErrorKind.OutOfMemory) ⊎ ((kind_of error.now ≡ ErrorKind.DisplayHelp)
+        ⊎ (kind_of error.now ≡ ErrorKind.DisplayVersion)) → IsShown result }
+    ensures mistake { (kind_of error.now ≡ ErrorKind.OutOfMemory) ⊎ (kind_of error.now ≡ ErrorKind.UnknownArgument)
+        → IsErr result }
     ensures within { IfOk result HasOptions }
 {
     match error.kind() {
