@@ -8,7 +8,7 @@ ghost use Rattle.city_reader.specs.Cursor.{IsLexeme, IsPassed};
 ghost use Rattle.city_reader.specs.Numbers.{IsWholeText};
 
 use crate::numbers::{is_delimiter, whole_end};
-use crate::runs::{blanks_end, byte_at, plain_end};
+use crate::scans::{blanks_end, byte_at, plain_end};
 use crate::small::small_whole;
 use std::marker::Model;
 

@@ -1,6 +1,6 @@
 //! Reads the tokens of JSON texts, one after another, straight from the bytes.
 //!
-//! - `runs`: the ends of runs of blanks, of digits and of the plain bytes of a string
+//! - `scans`: where blanks, digits and the plain bytes of a string end
 //! - `numbers`: the ends of whole numbers
 //! - `small`, `whole`: whole numbers of a few digits, and of any number of digits
 //! - `cursor`: the rest of a text, and the lexemes at its front
@@ -13,11 +13,11 @@ mod numbers;
 mod plain;
 mod position;
 mod reader;
-mod runs;
+mod scans;
 mod small;
 mod whole;
 
 pub use position::Position;
 pub use reader::Reader;
-pub use runs::{few_digits_len, plain_end};
+pub use scans::{few_digits_len, plain_end};
 pub use whole::whole_of;

@@ -4,7 +4,7 @@ ghost use Rattle.json.specs.Word.{is_operator, is_space, after_minus, after_whol
 ghost use Rattle.json.specs.Run.{EndsAt};
 ghost use Rattle.city_reader.specs.Numbers.{AfterWholeNumber};
 
-use crate::runs::{byte_at, digits_end};
+use crate::scans::{byte_at, digits_end};
 
 /// Whether a word ends before this byte.
 #[inline(always)]

@@ -9,7 +9,7 @@ ghost use Rattle.serde_json.specs.Read.{number_from};
 ghost use Rattle.city_reader.specs.Numbers.{AreDigits, IsWholeFront, IsSmallWhole};
 
 use crate::numbers::is_delimiter;
-use crate::runs::byte_at;
+use crate::scans::byte_at;
 
 /// How many digits are read one by one: any number of so many fits.
 const FEW: usize = 18;

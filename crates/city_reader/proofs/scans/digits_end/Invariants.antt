@@ -1,11 +1,11 @@
 use Rattle.std.proofs.Common.{◌≡◌, ◌+◌, ◌-◌, ◌≤◌, length, drop}
 use Rattle.std.specs.List.{prefix_len}
-use Rattle.json.specs.Run.{is_plain}
-use Rattle.city_reader.proofs.runs.plain_end_slowly.Given as goal
+use Rattle.std.specs.Char.{is_ascii_digit}
+use Rattle.city_reader.proofs.scans.digits_end.Given as goal
 
 abbrev pub invariant-loop-at : goal.invariant-loop-at
 invariant-loop-at l =
-    (l.from + prefix_len is_plain (drop l.from l.text) ≡ l.at + prefix_len is_plain (drop l.at l.text))
+    (l.from + prefix_len is_ascii_digit (drop l.from l.text) ≡ l.at + prefix_len is_ascii_digit (drop l.at l.text))
     × (l.at ≤ length l.text)
 
 abbrev pub decreases-loop-at : goal.decreases-loop-at

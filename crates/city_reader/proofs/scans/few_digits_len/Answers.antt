@@ -3,7 +3,7 @@ use Rattle.std.specs.Char.{is_ascii_digit}
 use Rattle.json.specs.Run.{is_no_digit}
 use lib.Count.{count_trailing_zeros}
 use Rattle.city_reader.proofs.Lanes.{not-not, run_stops, run_within}
-use Rattle.city_reader.proofs.runs.few_digits_len.Goals as goal
+use Rattle.city_reader.proofs.scans.few_digits_len.Goals as goal
 
 pub returns-clause-within : goal.returns-clause-within
 returns-clause-within c =

@@ -2,7 +2,7 @@ use Rattle.std.proofs.Common.{arith}
 use Rattle.std.proofs.lemmas.Simd.{zip2_splat}
 use Rattle.json.specs.Run.{is_stop}
 use Rattle.city_reader.proofs.Lanes.{hit, below, either, masked}
-use Rattle.city_reader.proofs.runs.stops.Goals as goal
+use Rattle.city_reader.proofs.scans.stops.Goals as goal
 
 pub returns : goal.returns
 returns c =

@@ -1,7 +1,7 @@
 use Rattle.std.proofs.Common.{◌≡◌, ◌+◌, ◌-◌, ◌≤◌, length, drop}
 use Rattle.std.specs.List.{prefix_len}
 use Rattle.json.specs.Run.{is_plain}
-use Rattle.city_reader.proofs.runs.plain_end.Given as goal
+use Rattle.city_reader.proofs.scans.plain_end_slowly.Given as goal
 
 abbrev pub invariant-loop-at : goal.invariant-loop-at
 invariant-loop-at l =

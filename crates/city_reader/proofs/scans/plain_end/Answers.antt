@@ -2,7 +2,7 @@ use Rattle.std.proofs.Common.{refl, sym, ap, ◌∙◌, arith}
 use lib.Count.{count_trailing_zeros}
 use Rattle.json.specs.Run.{is_stop, is_plain}
 use Rattle.city_reader.proofs.Lanes.{run_bound, run_through, run_stops}
-use Rattle.city_reader.proofs.runs.plain_end.Goals as goal
+use Rattle.city_reader.proofs.scans.plain_end.Goals as goal
 
 pub returns-then-found-ne0-clause-value : goal.returns-then-found-ne0-clause-value
 returns-then-found-ne0-clause-value c =

@@ -3,7 +3,7 @@ use Rattle.std.proofs.Common.{◌%◌}
 use Rattle.std.proofs.lemmas.Simd.{zip2_splat}
 use Rattle.json.specs.Run.{is_no_digit}
 use Rattle.city_reader.proofs.Lanes.{at_most, from_splat, masked}
-use Rattle.city_reader.proofs.runs.no_digits.Goals as goal
+use Rattle.city_reader.proofs.scans.no_digits.Goals as goal
 
 pub returns : goal.returns
 returns c =
