@@ -2,7 +2,8 @@
 use Rattle.std.proofs.Common.{◌≡◌, ℕ, ℤ, ◌+◌, ◌<◌, ◌≤◌, true, false, cond, ◌&&◌, ◌||◌, ◌==◌, nat_lt, List, length}
 use Rattle.std.proofs.Common.{take, drop, get_or, Some, None, ◌⊎◌, inl, inr, sym, ap, ap₂, ◌∙◌, arith, get_or-take}
 use Rattle.std.proofs.Common.{drop-drop}
-use Rattle.std.proofs.lemmas.Bool.{true≢false, eqb-true, eq-eqb, ltb-false, ltb-true, leb-true, le-leb, ne_eqb, and_parts}
+use Rattle.std.proofs.lemmas.Bool.{true≢false, eqb-true, eq-eqb, ltb-false, ltb-true, leb-true, le-leb, ne_eqb}
+use Rattle.std.proofs.lemmas.Bool.{and_parts}
 use Rattle.std.proofs.lemmas.Bool.{cases_Bool}
 use Rattle.std.proofs.lemmas.List.{drop-take, get_or_default, length-take-le}
 use Rattle.std.proofs.lemmas.List.Sums.{prefix_len_is}

@@ -1,6 +1,6 @@
 -- Trees read by their resolved parts: objects, bodies of commands, and commands.
-use Rattle.city_tokens.proofs.Prelude.{◌≡◌, ℕ, List, [], ◌∷◌, Option, Some, None, refl, sym, Bool, true, false, codes, Data}
-use Rattle.city_tokens.proofs.Prelude.{array, no_items, Members, put, get, get_member, as_str, items_of, Geometry}
+use Rattle.city_tokens.proofs.Prelude.{◌≡◌, ℕ, List, [], ◌∷◌, Option, Some, None, refl, sym, Bool, true, false, codes}
+use Rattle.city_tokens.proofs.Prelude.{Data, array, no_items, Members, put, get, get_member, as_str, items_of, Geometry}
 use Rattle.city_tokens.proofs.Prelude.{Point, object_of, geometry_of, IsGeometry, IsObject, IsObjectSoFar, IsResolved}
 use Rattle.city_tokens.proofs.Prelude.{Pairs, IsArrayOf, IsListSlot, IsString, IsTaken, IsPassed, read_items, list_of}
 use Rattle.city_tokens.proofs.Prelude.{Token, Object, Body, ObjectParts, IsCommand, Command, command_of}
@@ -19,7 +19,8 @@ module _ {A : Type 0} (R : A → Data → Type 0) (reads : Data → Option A) wh
   items_resolved (x ∷ xs) (y ∷ ys) (d ∷ ds) h p = rw (p.0 d h.0, items_resolved xs ys ds h.1 p.1) refl
   items_resolved _ _ _ h p = search
 
-  pub array_resolved : (xs ys : List A) → Pairs (IsResolved R reads) xs ys → IsResolved (IsArrayOf R) (list_of reads) xs ys
+  pub array_resolved : (xs ys : List A) → Pairs (IsResolved R reads) xs ys
+      → IsResolved (IsArrayOf R) (list_of reads) xs ys
   array_resolved xs ys p d h = rw h.1 (items_resolved xs ys h.0 h.2 p)
 
   pub slot_resolved : (xs ys : List A) (member : Option Data) → IsResolved (IsArrayOf R) (list_of reads) xs ys

@@ -73,8 +73,9 @@ right_there m points h = grind (arith, are_triples-read)
 -- its commands are the ones read, resolved at its vertices
 pub script_made : (parts : ScriptParts) (name : List ℕ) (commands cs : List Command) (found kept : Members)
     → parts.name ≡ Some name → parts.commands ≡ Some commands
-    → IsResolved (IsArrayOf IsCommand) (list_of (command_of (points_of parts.vertices))) commands cs → ends_once cs ≡ true
-    → length cs ≤ max_commands → IsScriptSoFar parts found kept → IsScript (name, cs) (object found)
+    → IsResolved (IsArrayOf IsCommand) (list_of (command_of (points_of parts.vertices))) commands cs
+    → ends_once cs ≡ true → length cs ≤ max_commands → IsScriptSoFar parts found kept
+    → IsScript (name, cs) (object found)
 script_made parts name commands cs found kept named listed resolved ends short so =
     let points = points_of parts.vertices in
     let text = part_there IsString parts.name name so.1 named so.5 in

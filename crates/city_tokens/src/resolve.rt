@@ -121,7 +121,8 @@ impl ResolvePositions for Geometries {
 /// Puts points in place of an object's positions, and judges its body at once; `None` if a position
 /// names no vertex, or the body has a fault.
 fn resolve_object(alloc: Global, vertices: &[Vertex], object: UnresolvedObject) -> Option<Object>
-    ensures resolved { IfSome result (λ resolved. IsResolved IsObject (object_of (points_of vertices.now)) object resolved) }
+    ensures resolved { IfSome result
+        (λ resolved. IsResolved IsObject (object_of (points_of vertices.now)) object resolved) }
     ensures faultless { IfSome result (λ resolved. body_fault resolved.body ≡ None) }
 {
     let (mut body, parents, children) = object.into_parts();
@@ -144,7 +145,8 @@ pub fn resolve_objects(
     vertices: &[Vertex],
     unresolved: Vec<(Id, UnresolvedObject)>,
 ) -> Option<Vec<(Id, Object)>>
-    ensures { IfSome result (λ resolved. Pairs (IsResolvedObject (points_of vertices.now)) unresolved.items resolved.items) }
+    ensures { IfSome result
+        (λ resolved. Pairs (IsResolvedObject (points_of vertices.now)) unresolved.items resolved.items) }
 {
     let mut resolved = Vec::with_capacity(alloc, unresolved.len()).ok()?;
     for (id, object) in unresolved {

@@ -75,7 +75,8 @@ pub fn resolve_objects_by<R: Threads + Sync>(
     unresolved: Vec<(Id, UnresolvedObject)>,
     count: usize,
 ) -> Option<Vec<(Id, Object)>>
-    ensures { IfSome result (λ resolved. Pairs (IsResolvedObject (points_of vertices.now)) unresolved.items resolved.items) }
+    ensures { IfSome result
+        (λ resolved. Pairs (IsResolvedObject (points_of vertices.now)) unresolved.items resolved.items) }
 {
     let stretches = stretches_of(alloc, unresolved, count)?;
     let resolved = resolve_each(rt, alloc, vertices, stretches)?;

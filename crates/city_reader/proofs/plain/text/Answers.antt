@@ -10,7 +10,8 @@ returns-in-58 c p may =
 pub returns-in-44 : goal.returns-in-44
 returns-in-44 c p may =
     text_comma c.args.cursor.now c.string.new.self c.peek.new.self c.in_ok-text.text.now p c.in_ok-text.ensures
-    c.peek.ensures.same may c.skip-in-44.new.self (omega (arith, c.peek.ensures.value, c.in-44.is), c.skip-in-44.ensures)
+    c.peek.ensures.same may c.skip-in-44.new.self
+    (omega (arith, c.peek.ensures.value, c.in-44.is), c.skip-in-44.ensures)
 
 pub returns-in-93 : goal.returns-in-93
 returns-in-93 c p may =

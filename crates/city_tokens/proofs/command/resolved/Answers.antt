@@ -24,8 +24,8 @@ returns-in_ok-resolved_body-in-Add c =
 pub returns-in_ok-resolve_positions-in-Reshape : goal.returns-in_ok-resolve_positions-in-Reshape
 returns-in_ok-resolve_positions-in-Reshape c =
     let reshape = c.in-Reshape in
-    reshape_resolved (points_of c.args.vertices.now) c.args.command reshape.id reshape.geometry c.resolve_positions.new.self reshape.is
-    c.in_ok-resolve_positions-in-Reshape.ensures
+    reshape_resolved (points_of c.args.vertices.now) c.args.command reshape.id reshape.geometry
+    c.resolve_positions.new.self reshape.is c.in_ok-resolve_positions-in-Reshape.ensures
 
 pub returns-in_default : goal.returns-in_default
 returns-in_default c =

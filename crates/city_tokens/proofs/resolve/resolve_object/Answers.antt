@@ -1,4 +1,5 @@
-use Rattle.city_tokens.proofs.Prelude.{◌≡◌, Body, IsGeometry, IsResolved, points_of, IsArrayOf, geometry_of, list_of, ap}
+use Rattle.city_tokens.proofs.Prelude.{◌≡◌, Body, IsGeometry, IsResolved, points_of, IsArrayOf, geometry_of, list_of}
+use Rattle.city_tokens.proofs.Prelude.{ap}
 use Rattle.city_tokens.proofs.Options.{given}
 use Rattle.city_tokens.proofs.ResolvedParts.{object_resolved}
 use Rattle.city_tokens.proofs.resolve.resolve_object.Goals as goal

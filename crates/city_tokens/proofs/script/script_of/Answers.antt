@@ -10,8 +10,8 @@ returns c =
     let name = c.in_ok-name in
     let read = c.in_ok-commands in
     let cs = c.resolve_positions.new.self in
-    let resolved : IsResolved (IsArrayOf IsCommand) (list_of (command_of (points_of c.args.parts.vertices))) read.commands
-    cs = rw c.as_slice.ensures at c.in_ok-resolve_positions.ensures in
+    let resolved : IsResolved (IsArrayOf IsCommand) (list_of (command_of (points_of c.args.parts.vertices)))
+    read.commands cs = rw c.as_slice.ensures at c.in_ok-resolve_positions.ensures in
     ok_holds c.new.result c.ok.result _ c.ok.ensures.value (λ s made found kept so.
     let is : s ≡ (name.name, cs) = rw made at c.new.ensures.made in
     let ends : ends_once cs ≡ true = sym c.new.ensures.checked ∙ ap is_ok made in

@@ -61,7 +61,8 @@ read_value-returns-in-Null t c =
 pub read_value-returns-in-Bool : goal.read_value-returns-in-Bool
 read_value-returns-in-Bool t c =
     let same : c.args.reader.now ≡ c.take_whole.new.self = grind arith in
-    seen_token (same ∙ c.in_ok-next.ensures) (ap token_of c.in-Bool.is) (search (rules, the_lemmas)) (boolean_value _ _ _)
+    seen_token (same ∙ c.in_ok-next.ensures) (ap token_of c.in-Bool.is) (search (rules, the_lemmas))
+    (boolean_value _ _ _)
 
 pub read_value-returns-in_ok-n-in-Number : goal.read_value-returns-in_ok-n-in-Number
 read_value-returns-in_ok-n-in-Number t c =
@@ -73,7 +74,8 @@ read_value-returns-in_ok-n-in-Number t c =
 pub read_value-returns-in_ok-copy-in-String : goal.read_value-returns-in_ok-copy-in-String
 read_value-returns-in_ok-copy-in-String t c =
     let same : c.args.reader.now ≡ c.take_whole.new.self = grind arith in
-    seen_token (same ∙ c.in_ok-next.ensures) (ap token_of c.in-String.is) (search (rules, the_lemmas)) (string_value _ _ _)
+    seen_token (same ∙ c.in_ok-next.ensures) (ap token_of c.in-String.is) (search (rules, the_lemmas))
+    (string_value _ _ _)
 
 pub read_value-returns-in_ok-items-in-BeginArray : goal.read_value-returns-in_ok-items-in-BeginArray
 read_value-returns-in_ok-items-in-BeginArray t c =
