@@ -168,7 +168,6 @@ impl<'a> Copier<'a> {
     }
 
     /// Leaves these bytes out if they are next.
-    #[inline(always)]
     pub(crate) fn skip(&mut self, bytes: &[u8]) -> Option<()>
         ensures before { self.new.0 ≡ self.old.0 }
         ensures moves { IfSome result (λ _. Moves self.old self.new bytes.now []) }
@@ -315,7 +314,7 @@ fn begins_with(text: &[u8], bytes: &[u8]) -> bool
     ensures len { OnTrue result (length bytes.now ≤ length text.now) }
     ensures value { OnTrue result (take (length bytes.now) text.now ≡ bytes.now) }
 {
-    text.starts_with(bytes)
+    text.len() >= bytes.len() && &text[..bytes.len()] == bytes
 }
 
 /// Whether the next item is a string or an object, or there is none.
