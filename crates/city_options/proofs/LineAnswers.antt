@@ -17,17 +17,15 @@ use Rattle.clap.proofs.OnLiterals.{clap_on_literals}
 use Rattle.clap.proofs.WalkLemmas.{first_value-rows, one_text-rows}
 use Rattle.clap.specs.Faults.{walk_fault}
 use Rattle.clap.specs.Kinds.{IsAmong, Kinds, or_else}
-use Rattle.clap.specs.Lexer.{long_of}
 use Rattle.clap.specs.Walk.{Row, Text, arg_by_long, first_of, one_of}
 use Rattle.clap.specs.Words.{rows_of}
 use Rattle.clap.specs.declared.error.kind.ErrorKind.{ErrorKind}
 use Rattle.clap.specs.declared.error.kind.ErrorKind.TheVariants.{DisplayHelp, DisplayVersion, OutOfMemory}
 use Rattle.clap.specs.declared.error.kind.ErrorKind.TheVariants.{UnknownArgument}
 use Rattle.clap.specs.declared.parser.matches.Found.{Found}
-use Rattle.std.proofs.Common.{Bool, Err, List, None, Ok, Option, Result, Some, [], ap, ap₂, arith, codes, cond, false}
+use Rattle.std.proofs.Common.{Bool, Err, List, None, Ok, Option, Result, [], ap, ap₂, arith, codes, cond, false}
 use Rattle.std.proofs.Common.{inl, inr, refl, subst, suc, sym, true, ◌∙◌, ◌∷◌, ◌≡◌, ◌⊎◌}
 use Rattle.std.proofs.Math.Path.{fun_ext}
-use Rattle.std.proofs.lemmas.Bool.{false_from_ne_true}
 use Rattle.std.proofs.lemmas.Slice.Eq.{bytes_eq-Decides}
 use Rattle.std.specs.Prelude.{All, IsErr, MatchBool, slice_get, ◌≢◌}
 use Rattle.std.specs.Result.{IsErrAnd}
@@ -95,8 +93,7 @@ names_answered names r answered named =
 -- an option that is unknown
 module _ (option : Text) (unknown : IsUnknownOption option) where
   is_no : (known : Text) → unknown.name ≢ known → bytes_eq known unknown.name ≡ false
-  is_no known differs = false_from_ne_true (bytes_eq known unknown.name) (λ same.
-      differs (sym ((bytes_eq-Decides known unknown.name).0 same)))
+  is_no known differs = grind (arith, bytes_eq-Decides)
 
   no_rule : arg_by_long cityed_rules unknown.name ≡ None
   no_rule =
@@ -106,10 +103,7 @@ module _ (option : Text) (unknown : IsUnknownOption option) where
       (rw (o Workers, o Watch, o Output) refl)
 
   no_dashes : bytes_eq option (45 ∷ 45 ∷ []) ≡ false
-  no_dashes = false_from_ne_true (bytes_eq option (45 ∷ 45 ∷ [])) (λ same.
-      let bad : Some (unknown.name, unknown.given) ≡ None =
-      sym unknown.long ∙ ap long_of ((bytes_eq-Decides option (45 ∷ 45 ∷ [])).0 same) in
-      absurd (cc))
+  no_dashes = grind (arith, bytes_eq-Decides, unknown.long)
 
   refused_next : {all : List Row} (end : End all) (rest : List Text)
       → walk_fault top [] (at_end end) (option ∷ rest) ≡ UnknownArgument ∷ []
@@ -117,8 +111,7 @@ module _ (option : Text) (unknown : IsUnknownOption option) where
   refused_next end rest = rw (no_dashes, unknown.long, no_rule) refl
 
 excess_and_more : (b : Bool) → or_else (cond b (UnknownArgument ∷ []) []) (UnknownArgument ∷ []) ≡ UnknownArgument ∷ []
-excess_and_more true = refl
-excess_and_more false = refl
+excess_and_more b = grind arith
 
 pub unknown_fault : (args : List Text) → MeetsUnknownOption args → fault args ≡ UnknownArgument ∷ []
 unknown_fault args met =

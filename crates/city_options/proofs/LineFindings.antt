@@ -7,22 +7,21 @@ use Rattle.city_options.specs.CommandLines.{gives_value, value_name, with_flag, 
 use Rattle.city_options.specs.internal.CommandShape.{cityed_command}
 use Rattle.city_options.specs.internal.GivenLine.{flag_text}
 use Rattle.clap.specs.Faults.{built_fault, check_fault, default_fault, defaults_fault, entered_fault}
-use Rattle.clap.specs.Faults.{given_default_fault, settle_fault, walk_fault}
+use Rattle.clap.specs.Faults.{settle_fault, walk_fault}
 use Rattle.clap.specs.Kinds.{Kinds, or_else}
 use Rattle.clap.specs.Simple.{App, built, entered}
-use Rattle.clap.specs.Walk.{Row, Rule, Text, Walk, arg_by_id, default_rows, finished, first_of, has_row, is_empty}
+use Rattle.clap.specs.Walk.{Row, Rule, Text, Walk, arg_by_id, default_rows, finished, first_of, has_row}
 use Rattle.clap.specs.Walk.{more_values, nothing_held, one_of, reading_by, row_text, rows_after, settled, takes_values}
 use Rattle.clap.specs.Walk.{walk_from, with_default}
 use Rattle.clap.specs.declared.parser.matches.ValueSource.TheVariants.{DefaultValue}
-use Rattle.std.proofs.Common.{Bool, List, None, Option, Some, [], ap, append-nil, ap₂, arith, codes, cond, false, fold}
-use Rattle.std.proofs.Common.{is_some, refl, subst, sym, true, true≢false, ℕ, ◌∙◌, ◌∷◌, ◌≡◌}
-use Rattle.std.proofs.lemmas.Bool.{false_from_ne_true}
+use Rattle.std.proofs.Common.{Bool, List, None, Option, Some, [], ap, append-nil, arith, codes, cond, false, fold}
+use Rattle.std.proofs.Common.{is_some, refl, subst, sym, true, ℕ, ◌∙◌, ◌∷◌, ◌≡◌}
 use Rattle.std.proofs.lemmas.Bool.Decides.{nat_tests}
 use Rattle.std.proofs.lemmas.List.Folds.{find-append}
 use Rattle.std.proofs.lemmas.Slice.Eq.{bytes_eq-Decides}
 use Rattle.std.specs.List.{AllByRecursion}
 use Rattle.std.specs.Option.{option_map_or, option_or}
-use Rattle.std.specs.Prelude.{find, option_and_then, option_map, slice_get, unwrap_or, ◌+◌, ◌==◌, ◌||◌}
+use Rattle.std.specs.Prelude.{find, option_and_then, option_map, slice_get, unwrap_or, ◌+◌, ◌==◌}
 use Rattle.std.specs.Str.{bytes_eq}
 
 abbrev pub app : App
@@ -39,11 +38,7 @@ found id = find (λ r. bytes_eq r.id id)
 
 has_found : (id : Text) (rows : List Row) → has_row id rows ≡ is_some (found id rows)
 has_found id [] = refl
-has_found id (r ∷ rs) =
-    elim (bytes_eq r.id id) as (λ b. (b || has_row id rs) ≡ is_some (cond b (Some r) (found id rs))) [
-      | true ↦ refl
-      | false ↦ has_found id rs
-    ]
+has_found id (r ∷ rs) = grind (arith, has_found id rs)
 
 -- what has a row: an option, or a name by its place
 pub data Slot : Type 0 where
@@ -109,10 +104,7 @@ slots scripts = (refl, refl)
 -- the row of s gives nothing to a slot of another kind
 aside : (s t : Slot) (v : Text) (o : Option Text) → (kind s == kind t) ≡ false
     → o ≡ cond (bytes_eq (id s) (id t)) (Some v) o
-aside s t v o other = ap (λ b. cond b (Some v) o) (sym (false_from_ne_true (bytes_eq (id s) (id t)) (λ same.
-    let are : kind s ≡ kind t =
-    sym (slots s).0 ∙ ap kind_of ((bytes_eq-Decides (id s) (id t)).0 same) ∙ (slots t).0 in
-    grind (arith, nat_tests, other, are))))
+aside s t v o other = grind (arith, nat_tests, bytes_eq-Decides, slots s, slots t)
 
 -- the rows have what is given, each once
 abbrev Holds : (Slot → Option Text) → List Row → Type 0
@@ -125,15 +117,7 @@ Adds before s v after = (t : Slot) → after t ≡ cond (bytes_eq (id s) (id t))
 more : (before : Slot → Option Text) {after : Slot → Option Text} (held : List Row) (s : Slot) (v : Text)
     → before s ≡ None → Adds before s v after → Holds before held → Holds after (row_of (id s) v ∷ held)
 more before held s v lacks adds holds = (
-  λ t.
-      ap (cond (bytes_eq (id s) (id t)) (Some (row_of (id s) v))) (holds.0 t)
-      ∙ (elim (bytes_eq (id s) (id t)) as (λ b. (b ≡ true → id s ≡ id t)
-      → cond b (Some (row_of (id s) v)) (option_map (row_of (id t)) (before t))
-      ≡ option_map (row_of (id t)) (cond b (Some v) (before t))) [
-        | true ↦ λ same. ap (λ i. Some (row_of i v)) (same refl)
-        | false ↦ λ same. refl
-      ]) (bytes_eq-Decides (id s) (id t)).0
-      ∙ ap (option_map (row_of (id t))) (sym (adds t)),
+  λ t. grind (arith, bytes_eq-Decides, adds t, holds.0 t),
   (has_found (id s) held ∙ ap is_some (holds.0 s ∙ ap (option_map (row_of (id s))) lacks), holds.1),
 )
 
@@ -147,8 +131,7 @@ value_more o v place line held lacks = more _ held (value o) v lacks adds
 
 flag_more : (b has : Bool) → cond (cond b true has) (Some (codes "true")) None
     ≡ cond b (Some (codes "true")) (cond has (Some (codes "true")) None)
-flag_more true has = refl
-flag_more false has = refl
+flag_more b has = grind arith
 
 nothing : (s : Slot) → found (id s) [] ≡ option_map (row_of (id s)) (given (λ o. None) (λ f. false) (None, None) s)
 nothing model = refl
@@ -179,14 +162,11 @@ holds scripts_next (gives_name n line rest name is) = more _ _ scripts n refl ad
 holds none_next (gives_name n line rest name is) = holds none_next is
 
 or_none : {X : Type 0} (o : Option X) → option_or o None ≡ o
-or_none None = refl
-or_none (Some x) = refl
+or_none o = grind arith
 
 -- a row that is there already comes before a default
 there : (o p : Option Row) (b : Bool) → (b ≡ true → is_some o ≡ true) → o ≡ option_or o (cond b p None)
-there (Some r) p b some = refl
-there None p false some = refl
-there None p true some = absurd (true≢false (sym (some refl)))
+there o p b some = grind arith
 
 abbrev by_default : Rule → Text → List Text → Row
 by_default a v vs = record (row_of a.id v) { values = v ∷ vs; source = Some DefaultValue; reading = reading_by a }
@@ -222,16 +202,10 @@ defaults_right : (rs : List Rule) (rows : List Row) → AllByRecursion (λ a. de
     → defaults_fault rows rs ≡ []
 unfolding defaults_fault
 defaults_right [] rows right = refl
-defaults_right (a ∷ rs) rows right =
-    ap₂ or_else (by_test (has_row a.id rows)) (defaults_right rs (with_default rows a) right.1)
-  where
-    by_test : (b : Bool) → cond (b || is_empty a.defaults) [] (given_default_fault a a.defaults) ≡ []
-    by_test true = refl
-    by_test false = right.0
+defaults_right (a ∷ rs) rows right = grind (arith, right.0, defaults_right rs (with_default rows a) right.1)
 
 or_no_fault : (k : Kinds) → or_else k [] ≡ k
-or_no_fault [] = refl
-or_no_fault (k ∷ ks) = refl
+or_no_fault k = grind arith
 
 -- the fault of a walk from its start
 abbrev pub ending : Kinds × Walk → Kinds

@@ -13,14 +13,13 @@ use Rattle.clap.specs.declared.builder.value_parser.Reading.TheVariants.{AsWritt
 use Rattle.clap.specs.declared.error.kind.ErrorKind.TheVariants.{ArgumentConflict, UnknownArgument}
 use Rattle.clap.specs.declared.parser.matches.ValueSource.TheVariants.{CommandLine}
 use Rattle.std.proofs.Common.{Bool, List, None, Option, Some, [], ap, append-nil, append_assoc, ap₂, arith, codes, cond}
-use Rattle.std.proofs.Common.{false, fold, refl, subst, sym, true, true≢false, ℕ, ◌&&◌, ◌++◌, ◌∙◌, ◌∷◌, ◌≡◌}
+use Rattle.std.proofs.Common.{false, fold, refl, subst, sym, true, ℕ, ◌&&◌, ◌++◌, ◌∙◌, ◌∷◌, ◌≡◌}
 use Rattle.std.proofs.Math.Bool.{and-false}
-use Rattle.std.proofs.lemmas.Bool.{false_from_ne_true, or_parts}
+use Rattle.std.proofs.lemmas.Bool.{false_from_ne_true}
 use Rattle.std.proofs.lemmas.Bool.Decides.{nat_tests}
 use Rattle.std.proofs.lemmas.List.Folds.{list_any-append}
 use Rattle.std.proofs.lemmas.Slice.Eq.{bytes_eq-Decides}
-use Rattle.std.specs.Prelude.{if◌then◌else◌, ⊤, ◌==◌, ◌||◌}
-use Rattle.std.specs.Str.{bytes_eq}
+use Rattle.std.specs.Prelude.{if◌then◌else◌, ⊤, ◌==◌}
 
 abbrev pub top : Shape
 top = (built cityed_command).top
@@ -37,9 +36,7 @@ row_of id v =
 pub put_last : (id : Text) (change : Row → List Row) (new rows : List Row) → has_row id rows ≡ false
     → at_row id change new rows ≡ rows ++ new
 put_last id change new [] lacks = refl
-put_last id change new (r ∷ rs) lacks =
-    let parts = or_parts (bytes_eq r.id id) (has_row id rs) lacks in
-    rw (parts.0, put_last id change new rs parts.1) refl
+put_last id change new (r ∷ rs) lacks = grind (arith, put_last id change new rs)
 
 abbrev pub AreDistinct : List Row → Type 0
 AreDistinct [] = ⊤
@@ -50,10 +47,7 @@ new_id : (before : List Row) (r : Row) (after : List Row) → AreDistinct (befor
     → has_row r.id before ≡ false
 new_id [] r after distinct = refl
 new_id (x ∷ xs) r after distinct =
-    let other = (or_parts (bytes_eq r.id x.id) (has_row x.id after)
-    (or_parts (has_row x.id xs) _ (sym (list_any-append _ xs (r ∷ after)) ∙ distinct.0)).1).0 in
-    rw (new_id xs r after distinct.1) (ap (λ b. b || false) (false_from_ne_true (bytes_eq x.id r.id) (λ same.
-    true≢false (sym ((bytes_eq-Decides r.id x.id).1 (sym ((bytes_eq-Decides x.id r.id).0 same))) ∙ other))))
+    grind (arith, list_any-append, bytes_eq-Decides, distinct.0, new_id xs r after distinct.1)
 
 -- ---- the walk
 
