@@ -2,13 +2,12 @@
 use Rattle.city_model.proofs.Prelude.{arith, ◌≡◌, ℕ, List, [], ◌∷◌, true, false, Option, Some, None, Less, refl}
 use Rattle.city_model.proofs.Prelude.{if◌then◌else◌, nat_cmp, AllByRecursion, slice_cmp, keys_of, ap, ◌∙◌, AreDistinct}
 use Rattle.city_model.proofs.Prelude.{false≢true, Object}
-use Rattle.city_model.proofs.Prelude.{CityMap, changed, same_id, has_id, is_orphan_there, HasNoOrphan, IsLeastOrphan}
+use Rattle.city_model.proofs.Prelude.{CityMap, changed, same_id, has_id}
 use Rattle.city_model.proofs.Prelude.{Change, after_change}
 use Rattle.std.specs.Option.{unwrap_or}
 use Rattle.std.specs.List.Sorted.{IsStrictlySortedBy}
 use Rattle.std.proofs.lemmas.Map.Keys.{sorted_tail}
-use Rattle.city_model.specs.Writing.{write_in, set_by}
-use Rattle.city_model.proofs.FirstEntry.{first_that, least_that, none_that}
+use Rattle.city_model.specs.Writing.{write_in}
 use Rattle.city_model.proofs.IdLists.{bool_cases, not_both}
 use Rattle.city_model.proofs.Ids.{same_id_true, same_id_back, same_id_itself}
 use Rattle.city_model.proofs.Writing.{same_map}
@@ -62,21 +61,3 @@ pub written_more : (c d : Change) (id : List ℕ) (w : Option Object) → Ascend
     → ((q : List ℕ) → write_in d q ≡ (if same_id id q then Some w else write_in c q))
     → (m : CityMap) → after_change m d ≡ changed (after_change m c) id w
 written_more c d id w s t h m = same_map _ _ (λ q. grind (arith, at_change c m q s, at_change d m q t, h q))
-
--- ---- orphans among the objects set by it
-
-abbrev pub first_orphan_in : Change → Option (List ℕ)
-first_orphan_in c = first_that (λ _ object. is_orphan_there object) c
-
-module _ (c : Change) (ascends : Ascends c) where
-  pub set_at : (q : List ℕ) → set_by c q ≡ unwrap_or (write_in c q) None
-  set_at q = at_change c (λ id. None) q ascends
-
-  written : (q : List ℕ) (o : Object) → set_by c q ≡ Some o → write_in c q ≡ Some (Some o)
-  written q o h = grind (arith, set_at q)
-
-  pub is_least_orphan_in : (id : List ℕ) → first_orphan_in c ≡ Some id → IsLeastOrphan (set_by c) id
-  is_least_orphan_in id first = search (arith, least_that, set_at, written)
-
-  pub has_no_orphan_set : first_orphan_in c ≡ None → HasNoOrphan (set_by c)
-  has_no_orphan_set none q o is = grind (arith, none_that, written q o)

@@ -6,7 +6,7 @@ use Rattle.std.specs.Cmp.Lexicographic.{slice_cmp}
 use Rattle.std.specs.BTreeMap.{is_at}
 use Rattle.std.specs.FinMap.{insert, remove}
 use Rattle.city_model.specs.declared.object.Object.{Object}
-use Rattle.city_model.specs.CityMap.{CityMap, Objects}
+use Rattle.city_model.specs.CityMap.{Objects}
 use Rattle.city_model.specs.Runs.{Change, after_change}
 
 -- its write at the id: an object, a delete, or nothing. It is the first pair of the id, and `after_change` ends with
@@ -14,10 +14,6 @@ use Rattle.city_model.specs.Runs.{Change, after_change}
 -- previous object (`Change::iter`, clause `map`)
 abbrev pub write_in : Change → List ℕ → Option (Option Object)
 write_in change id = lookup (is_at (slice_cmp nat_cmp id)) change
-
--- the objects set by it
-abbrev pub set_by : Change → CityMap
-set_by change = after_change (λ id. None) change
 
 -- the objects with another one, or none, at an id
 abbrev pub objects_with : Objects → List ℕ → Option Object → Objects

@@ -1,10 +1,8 @@
 //! Objects without the parent required by their type.
 ghost use Rattle.std.specs.Prelude.{◌≡◌, IfSome, IfNone};
 ghost use Rattle.city_model.specs.CityMap.{object_at};
-ghost use Rattle.city_model.specs.Relations.{is_orphan, is_orphan_there, HasNoOrphan, IsLeastOrphan};
-ghost use Rattle.city_model.specs.Writing.{set_by};
+ghost use Rattle.city_model.specs.Relations.{is_orphan, HasNoOrphan, IsLeastOrphan};
 
-use crate::change::Change;
 use crate::city::City;
 use crate::object::Object;
 use crate::object_type::level;
@@ -28,28 +26,4 @@ pub fn least_orphan(city: &City) -> Option<&Id>
         }
     }
     None
-}
-
-/// The least id, in byte order, of an orphan among the objects set by a change; `None` if no object
-/// is one. Doesn't allocate.
-pub fn least_orphan_in(change: &Change) -> Option<&Id>
-    ensures least { IfSome result (λ id. IsLeastOrphan (set_by change.now) id.now) }
-    ensures none { IfNone result (HasNoOrphan (set_by change.now)) }
-{
-    for (id, object) in change.iter() {
-        if is_orphan_there(object) {
-            return Some(id);
-        }
-    }
-    None
-}
-
-/// Whether an orphan stands there.
-fn is_orphan_there(object: &Option<Object>) -> bool
-    ensures { result ≡ is_orphan_there object.now }
-{
-    match object {
-        Some(object) => is_orphan(object),
-        None => false,
-    }
 }

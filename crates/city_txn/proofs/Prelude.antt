@@ -19,7 +19,7 @@ pub use Rattle.city_model.proofs.Refused.{refused_stays}
 pub use Rattle.city_model.specs.CityMap.{has_id, object_at, same_id}
 pub use Rattle.city_model.specs.Relations.{is_orphan_there}
 pub use Rattle.city_model.specs.Runs.{Change}
-pub use Rattle.city_model.specs.Writing.{set_by, write_in}
+pub use Rattle.city_model.specs.Writing.{write_in}
 pub use Rattle.city_model.specs.declared.object.Object.{Object}
 pub use Rattle.city_model.specs.internal.Plans.{AreOf}
 pub use Rattle.city_txn.specs.UndoLog.{Logs, log_of, marked}
