@@ -1,2 +1,3 @@
 -- Lemmas for several functions of src/shape/.
 pub mod Bounded
+pub mod ShapeNames

@@ -3,7 +3,6 @@ ghost use Rattle.std.specs.Prelude.{◌≡◌, ◌⊎◌, [], true, List, ℕ, S
 ghost use Rattle.serde_json.specs.View.{view, members_view};
 ghost use Rattle.city_model.specs.CityMap.{found_in};
 ghost use Rattle.city_model.specs.Integral.{is_integral};
-ghost use Rattle.city_tokens.specs.tree.Texts.{HasTree};
 ghost use Rattle.city_doc.specs.declared.fault.ReadFault as fault;
 ghost use Rattle.city_doc.specs.document.Accepted.{IsAccepted};
 ghost use Rattle.city_doc.specs.document.AllFaults.{AreFaultsOf, AreThose, IsFaultOfTree, StandsAt};
@@ -23,7 +22,7 @@ use crate::document::top::wrong_member;
 use crate::fault::{ReadFault, alone};
 use crate::shape::vertices::vertices_in;
 use crate::tree::parse::{TextFault, parse};
-use crate::tree::values::named;
+use crate::tree::values::to_text;
 use city_model::OutOfMemory;
 use city_model::object::Point;
 use serde_json::{Map, Value};
@@ -80,7 +79,7 @@ fn tree_faults(alloc: Global, tree: &Value) -> Result<Vec<ReadFault>, OutOfMemor
     ensures { IfOk result (λ faults. AreThose (IsFaultOfTree (view tree.now)) faults.items) }
 {
     if let Some(name) = wrong_member(tree) {
-        let name = named(alloc, name)?;
+        let name = to_text(alloc, name)?;
         return alone(alloc, ReadFault::NotCityJson(name));
     }
     let points = vertices_in(alloc, tree)?;
@@ -124,7 +123,7 @@ fn readable_objects(
     for (id, object) in objects.iter() {
         if let Some(object) = lenient_object_of(alloc, points, object.clone()?)? {
             let indexed = IndexedObject::new(alloc, object)?;
-            listed.push((named(alloc, id.as_str())?, indexed))?;
+            listed.push((to_text(alloc, id.as_str())?, indexed))?;
         }
     }
     let readable = listed.into_iter().collect(alloc)?;

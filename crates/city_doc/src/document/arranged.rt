@@ -1,7 +1,8 @@
 //! Judges the relations of a city, in whatever order its objects list their relatives.
-ghost use Rattle.std.specs.Prelude.{◌≡◌, ◌<◌, length, IfOk, IfSome, IfNone};
+ghost use Rattle.std.specs.Prelude.{◌≡◌, ◌<◌, true, length, IfOk, IfSome, IfNone};
 ghost use Rattle.std.specs.FinMap.{entries};
 ghost use Rattle.std.specs.List.Sorted.{IsPermutation};
+ghost use Rattle.serde_json.specs.Data.{no_members};
 ghost use Rattle.city_model.specs.Chunks.{ids_left};
 ghost use Rattle.city_model.specs.CityMap.{object_at};
 ghost use Rattle.city_model.specs.Misrelated.{IsMisrelatedAt};
@@ -12,9 +13,11 @@ ghost use Rattle.city_model.specs.Least.{IsLeast};
 use city_model::OutOfMemory;
 use city_model::city::City;
 use city_model::copied::Copied;
+use city_model::frame::Frame;
 use city_model::id_list::{Ids, are_increasing, is_same_id};
 use city_model::kept::extra::Extra;
 use city_model::kept::shared_extra::SharedExtra;
+use city_model::kept::site::Site;
 use city_model::object::{Body, Object};
 use city_model::object_type::ObjectType;
 use city_model::relations::relations_fault;
@@ -73,17 +76,34 @@ fn arranged_ids(alloc: Global, ids: Ids<'_>) -> Result<SharedIds, OutOfMemory>
     SharedIds::from_sequence(alloc, Sequence::from_vec(copies))
 }
 
+/// No kept members. Doesn't allocate.
+fn nothing_kept<P: Site>(alloc: Global) -> Extra<P>
+    requires { P.keeps no_members ≡ true }
+{
+    match Extra::new(Map::new(alloc)) {
+        Ok(extra) => extra,
+        Err(_) => unreachable!(),
+    }
+}
+
 /// A body of this type, without geometries and kept members. Doesn't allocate.
 fn bare_body(alloc: Global, kind: ObjectType) -> Body
     ensures { result.kind ≡ kind }
 {
-    let Ok(extra) = Extra::new(Map::new(alloc)) else {
-        unreachable!()
-    };
     Body {
         kind,
         geometry: Shared::unshared(Sequence::new(alloc)),
-        extra: SharedExtra::unshared(extra),
+        extra: SharedExtra::unshared(nothing_kept(alloc)),
+    }
+}
+
+/// A frame without kept members. Doesn't allocate.
+fn bare_frame(alloc: Global) -> Frame {
+    Frame {
+        scale: [1; 3],
+        translate: [0; 3],
+        more: nothing_kept(alloc),
+        extra: nothing_kept(alloc),
     }
 }
 
@@ -100,7 +120,7 @@ fn arranged_object(alloc: Global, object: &Object) -> Result<Object, OutOfMemory
     })
 }
 
-/// A city of the same relations, each list arranged; the bodies are bare.
+/// A city of the same relations, each list arranged; the bodies and the frame are bare.
 fn arranged_city(alloc: Global, city: &City) -> Result<City, OutOfMemory>
     ensures { IfOk result (λ c. AreArranged (entries city.now.1) (entries c.1)) }
 {
@@ -110,8 +130,7 @@ fn arranged_city(alloc: Global, city: &City) -> Result<City, OutOfMemory>
         entries.push((id.copy(alloc)?, arranged))?;
     }
     let objects = entries.into_iter().collect(alloc)?;
-    let frame = city.frame().copy(alloc)?;
-    Ok(City::from_parts(frame, objects))
+    Ok(City::from_parts(bare_frame(alloc), objects))
 }
 
 /// The least id of a misrelated object or an orphan.

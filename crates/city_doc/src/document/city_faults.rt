@@ -1,20 +1,19 @@
 //! Judges the rings, the relations and the shells of a city.
 ghost use Rattle.std.specs.Prelude.{◌≡◌, List, Bool, None, IfOk, IfSome, IfNone, MatchOption, option_map};
-ghost use Rattle.std.specs.List.{list_any};
 ghost use Rattle.std.specs.FinMap.{entries};
 ghost use Rattle.serde_json.specs.Data.{Members};
 ghost use Rattle.city_model.specs.declared.object.Body as b;
 ghost use Rattle.city_model.specs.declared.object.Point as p;
 ghost use Rattle.city_model.specs.CityMap.{object_at};
 ghost use Rattle.city_model.specs.Relations.{IsRelated, IsLawful};
-ghost use Rattle.city_model.specs.Shells.{some_shape, has_short_ring, has_same_twice, has_open_shell};
+ghost use Rattle.city_model.specs.Shells.{some_shape, has_open_shell};
 ghost use Rattle.city_doc.specs.document.CityFaults.{is_bad_ringed, IsLeastBadlyRelated};
 ghost use Rattle.city_doc.specs.document.Faults.{StandsAmong, IsFirst};
 ghost use Rattle.city_doc.specs.internal.document.LenientCities.{first_body, lesser, IsReadOf};
 
 use crate::document::arranged::least_misrelated;
 use crate::fault::ReadFault;
-use crate::tree::values::named;
+use crate::tree::values::to_text;
 use city_model::OutOfMemory;
 use city_model::body_fault::{any_open_shell, any_same_twice, any_short_ring};
 use city_model::city::City;
@@ -127,7 +126,7 @@ pub fn city_fault(
         (λ f. IsFirst (StandsAmong points objects) f)) }
 {
     if let Some(id) = first_body::<BadRing>(alloc, city)? {
-        let id = named(alloc, id.as_str())?;
+        let id = to_text(alloc, id.as_str())?;
         return Ok(Some(ReadFault::BadRing(id)));
     }
     let badly_related = least_badly_related(alloc, bad_list, city)?;
@@ -135,7 +134,7 @@ pub fn city_fault(
         return Ok(Some(ReadFault::Relations(id)));
     }
     if let Some(id) = first_body::<OpenShell>(alloc, city)? {
-        let id = named(alloc, id.as_str())?;
+        let id = to_text(alloc, id.as_str())?;
         return Ok(Some(ReadFault::OpenShell(id)));
     }
     Ok(None)

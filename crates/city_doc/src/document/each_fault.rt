@@ -16,7 +16,7 @@ use crate::document::indexed::{IndexedObject, IndexedObjects, is_misrelated};
 use crate::fault::ReadFault;
 use crate::object::faults::{has_bad_vertex, is_bad_geometry, type_of, unsupported_name};
 use crate::object::ids::has_bad_list;
-use crate::tree::values::named;
+use crate::tree::values::to_text;
 use city_model::OutOfMemory;
 use city_model::body_fault::any_open_shell;
 use city_model::text::Id;
@@ -90,7 +90,7 @@ impl Search for UnknownType {
         if type_of(object).is_some() {
             return Ok(None);
         }
-        let id = named(alloc, id)?;
+        let id = to_text(alloc, id)?;
         Ok(Some(ReadFault::UnknownType(id)))
     }
 }
@@ -107,8 +107,8 @@ impl Search for UnsupportedPart {
         let Some(name) = unsupported_name(object) else {
             return Ok(None);
         };
-        let id = named(alloc, id)?;
-        let name = named(alloc, name)?;
+        let id = to_text(alloc, id)?;
+        let name = to_text(alloc, name)?;
         Ok(Some(ReadFault::Unsupported(id, name)))
     }
 }
@@ -125,7 +125,7 @@ impl Search for BadGeometry {
         if !is_bad_geometry(object) {
             return Ok(None);
         }
-        let id = named(alloc, id)?;
+        let id = to_text(alloc, id)?;
         Ok(Some(ReadFault::BadGeometry(id)))
     }
 }
@@ -149,7 +149,7 @@ impl Search for BadVertex {
         if !is_misplaced(self.0, object) {
             return Ok(None);
         }
-        let id = named(alloc, id)?;
+        let id = to_text(alloc, id)?;
         Ok(Some(ReadFault::BadVertex(id)))
     }
 }
@@ -173,7 +173,7 @@ impl<'o> Search for BadRing<'o> {
         id: &str,
         _object: &Value,
     ) -> Result<Option<ReadFault>, OutOfMemory> {
-        let id = named(alloc, id)?;
+        let id = to_text(alloc, id)?;
         if !is_bad_ringed_there(self.0.get(&id)) {
             return Ok(None);
         }
@@ -200,7 +200,7 @@ impl<'o> Search for Relations<'o> {
         id: &str,
         object: &Value,
     ) -> Result<Option<ReadFault>, OutOfMemory> {
-        let id = named(alloc, id)?;
+        let id = to_text(alloc, id)?;
         if !has_bad_list(object) && !is_misrelated_there(self.0, &id) {
             return Ok(None);
         }
@@ -228,7 +228,7 @@ impl<'o> Search for OpenShell<'o> {
         id: &str,
         _object: &Value,
     ) -> Result<Option<ReadFault>, OutOfMemory> {
-        let id = named(alloc, id)?;
+        let id = to_text(alloc, id)?;
         if !is_open_there(alloc, self.0.get(&id))? {
             return Ok(None);
         }

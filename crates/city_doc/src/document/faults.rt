@@ -1,5 +1,6 @@
 //! Judges the objects of a document by their trees: finds their first fault.
-ghost use Rattle.std.specs.Prelude.{◌≡◌, true, Bool, None, IfOk, OnOk, MatchOption, length, option_map, option_and_then, codes};
+ghost use Rattle.std.specs.Prelude.{◌≡◌, true, Bool, None, IfOk, OnOk, MatchOption, length};
+ghost use Rattle.std.specs.Prelude.{option_map, option_and_then, codes};
 ghost use Rattle.serde_json.specs.Data.{Data};
 ghost use Rattle.serde_json.specs.Find.{get, as_object};
 ghost use Rattle.serde_json.specs.View.{view, members_view};
@@ -19,7 +20,7 @@ use crate::object::faults::{has_bad_vertex, is_bad_geometry, type_of, unsupporte
 use crate::object::ids::has_bad_list;
 use crate::shape::vertices::vertices_in;
 use crate::tree::parse::parse;
-use crate::tree::values::named;
+use crate::tree::values::to_text;
 use city_model::OutOfMemory;
 use city_model::members::member;
 use city_model::object::Point;
@@ -122,23 +123,23 @@ fn object_fault(
         (λ f. IsFirst (StandsAmong points.now (members_view objects.now.entries)) f)) }
 {
     if let Some(id) = first_with(&UnknownType, objects) {
-        let id = named(alloc, id)?;
+        let id = to_text(alloc, id)?;
         return Ok(Some(ReadFault::UnknownType(id)));
     }
     if let Some(id) = first_with(&UnsupportedPart, objects) {
         let Some(name) = unsupported_at(objects, id) else {
             unreachable!()
         };
-        let id = named(alloc, id)?;
-        let name = named(alloc, name)?;
+        let id = to_text(alloc, id)?;
+        let name = to_text(alloc, name)?;
         return Ok(Some(ReadFault::Unsupported(id, name)));
     }
     if let Some(id) = first_with(&BadGeometry, objects) {
-        let id = named(alloc, id)?;
+        let id = to_text(alloc, id)?;
         return Ok(Some(ReadFault::BadGeometry(id)));
     }
     if let Some(id) = first_with(&BadVertex(points.len()), objects) {
-        let id = named(alloc, id)?;
+        let id = to_text(alloc, id)?;
         return Ok(Some(ReadFault::BadVertex(id)));
     }
     Ok(None)
@@ -181,7 +182,7 @@ pub fn first_bad_list(alloc: Global, tree: &Value) -> Result<Option<Id>, OutOfMe
     let Some(id) = first_with(&BadList, objects) else {
         return Ok(None);
     };
-    let id = named(alloc, id)?;
+    let id = to_text(alloc, id)?;
     Ok(Some(id))
 }
 

@@ -20,7 +20,7 @@ use crate::document::top::wrong_member;
 use crate::fault::ReadFault;
 use crate::shape::vertices::vertices_in;
 use crate::tree::parse::{parse, tree_of};
-use crate::tree::values::named;
+use crate::tree::values::to_text;
 use city_model::city::City;
 use city_tokens::{Pieces, streamed_city, streamed_city_by};
 use serde_json::Value;
@@ -150,7 +150,7 @@ fn city_of_tree(alloc: Global, tree: Value) -> Result<Option<City>, ReadFault>
         ⊎ IsFirst (StandsIn (view tree)) f) }
 {
     if let Some(name) = wrong_member(&tree) {
-        let name = named(alloc, name)?;
+        let name = to_text(alloc, name)?;
         return Err(ReadFault::NotCityJson(name));
     }
     let points = vertices_in(alloc, &tree)?;

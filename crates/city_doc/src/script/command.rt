@@ -12,7 +12,7 @@ use crate::script::command_faults::names_relations;
 use crate::script::command_form::{Form, form_of};
 use crate::shape::geometry;
 use crate::tree::texts::texts_of;
-use crate::tree::values::named;
+use crate::tree::values::to_text;
 use city_model::OutOfMemory;
 use city_model::command::{Attributes, Command};
 use city_model::kept::extra::Extra;
@@ -150,35 +150,41 @@ pub fn command_of(
     };
     let command = match form {
         Form::Put(id, _) => {
-            let id = named(alloc, id)?;
+            let id = to_text(alloc, id)?;
             return put_command(alloc, points, id, command);
         }
         Form::Add(id, _) => {
-            let id = named(alloc, id)?;
+            let id = to_text(alloc, id)?;
             return add_command(alloc, points, id, command);
         }
         Form::Set(id, _) => {
-            let id = named(alloc, id)?;
+            let id = to_text(alloc, id)?;
             return Ok(set_command(id, command));
         }
         Form::Unset(id, _) => {
-            let id = named(alloc, id)?;
+            let id = to_text(alloc, id)?;
             return unset_command(alloc, id, command);
         }
         Form::Reshape(id, _) => {
-            let id = named(alloc, id)?;
+            let id = to_text(alloc, id)?;
             return reshape_command(alloc, points, id, command);
         }
         Form::Expect(id, _) => {
-            let id = named(alloc, id)?;
+            let id = to_text(alloc, id)?;
             return Ok(expect_command(id, command));
         }
-        Form::Read(id) => Command::Read(named(alloc, id)?),
-        Form::Delete(id) => Command::Delete(named(alloc, id)?),
-        Form::Attach(child, parent) => Command::Attach(named(alloc, child)?, named(alloc, parent)?),
-        Form::Detach(child, parent) => Command::Detach(named(alloc, child)?, named(alloc, parent)?),
-        Form::Mark(name) => Command::Mark(named(alloc, name)?),
-        Form::Back(name) => Command::Back(named(alloc, name)?),
+        Form::Read(id) => Command::Read(to_text(alloc, id)?),
+        Form::Delete(id) => Command::Delete(to_text(alloc, id)?),
+        Form::Attach(child, parent) => Command::Attach(
+            to_text(alloc, child)?,
+            to_text(alloc, parent)?,
+        ),
+        Form::Detach(child, parent) => Command::Detach(
+            to_text(alloc, child)?,
+            to_text(alloc, parent)?,
+        ),
+        Form::Mark(name) => Command::Mark(to_text(alloc, name)?),
+        Form::Back(name) => Command::Back(to_text(alloc, name)?),
         Form::Commit => Command::Commit,
         Form::Abort => Command::Abort,
     };

@@ -7,17 +7,24 @@ use crate::shape::nested::{Formed, Leaf};
 use crate::tree::values::text_at;
 use city_model::object::{Geometry, Shell, Solid, Surface};
 use city_model::sequence::Sequence;
+use city_model::shape_type::ShapeType;
 use serde_json::Value;
 
 /// Whether a value has the form of the boundaries of a geometry of this type.
 fn is_boundaries<L: Leaf>(leaf: &L, kind: &str, value: &Value) -> bool
     ensures { result ≡ is_boundaries (L.test leaf.now) kind.now (view value.now) }
 {
+    let Some(kind) = ShapeType::of_name(kind) else {
+        return false;
+    };
     match kind {
-        "MultiSurface" | "CompositeSurface" => Sequence::<Surface>::has_form(leaf, value),
-        "Solid" => Sequence::<Shell>::has_form(leaf, value),
-        "MultiSolid" | "CompositeSolid" => Sequence::<Solid>::has_form(leaf, value),
-        _ => false,
+        ShapeType::MultiSurface | ShapeType::CompositeSurface => {
+            Sequence::<Surface>::has_form(leaf, value)
+        }
+        ShapeType::Solid => Sequence::<Shell>::has_form(leaf, value),
+        ShapeType::MultiSolid | ShapeType::CompositeSolid => {
+            Sequence::<Solid>::has_form(leaf, value)
+        }
     }
 }
 

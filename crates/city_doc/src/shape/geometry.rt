@@ -17,6 +17,7 @@ use city_model::kept::site::AtGeometry;
 use city_model::members::{into_object, take};
 use city_model::object::{Geometries, Geometry, Point, Shape};
 use city_model::sequence::Sequence;
+use city_model::shape_type::ShapeType;
 use city_model::shared::Shared;
 use city_model::text::Text;
 use serde_json::{Map, Value};
@@ -31,28 +32,30 @@ fn shape_of(
 ) -> Result<Option<Shape>, OutOfMemory>
     ensures { IfOk result (λ o. o ≡ shape_of points.now kind.now (view boundaries.now)) }
 {
+    let Some(kind) = ShapeType::of_name(kind) else {
+        return Ok(None);
+    };
     match kind {
-        "MultiSurface" => match Nested::read(alloc, points, boundaries)? {
+        ShapeType::MultiSurface => match Nested::read(alloc, points, boundaries)? {
             Some(surfaces) => Ok(Some(Shape::MultiSurface(surfaces))),
             None => Ok(None),
         },
-        "CompositeSurface" => match Nested::read(alloc, points, boundaries)? {
+        ShapeType::CompositeSurface => match Nested::read(alloc, points, boundaries)? {
             Some(surfaces) => Ok(Some(Shape::CompositeSurface(surfaces))),
             None => Ok(None),
         },
-        "Solid" => match Nested::read(alloc, points, boundaries)? {
+        ShapeType::Solid => match Nested::read(alloc, points, boundaries)? {
             Some(shells) => Ok(Some(Shape::Solid(shells))),
             None => Ok(None),
         },
-        "MultiSolid" => match Nested::read(alloc, points, boundaries)? {
+        ShapeType::MultiSolid => match Nested::read(alloc, points, boundaries)? {
             Some(solids) => Ok(Some(Shape::MultiSolid(solids))),
             None => Ok(None),
         },
-        "CompositeSolid" => match Nested::read(alloc, points, boundaries)? {
+        ShapeType::CompositeSolid => match Nested::read(alloc, points, boundaries)? {
             Some(solids) => Ok(Some(Shape::CompositeSolid(solids))),
             None => Ok(None),
         },
-        _ => Ok(None),
     }
 }
 

@@ -39,7 +39,7 @@ pub fn into_array(value: Value) -> Option<Vec<Value>>
 }
 
 /// A copy of a name.
-pub fn named(alloc: Global, name: &str) -> Result<Text, OutOfMemory>
+pub fn to_text(alloc: Global, name: &str) -> Result<Text, OutOfMemory>
     ensures { IfOk result (λ text. text ≡ name.now) }
 {
     Ok(Text::new(name.to_string(alloc)?))

@@ -111,16 +111,10 @@ impl Written for Shape {
 }
 
 /// The name of a shape's type.
-pub fn shape_name(shape: &Shape) -> &'static str
+fn shape_name(shape: &Shape) -> &'static str
     ensures { result.now ≡ shape_name shape.now }
 {
-    match shape {
-        Shape::MultiSurface(_) => "MultiSurface",
-        Shape::CompositeSurface(_) => "CompositeSurface",
-        Shape::Solid(_) => "Solid",
-        Shape::MultiSolid(_) => "MultiSolid",
-        Shape::CompositeSolid(_) => "CompositeSolid",
-    }
+    shape.shape_type().name()
 }
 
 impl Written for Geometry {
