@@ -6,7 +6,7 @@ use Rattle.city_scheduler.specs.DeskState.{DeskState}
 use Rattle.city_scheduler.specs.Serial.{IsSerial}
 use Rattle.city_scheduler.proofs.Throughout.{lawful_throughout}
 use Rattle.city_desk.specs.TextRuns.{IsRun}
-use Rattle.city_crew.specs.internal.CrewRuns.{IsResult}
+use Rattle.city_crew.specs.internal.CrewResults.{IsResult}
 
 pub is_result : (d : DeskState) (changes : List Change) (base : Option CityValue) (left : CityValue) (ends : List End)
     → IsSerial d changes base → length ends ≡ length d.scripts → left.0 ≡ d.start.0

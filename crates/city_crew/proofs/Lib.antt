@@ -2,5 +2,5 @@ pub mod CrewFaults
 pub mod CrewResults
 pub mod Crossing
 pub mod Prelude
-pub mod Risen
-pub mod ShownEnds
+pub mod Rising
+pub mod Seen

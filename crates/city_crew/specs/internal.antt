@@ -1,4 +1,4 @@
 -- Definitions for private clauses and proofs only.
 pub mod CrewFaults
-pub mod CrewRuns
+pub mod CrewResults
 pub mod CrewShelves

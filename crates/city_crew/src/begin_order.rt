@@ -37,9 +37,6 @@ impl BeginOrder {
 
     /// Whether no other script under way began before this one.
     pub fn is_oldest(&self, script: usize) -> bool {
-        match self.scripts.first() {
-            Some(first) => *first == script,
-            None => true,
-        }
+        self.oldest().is_none_or(|oldest| oldest == script)
     }
 }

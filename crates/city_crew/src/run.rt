@@ -1,5 +1,5 @@
 //! Runs the scripts of a text on the city of a document, with workers and viewers.
-ghost use Rattle.std.specs.Prelude.{◌≡◌, ◌≤◌, ◌++◌, ◌∷◌, ℕ, List, [], length, IfOk, IfErr, IfSome};
+ghost use Rattle.std.specs.Prelude.{◌≡◌, ◌≤◌, ◌++◌, ◌∷◌, ℕ, List, [], length, IfOk, IfErr};
 ghost use Rattle.city_model.specs.CityMap.{object_at};
 ghost use Rattle.city_model.specs.Relations.{IsLawful};
 ghost use Rattle.city_model.specs.SerialEnds.{commits_in};
@@ -7,33 +7,23 @@ ghost use Rattle.city_writer.specs.Outputs.{IsJsonOutput};
 ghost use Rattle.city_writer.specs.document.Canonical.{city_text};
 ghost use Rattle.city_writer.specs.report.Reports.{report_text};
 ghost use Rattle.city_desk.specs.RunFaults.{IsRunFault};
-ghost use Rattle.city_desk.specs.TextRuns.{IsRun};
-ghost use Rattle.city_desk.specs.TextRuns.{IsReadFrom};
-ghost use Rattle.city_crew.specs.internal.CrewShelves.{taken_by, base_of};
+ghost use Rattle.city_desk.specs.TextRuns.{IsReadFrom, IsRun};
 ghost use Rattle.city_crew.specs.Limits.{max_workers, max_viewers};
 ghost use Rattle.city_crew.specs.Seen.{AreSeen};
 
-use crate::begin_order::BeginOrder;
-use crate::crew_shelf::CrewShelf;
+use crate::crew_desk::CrewDesk;
 use crate::fault::CrewFault;
 use crate::gate::Gate;
-use crate::last_looks::last_looks;
-use crate::origin::Origin;
+use crate::ghosts::origin::Origin;
 use crate::shared::Shared;
-use crate::sleepers::Sleepers;
-use crate::state::State;
 use crate::threads::run_threads;
-use crate::viewer_thread::{ViewerThread, watchers_of};
-use city_board::Viewer;
-use city_board::board::board;
+use crate::watcher::{Watcher, last_looks};
 use city_desk::{Output, RunFault, output_bytes_by, read_texts_by};
 use city_doc::{FIXED_SEED, Pieces, pieces_for};
-use city_model::OutOfMemory;
 use city_model::city::City;
-use city_model::copied::Copied;
 use city_model::script::Script;
 use city_model::sequence::Sequence;
-use city_scheduler::{Desk, Finished, NullShelf, Shelf};
+use city_scheduler::{Finished, Shelf};
 use std::alloc::Global;
 use std::marker::Brand;
 use std::sync::Wait;
@@ -127,8 +117,7 @@ pub fn run_crew_read<R: Threads + Wait + Sync, G: Gate + Sync>(
     ensures lines { IfOk result (λ r. IsJsonOutput r.0.report r.0.bytes.items) }
     ensures fault { IfErr result (λ f. (document text : List ℕ) → IsRunFault document text f) }
 {
-    let ran = run::<R, G, Brand>(rt, alloc, seed, city, scripts, room, workers, viewers, gate)?;
-    Ok(ran)
+    Ok(run::<R, G, Brand>(rt, alloc, seed, city, scripts, room, workers, viewers, gate)?)
 }
 
 /// The same, with a type for the opening city and scripts.
@@ -154,66 +143,14 @@ fn run<R: Threads + Wait + Sync, G: Gate + Sync, O: Origin + Send>(
     ensures report { IfOk result (λ r. r.0.report ≡ length (report_text r.0.ends)) }
     ensures lines { IfOk result (λ r. IsJsonOutput r.0.report r.0.bytes.items) }
 {
-    let (state, seated) = open::<R, O>(rt, alloc, city, scripts, workers, viewers)?;
-    let watchers = watchers_of(alloc, seated)?;
-    let shared = Shared::new(alloc, state, workers)?;
+    let (desk, seated) = CrewDesk::<&R, O>::open(rt, alloc, city, scripts, workers, viewers)?;
+    let watchers = Watcher::for_each(alloc, seated)?;
+    let shared = Shared::new(alloc, desk, workers)?;
     let watchers = run_threads(rt, alloc, &shared, gate, workers, watchers)?;
-    let finished = shared.into_turns().end()?;
+    let finished = shared.into_dispatcher().finish()?;
     let pieces = pieces_for(workers.saturating_add(viewers));
     let (output, city) = gather(rt, alloc, seed, finished, watchers, viewers, room, pieces)?;
     Ok((output, city))
-}
-
-/// A desk over a city and scripts, and the viewers of its shelf's board.
-fn open<'r, R: Wait, O: Origin>(
-    rt: &'r R,
-    alloc: Global,
-    city: City,
-    scripts: Sequence<Script>,
-    workers: usize,
-    viewers: usize,
-) -> Result<(State<&'r R, O>, Vec<Viewer>), CrewFault>
-    requires lawful { IsLawful (object_at city.1) }
-    requires city { city ≡ O.city }
-    requires scripts { scripts ≡ O.scripts }
-    requires viewers { viewers ≤ max_viewers }
-{
-    let ages = BeginOrder::new(alloc, workers)?;
-    let sleepers = Sleepers::new(alloc, workers)?;
-    let lengths = lengths_of(alloc, scripts.as_slice())?;
-    let (shelf, seated) = new_shelf(rt, alloc, &city, viewers)?;
-    let desk = Desk::open(alloc, city, scripts, shelf)?;
-    Ok((State::new(desk, ages, sleepers, lengths, viewers), seated))
-}
-
-/// The number of commands of each script.
-fn lengths_of(alloc: Global, scripts: &[Script]) -> Result<Vec<usize>, OutOfMemory> {
-    let mut lengths = Vec::with_capacity(alloc, scripts.len())?;
-    for script in scripts {
-        lengths.push(script.commands().len())?;
-    }
-    Ok(lengths)
-}
-
-/// A shelf for changes of the city, and the viewers of its board. Without viewers there is no
-/// board.
-fn new_shelf<'r, R: Wait>(
-    rt: &'r R,
-    alloc: Global,
-    city: &City,
-    viewers: usize,
-) -> Result<(CrewShelf<&'r R>, Vec<Viewer>), CrewFault>
-    requires lawful { IsLawful (object_at city.now.1) }
-    requires viewers { viewers ≤ max_viewers }
-    ensures empty { IfOk result (λ made. taken_by made.0 ≡ []) }
-    ensures based { IfOk result (λ made. IfSome (base_of made.0) (λ base. base ≡ city.now)) }
-{
-    if viewers == 0 {
-        return Ok((CrewShelf::Unseen(NullShelf::new()), Vec::new(alloc)));
-    }
-    let copy = city.copy(alloc)?;
-    let (poster, seated) = board(rt, alloc, copy, viewers)?;
-    Ok((CrewShelf::Posted(poster), seated))
 }
 
 /// Shows the changes still unseen, has each viewer look once more, and writes the report and the
@@ -223,7 +160,7 @@ fn gather<S: Shelf, Q: Threads + Wait + Sync>(
     alloc: Global,
     seed: u64,
     finished: Finished<S>,
-    watchers: Vec<ViewerThread>,
+    watchers: Vec<Watcher>,
     viewers: usize,
     room: usize,
     pieces: Pieces,

@@ -1,53 +1,79 @@
-//! State shared by the workers of a run.
-use crate::work::Turns;
+//! What the workers of a run share.
+use crate::dispatcher::Dispatcher;
 use city_model::OutOfMemory;
 use std::alloc::Global;
-use std::sync::{Condvar, Mutex};
+use std::sync::{Condvar, Mutex, MutexGuard, Wait};
 
-/// State shared by the workers: the turns under the lock, and a bed for each worker.
+/// A dispatcher under the lock of a run, and what its workers sleep on.
 #[derive(Drop)]
-pub struct Shared<T: Turns> {
-    pub turns: Mutex<T>,
+pub struct Shared<D: Dispatcher> {
+    dispatcher: Mutex<D>,
     /// Notified after turns ended or killed a script, once for all turns under one lock.
-    pub woken: Condvar,
-    /// For each worker, the bed to sleep in until its script is the oldest.
-    beds: Vec<Condvar>,
+    wakeup: Condvar,
+    /// For each worker, notified when the script that it sleeps with is the oldest.
+    oldest: Vec<Condvar>,
 }
 
-impl<T: Turns> Shared<T> {
-    /// The shared state of so many workers.
-    pub fn new(alloc: Global, turns: T, workers: usize) -> Result<Shared<T>, OutOfMemory> {
-        let mut beds = Vec::with_capacity(alloc, workers)?;
+impl<D: Dispatcher> Shared<D> {
+    /// What so many workers share.
+    pub fn new(alloc: Global, dispatcher: D, workers: usize) -> Result<Shared<D>, OutOfMemory> {
+        let mut oldest = Vec::with_capacity(alloc, workers)?;
         for _ in 0..workers {
-            beds.push(Condvar::new())?;
+            oldest.push(Condvar::new())?;
         }
         Ok(Shared {
-            turns: Mutex::new(turns),
-            woken: Condvar::new(),
-            beds,
+            dispatcher: Mutex::new(dispatcher),
+            wakeup: Condvar::new(),
+            oldest,
         })
     }
 
-    /// The turns, out of the lock.
-    pub fn into_turns(self) -> T {
-        let Shared {
-            turns,
-            woken: _woken,
-            beds: _beds,
-        } = self;
-        turns.into_inner()
+    /// The dispatcher, out of the lock.
+    pub fn into_dispatcher(self) -> D {
+        self.dispatcher.into_inner()
     }
 
-    /// The worker's bed, to sleep in until its script is the oldest.
-    pub fn bed(&self, worker: usize) -> &Condvar {
-        self.beds.get(worker).unwrap_or(&self.woken)
+    /// The dispatcher, under the lock.
+    pub fn lock<R: Wait>(&self, rt: &R) -> MutexGuard<'_, D> {
+        self.dispatcher.lock(rt)
     }
 
-    /// Wakes the workers waiting for a move, and this worker.
+    /// Sleeps until another turn has ended or killed a script.
+    pub fn sleep_until_wakeup<R: Wait>(&self, rt: &R, dispatcher: MutexGuard<'_, D>) {
+        let seen = dispatcher.wakeups();
+        drop(
+            self.wakeup
+                .wait_while(rt, dispatcher, |now| now.wakeups() == seen),
+        );
+    }
+
+    /// Sleeps until the script, or one exchanged for it, is the oldest under way. Returns the
+    /// oldest.
+    pub fn sleep_until_oldest<R: Wait>(
+        &self,
+        rt: &R,
+        dispatcher: MutexGuard<'_, D>,
+        worker: usize,
+        script: usize,
+    ) -> Option<usize> {
+        let mut dispatcher = dispatcher;
+        dispatcher.sleep(worker, script);
+        let mut dispatcher = self
+            .oldest(worker)
+            .wait_while(rt, dispatcher, |now| !now.may_wake(worker));
+        dispatcher.wake(worker)
+    }
+
+    /// Wakes the workers that sleep until a wakeup, and this worker.
     pub fn wake(&self, worker: Option<usize>) {
-        self.woken.notify_all();
+        self.wakeup.notify_all();
         if let Some(worker) = worker {
-            self.bed(worker).notify_all();
+            self.oldest(worker).notify_all();
         }
+    }
+
+    /// What the worker sleeps on until its script is the oldest.
+    fn oldest(&self, worker: usize) -> &Condvar {
+        self.oldest.get(worker).unwrap_or(&self.wakeup)
     }
 }

@@ -11,19 +11,13 @@ pub struct Sleepers {
 impl Sleepers {
     /// So many workers, all awake.
     pub fn new(alloc: Global, workers: usize) -> Result<Sleepers, OutOfMemory> {
-        let mut scripts = Vec::with_capacity(alloc, workers)?;
-        for _ in 0..workers {
-            scripts.push(None)?;
-        }
+        let scripts = vec![in alloc; None; workers]?;
         Ok(Sleepers { scripts })
     }
 
     /// The script of a sleeping worker.
     pub fn script(&self, worker: usize) -> Option<usize> {
-        match self.scripts.get(worker) {
-            Some(script) => *script,
-            None => None,
-        }
+        *self.scripts.get(worker)?
     }
 
     /// Notes the worker as asleep with this script, or as awake.

@@ -1,9 +1,10 @@
 //! The threads of a run.
+use crate::dispatcher::Dispatcher;
 use crate::fault::CrewFault;
 use crate::gate::Gate;
 use crate::shared::Shared;
-use crate::viewer_thread::Watch;
-use crate::work::{Turns, take_first, work, work_from};
+use crate::watcher::Watch;
+use crate::worker::Worker;
 use std::alloc::Global;
 use std::sync::Wait;
 use std::sync::atomic::{AtomicBool, Ordering};
@@ -13,10 +14,10 @@ use std::thread::{JoinHandle, Scope, Threads};
 /// Runs so many workers to their ends, and the watchers beside them; gives the watchers back.
 ///
 /// Joins all threads, even if one couldn't be made.
-pub fn run_threads<R: Threads + Wait + Sync, T: Turns + Send, G: Gate + Sync, W: Watch + Send>(
+pub fn run_threads<R: Threads + Wait + Sync, D: Dispatcher + Send, G: Gate + Sync, W: Watch + Send>(
     rt: &R,
     alloc: Global,
-    shared: &Shared<T>,
+    shared: &Shared<D>,
     gate: &G,
     workers: usize,
     watchers: Vec<W>,
@@ -45,19 +46,20 @@ pub fn run_threads<R: Threads + Wait + Sync, T: Turns + Send, G: Gate + Sync, W:
 ///
 /// The first worker begins before the others come: it has read the city, so the data is at hand
 /// here.
-fn run_workers<R: Threads + Wait + Sync, T: Turns + Send, G: Gate + Sync>(
+fn run_workers<R: Threads + Wait + Sync, D: Dispatcher + Send, G: Gate + Sync>(
     rt: &R,
-    shared: &Shared<T>,
+    shared: &Shared<D>,
     gate: &G,
     workers: usize,
 ) -> bool {
-    let first = take_first(rt, shared, gate.is_open());
+    let first = Worker::new(rt, shared, gate, 0).begin();
     thread::scope(thread::scope_env(), rt, move |scope| {
         let mut made = true;
-        for worker in 1..workers {
-            made &= scope.spawn(move || work(rt, shared, gate, worker)).is_ok();
+        for number in 1..workers {
+            let started = scope.spawn(move || Worker::new(rt, shared, gate, number).work());
+            made &= started.is_ok();
         }
-        work_from(rt, shared, gate, 0, first);
+        Worker::new(rt, shared, gate, 0).work_from(first);
         made
     })
 }

@@ -1,11 +1,11 @@
 use Rattle.city_crew.proofs.Prelude.{sendable}
 use Rattle.city_crew.proofs.CrewResults.{is_run}
-use Rattle.city_crew.proofs.Crossing.{state_sends, watcher_sends}
+use Rattle.city_crew.proofs.Crossing.{crew_desk_sends, watcher_sends}
 use Rattle.city_crew.proofs.run.run.Goals as goal
 
-pub run_threads-requires-send-T : goal.run_threads-requires-send-T
-run_threads-requires-send-T g c κs within = let y = c.type_bounds.sync-R in
-    search (y, state_sends, sendable) depth 60 fits 20000
+pub run_threads-requires-send-D : goal.run_threads-requires-send-D
+run_threads-requires-send-D g c κs within = let y = c.type_bounds.sync-R in
+    search (y, crew_desk_sends, sendable) depth 60 fits 20000
 
 pub run_threads-requires-send-W : goal.run_threads-requires-send-W
 run_threads-requires-send-W g c κs within = search (watcher_sends, sendable) depth 60 fits 20000

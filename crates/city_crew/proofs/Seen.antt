@@ -1,4 +1,4 @@
--- Viewers of a run see the city after some prefix of its ends.
+-- What viewers of a run see: the city after some prefix of its ends.
 use Rattle.city_crew.proofs.Prelude.{◌≡◌, ◌≤◌, ◌∙◌, ℕ, List, [], ◌∷◌, Bool, true, false, All, length, take, refl, ap}
 use Rattle.city_crew.proofs.Prelude.{sym, subst, arith, length-append, End, CityMap, Change, after_changes, IsPrefix}
 use Rattle.city_crew.proofs.Prelude.{Rises, last_of}
@@ -6,25 +6,14 @@ use Rattle.std.proofs.Common.{suc, zero, cond, ◌+◌}
 use Rattle.std.specs.Global.{Vec}
 use Rattle.std.specs.List.{slice_index_or}
 use Rattle.std.proofs.Math.Seq.{take-append_seam}
-use Rattle.std.proofs.lemmas.List.Elements.{All-nil, All-cons, All-weaker}
+use Rattle.std.proofs.lemmas.List.Elements.{All-weaker}
 use Rattle.std.proofs.lemmas.List.Sums.{sum_by-cons}
 use Rattle.city_model.specs.Runs.{Scripted, model_after}
 use Rattle.city_model.specs.declared.end.Outcome.{Outcome}
 use Rattle.city_model.specs.SerialEnds.{commits_in, is_commit}
 use Rattle.city_scheduler.specs.Serial.{AreChangesOf}
-use Rattle.city_crew.specs.Rising.{RisesOver, last_over}
 use Rattle.city_crew.specs.Seen.{AreSeen, OfFirstEnds}
-
-up_to_last : (x : ℕ) (xs : List ℕ) → RisesOver x xs → (x ≤ last_over x xs) × All (λ k. k ≤ last_over x xs) xs
-up_to_last x [] r = (omega arith, All-nil (λ k. k ≤ x))
-up_to_last x (y ∷ ys) r =
-    let more = up_to_last y ys r.1 in
-    (omega (arith, r.0, more.0), All-cons (λ k. k ≤ last_over y ys) y ys more.0 more.1)
-
-no_more_than_last : (xs : List ℕ) → Rises xs → All (λ k. k ≤ last_of xs) xs
-no_more_than_last [] r = All-nil (λ k. k ≤ 0)
-no_more_than_last (x ∷ xs) r =
-    let all = up_to_last x xs r in All-cons (λ k. k ≤ last_over x xs) x xs all.0 all.1
+use Rattle.city_crew.proofs.Rising.{no_more_than_last}
 
 commits_cons : (e : End) (es : List End) (b : Bool) → is_commit e.outcome ≡ b
     → commits_in (e ∷ es) ≡ cond b 1 0 + commits_in es

@@ -1,5 +1,5 @@
 use Rattle.city_crew.proofs.Prelude.{◌≡◌, ◌<◌, length, All, Rises, last_of}
-use Rattle.city_crew.proofs.last_looks.last_looks.Given as goal
+use Rattle.city_crew.proofs.watcher.last_looks.Given as goal
 
 abbrev pub invariant-loop-watcher : goal.invariant-loop-watcher
 invariant-loop-watcher l =

@@ -1,7 +1,7 @@
-//! A run's opening city and scripts as a type. So the state under the lock can name its run.
+//! A run's opening city and scripts as a type. So the desk under the lock can name its run.
 use std::marker::Brand;
 
-/// The opening city and scripts of a run. Each run picks them; they exist for the proofs only.
+/// The opening city and scripts of a run. Each run picks them; they have no bytes.
 pub trait Origin {
     ghost use Rattle.std.specs.Prelude.{List};
     ghost use Rattle.city_model.specs.CityMap.{CityValue};

@@ -1,6 +1,6 @@
 use Rattle.city_crew.proofs.Prelude.{◌≡◌, ◌≤◌, take}
 use Rattle.city_model.specs.SerialEnds.{commits_in}
-use Rattle.city_crew.proofs.last_looks.count_commits.Given as goal
+use Rattle.city_crew.proofs.watcher.count_commits.Given as goal
 
 abbrev pub invariant-loop-end : goal.invariant-loop-end
 invariant-loop-end l = record {
