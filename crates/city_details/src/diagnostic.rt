@@ -17,7 +17,7 @@ pub struct Diagnostic {
 
 impl Diagnostic {
     /// An empty diagnostic.
-    pub(crate) fn new(alloc: Global) -> Diagnostic {
+    pub fn new(alloc: Global) -> Diagnostic {
         Diagnostic {
             place: String::new(alloc),
             message: String::new(alloc),
@@ -34,10 +34,15 @@ impl Diagnostic {
         Ok(&mut self.place)
     }
 
-    /// Adds a text to the message, and sets the cure.
+    /// Sets the message and the cure.
     pub(crate) fn tell(&mut self, message: &str, cure: &'static str) -> Result<(), OutOfMemory> {
-        self.message.push_str(message)?;
-        self.cure = cure;
+        self.told(cure).push_str(message)?;
         Ok(())
+    }
+
+    /// Sets the cure, and returns the message, ready for its words.
+    pub(crate) fn told(&mut self, cure: &'static str) -> &mut String {
+        self.cure = cure;
+        &mut self.message
     }
 }

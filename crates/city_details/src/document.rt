@@ -14,15 +14,34 @@ use crate::quoted::Quoted;
 use crate::shape::ring::tell_bad_ring;
 use crate::shape::shell::tell_open_shell;
 use crate::shape::{tell_bad_geometry, tell_bad_vertex, tell_unknown_type, tell_unsupported};
-use city_doc::ReadFault;
 use city_model::OutOfMemory;
 use city_model::object::Point;
-use city_model::text::Id;
 use city_tokens::triple_of;
 use serde_json::Value;
 use std::alloc::Global;
 use std::collections::BTreeMap;
 use std::fmt::Write;
+
+/// A fault of a document's tree.
+#[derive(Clone, Copy)]
+pub enum DocumentFault<'f> {
+    /// The member of this name is wrong.
+    WrongMember(&'f str),
+    /// The object of this id is wrong.
+    WrongObject(&'f str, ObjectFault),
+}
+
+/// What is wrong with an object.
+#[derive(Clone, Copy)]
+pub enum ObjectFault {
+    UnknownType,
+    Unsupported,
+    BadGeometry,
+    BadVertex,
+    BadRing,
+    Relations,
+    OpenShell,
+}
 
 /// A document's tree, with its points and relatives for look-ups.
 #[derive(Drop)]
@@ -39,7 +58,7 @@ impl<'t> Document<'t> {
     pub fn new(
         alloc: Global,
         tree: &'t Value,
-        faults: &[ReadFault],
+        faults: &[DocumentFault<'_>],
     ) -> Result<Document<'t>, OutOfMemory> {
         let points = if faults.iter().any(needs_points) {
             points_in(alloc, tree)?
@@ -58,24 +77,30 @@ impl<'t> Document<'t> {
         })
     }
 
-    /// Returns the diagnostic of a fault of this document, from NotCityJson on.
-    pub fn diagnostic(&self, alloc: Global, fault: &ReadFault) -> Result<Diagnostic, OutOfMemory> {
+    /// Returns the diagnostic of a fault of this document.
+    pub fn diagnostic(
+        &self,
+        alloc: Global,
+        fault: DocumentFault<'_>,
+    ) -> Result<Diagnostic, OutOfMemory> {
         let mut diagnostic = Diagnostic::new(alloc);
-        if let ReadFault::NotCityJson(member) = fault {
-            tell_wrong_member(alloc, self.tree, member.as_str(), &mut diagnostic)?;
-        }
-        if let Some(id) = id_of(fault) {
-            let shown = Quoted(id.as_str());
-            write!(diagnostic.narrowed()?, "object {shown}")?;
-            if let Some(object) = self.object(id) {
-                self.tell_of_object(alloc, id, object, fault, &mut diagnostic)?;
+        match fault {
+            DocumentFault::WrongMember(member) => {
+                tell_wrong_member(alloc, self.tree, member, &mut diagnostic)?;
+            }
+            DocumentFault::WrongObject(id, fault) => {
+                let shown = Quoted(id);
+                write!(diagnostic.narrowed()?, "object {shown}")?;
+                if let Some(object) = self.object(id) {
+                    self.tell_of_object(alloc, id, object, fault, &mut diagnostic)?;
+                }
             }
         }
         Ok(diagnostic)
     }
 
-    fn object(&self, id: &Id) -> Option<&Value> {
-        self.tree.get("CityObjects")?.get(id.as_str())
+    fn object(&self, id: &str) -> Option<&Value> {
+        self.tree.get("CityObjects")?.get(id)
     }
 
     /// The number of vertices.
@@ -89,50 +114,38 @@ impl<'t> Document<'t> {
     fn tell_of_object(
         &self,
         alloc: Global,
-        id: &Id,
+        id: &str,
         object: &Value,
-        fault: &ReadFault,
+        fault: ObjectFault,
         diagnostic: &mut Diagnostic,
     ) -> Result<(), OutOfMemory> {
         let points = self.points.as_slice();
         match fault {
-            ReadFault::UnknownType(_) => tell_unknown_type(object, diagnostic),
-            ReadFault::Unsupported(_, _) => tell_unsupported(object, diagnostic),
-            ReadFault::BadGeometry(_) => tell_bad_geometry(object, diagnostic),
-            ReadFault::BadVertex(_) => {
+            ObjectFault::UnknownType => tell_unknown_type(object, diagnostic),
+            ObjectFault::Unsupported => tell_unsupported(object, diagnostic),
+            ObjectFault::BadGeometry => tell_bad_geometry(object, diagnostic),
+            ObjectFault::BadVertex => {
                 tell_bad_vertex(alloc, object, self.vertex_count(), diagnostic)
             }
-            ReadFault::BadRing(_) => tell_bad_ring(alloc, object, points, diagnostic),
-            ReadFault::Relations(_) => {
-                tell_relations(alloc, &self.relatives, id.as_str(), object, diagnostic)
+            ObjectFault::BadRing => tell_bad_ring(alloc, object, points, diagnostic),
+            ObjectFault::Relations => {
+                tell_relations(alloc, &self.relatives, id, object, diagnostic)
             }
-            ReadFault::OpenShell(_) => tell_open_shell(alloc, object, points, diagnostic),
-            _ => Ok(()),
+            ObjectFault::OpenShell => tell_open_shell(alloc, object, points, diagnostic),
         }
     }
 }
 
 /// Whether a diagnostic shows points of rings.
-fn needs_points(fault: &ReadFault) -> bool {
-    matches!(fault, ReadFault::BadRing(_) | ReadFault::OpenShell(_))
+fn needs_points(fault: &DocumentFault<'_>) -> bool {
+    matches!(
+        fault,
+        DocumentFault::WrongObject(_, ObjectFault::BadRing | ObjectFault::OpenShell)
+    )
 }
 
-fn needs_relatives(fault: &ReadFault) -> bool {
-    matches!(fault, ReadFault::Relations(_))
-}
-
-/// The id of a fault's object.
-fn id_of(fault: &ReadFault) -> Option<&Id> {
-    match fault {
-        ReadFault::UnknownType(id)
-        | ReadFault::Unsupported(id, _)
-        | ReadFault::BadGeometry(id)
-        | ReadFault::BadVertex(id)
-        | ReadFault::BadRing(id)
-        | ReadFault::Relations(id)
-        | ReadFault::OpenShell(id) => Some(id),
-        _ => None,
-    }
+fn needs_relatives(fault: &DocumentFault<'_>) -> bool {
+    matches!(fault, DocumentFault::WrongObject(_, ObjectFault::Relations))
 }
 
 /// The points of a document's vertices.

@@ -18,7 +18,7 @@ mod tree;
 
 pub use details::Details;
 pub use diagnostic::Diagnostic;
-pub use document::Document;
-pub use script::script_diagnostic;
+pub use document::{Document, DocumentFault, ObjectFault};
+pub use script::{ScriptsFault, script_diagnostic};
 pub use text::{TextFault, text_diagnostic};
 pub use tree::tree_of;

@@ -22,29 +22,40 @@ use crate::script::item::tell_bad_script;
 use crate::script::limits::tell_too_many;
 use crate::script::place::{command_at, narrow_to_command, narrow_to_script};
 use crate::shape::tell_bad_vertex;
-use city_doc::ScriptFault;
 use city_model::OutOfMemory;
 use serde_json::Value;
 use std::alloc::Global;
 
-/// Returns the diagnostic of a fault of this tree of scripts, from NotScripts on.
+/// A fault of a tree of scripts.
+#[derive(Clone, Copy)]
+pub enum ScriptsFault {
+    NotScripts,
+    /// This item isn't a script.
+    BadScript(usize),
+    TooMany,
+    /// In this script, this command is malformed.
+    BadCommand(usize, usize),
+    /// In this script, this command names a missing vertex.
+    BadVertex(usize, usize),
+}
+
+/// Returns the diagnostic of a fault of this tree of scripts.
 pub fn script_diagnostic(
     alloc: Global,
     tree: &Value,
-    fault: &ScriptFault,
+    fault: ScriptsFault,
 ) -> Result<Diagnostic, OutOfMemory> {
     let mut diagnostic = Diagnostic::new(alloc);
     match fault {
-        ScriptFault::BadScript(script) => bad_script(tree, *script, &mut diagnostic)?,
-        ScriptFault::TooMany => tell_too_many(tree, &mut diagnostic)?,
-        ScriptFault::BadCommand(script, command) => {
-            bad_command(alloc, tree, *script, *command, &mut diagnostic)?;
+        ScriptsFault::NotScripts => not_scripts(tree, &mut diagnostic)?,
+        ScriptsFault::BadScript(script) => bad_script(tree, script, &mut diagnostic)?,
+        ScriptsFault::TooMany => tell_too_many(tree, &mut diagnostic)?,
+        ScriptsFault::BadCommand(script, command) => {
+            bad_command(alloc, tree, script, command, &mut diagnostic)?;
         }
-        ScriptFault::BadVertex(script, command) => {
-            bad_vertex(alloc, tree, *script, *command, &mut diagnostic)?;
+        ScriptsFault::BadVertex(script, command) => {
+            bad_vertex(alloc, tree, script, command, &mut diagnostic)?;
         }
-        // (the faults before NotScripts are faults of the text, and none of its tree)
-        _ => not_scripts(tree, &mut diagnostic)?,
     }
     Ok(diagnostic)
 }

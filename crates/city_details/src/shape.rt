@@ -22,16 +22,15 @@ use serde_json::Value;
 use std::fmt::Write;
 use walk::geometries_of;
 
+const USE_TYPE: &str = "Use a type of CityJSON 2.0, or GenericCityObject.";
+
 /// Says whether an object's type is missing, no text, or unknown.
 pub fn tell_unknown_type(object: &Value, diagnostic: &mut Diagnostic) -> Result<(), OutOfMemory> {
-    diagnostic.cure = "Use a type of CityJSON 2.0, or GenericCityObject.";
     let Some(kind) = object.get("type") else {
-        write!(diagnostic.message, "It has no type.")?;
-        return Ok(());
+        return diagnostic.tell("It has no type.", USE_TYPE);
     };
     let Some(kind) = kind.as_str() else {
-        write!(diagnostic.message, "Its type isn't a text.")?;
-        return Ok(());
+        return diagnostic.tell("Its type isn't a text.", USE_TYPE);
     };
     diagnostic.details.text("given", kind)?;
     let why = if kind == "CityObjectGroup" || kind.starts_with("+") {
@@ -40,7 +39,7 @@ pub fn tell_unknown_type(object: &Value, diagnostic: &mut Diagnostic) -> Result<
         "no type of CityJSON 2.0"
     };
     let kind = Quoted(kind);
-    write!(diagnostic.message, "Its type {kind} is {why}.")?;
+    write!(diagnostic.told(USE_TYPE), "Its type {kind} is {why}.")?;
     Ok(())
 }
 
@@ -68,10 +67,9 @@ fn tell_unsupported_geometry(
     diagnostic.details.number("geometry", number)?;
     diagnostic.details.text("name", kind)?;
     write!(
-        diagnostic.message,
+        diagnostic.told("Drop it, or triangulate it into a MultiSurface."),
         "Geometry {number} is a {kind}, which is never read."
     )?;
-    diagnostic.cure = "Drop it, or triangulate it into a MultiSurface.";
     Ok(())
 }
 

@@ -150,9 +150,8 @@ fn tell_numeral(value: &str, diagnostic: &mut Diagnostic) -> Result<(), OutOfMem
         return diagnostic.tell(NO_WHOLE, DECIMALS);
     }
     write!(
-        diagnostic.message,
+        diagnostic.told(DECIMALS),
         "The number {value} isn't a whole number of 64 bits."
     )?;
-    diagnostic.cure = DECIMALS;
     Ok(())
 }

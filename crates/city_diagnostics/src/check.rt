@@ -7,11 +7,13 @@ ghost use Rattle.city_doc.specs.document.Faults.{DocumentFault};
 ghost use Rattle.city_diagnostics.specs.Lines.{AreLinesOf, FirstLineIs, IsLineOf};
 ghost use Rattle.city_diagnostics.specs.ModelLines.{Tells};
 
-mod scripts;
+pub mod scripts;
 
 use crate::line::document_line;
-use city_details::{Document, TextFault, text_diagnostic, tree_of};
-use city_doc::{ReadFault, ScriptFault, faults_of};
+use city_details::{
+    Diagnostic, Document, DocumentFault, ObjectFault, TextFault, text_diagnostic, tree_of,
+};
+use city_doc::{ReadFault, faults_of};
 use city_model::OutOfMemory;
 pub use scripts::check_scripts;
 use serde_json::Value;
@@ -53,7 +55,8 @@ fn document_lines(
         return Ok(lines);
     };
     let tree = tree_for(alloc, text, text_fault_of(first))?;
-    let document = Document::new(alloc, &tree, faults)?;
+    let told = document_faults(alloc, faults)?;
+    let document = Document::new(alloc, &tree, told.as_slice())?;
     for fault in faults {
         let line = line_of(alloc, text, is_given, &document, fault)?;
         lines.extend_from_slice(line.as_bytes())?;
@@ -71,11 +74,57 @@ fn line_of(
 ) -> Result<String, OutOfMemory>
     ensures { IfOk result (λ line. IsLineOf (Tells fault.now) (string_bytes line)) }
 {
-    let diagnostic = match text_fault_of(fault) {
-        Some(text_fault) => text_diagnostic(alloc, text, is_given, text_fault)?,
-        None => document.diagnostic(alloc, fault)?,
-    };
+    let diagnostic = document_diagnostic(alloc, text, is_given, document, fault)?;
     document_line(alloc, fault, diagnostic)
+}
+
+/// What is told of a fault of the document, or of its text.
+pub fn document_diagnostic(
+    alloc: Global,
+    text: &[u8],
+    is_given: bool,
+    document: &Document<'_>,
+    fault: &ReadFault,
+) -> Result<Diagnostic, OutOfMemory> {
+    if let Some(fault) = text_fault_of(fault) {
+        return text_diagnostic(alloc, text, is_given, fault);
+    }
+    match document_fault_of(fault) {
+        None => Ok(Diagnostic::new(alloc)),
+        Some(fault) => document.diagnostic(alloc, fault),
+    }
+}
+
+/// Those of these faults that are faults of a document's tree.
+pub fn document_faults<'f>(
+    alloc: Global,
+    faults: &'f [ReadFault],
+) -> Result<Vec<DocumentFault<'f>>, OutOfMemory> {
+    let mut found = Vec::new(alloc);
+    for fault in faults {
+        if let Some(fault) = document_fault_of(fault) {
+            found.push(fault)?;
+        }
+    }
+    Ok(found)
+}
+
+/// A document's fault as a `DocumentFault`, if it is one.
+fn document_fault_of(fault: &ReadFault) -> Option<DocumentFault<'_>> {
+    let (id, wrong) = match fault {
+        ReadFault::OutOfMemory | ReadFault::TooLong | ReadFault::NotJson | ReadFault::NotWhole => {
+            return None;
+        }
+        ReadFault::NotCityJson(member) => return Some(DocumentFault::WrongMember(member.as_str())),
+        ReadFault::UnknownType(id) => (id, ObjectFault::UnknownType),
+        ReadFault::Unsupported(id, _) => (id, ObjectFault::Unsupported),
+        ReadFault::BadGeometry(id) => (id, ObjectFault::BadGeometry),
+        ReadFault::BadVertex(id) => (id, ObjectFault::BadVertex),
+        ReadFault::BadRing(id) => (id, ObjectFault::BadRing),
+        ReadFault::Relations(id) => (id, ObjectFault::Relations),
+        ReadFault::OpenShell(id) => (id, ObjectFault::OpenShell),
+    };
+    Some(DocumentFault::WrongObject(id.as_str(), wrong))
 }
 
 /// The tree of a text, to look up faults in; `null` for a fault of the text itself. Such a fault
@@ -97,16 +146,6 @@ pub fn text_fault_of(fault: &ReadFault) -> Option<TextFault> {
         ReadFault::TooLong => Some(TextFault::TooLong),
         ReadFault::NotJson => Some(TextFault::NotJson),
         ReadFault::NotWhole => Some(TextFault::NotWhole),
-        _ => None,
-    }
-}
-
-/// A fault of scripts as a `TextFault`, if it is one.
-pub fn script_text_fault_of(fault: &ScriptFault) -> Option<TextFault> {
-    match fault {
-        ScriptFault::TooLong => Some(TextFault::TooLong),
-        ScriptFault::NotJson => Some(TextFault::NotJson),
-        ScriptFault::NotWhole => Some(TextFault::NotWhole),
         _ => None,
     }
 }

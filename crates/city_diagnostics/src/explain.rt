@@ -1,9 +1,10 @@
 //! Explains one fault to a person.
 mod shown;
 
-use crate::check::{script_text_fault_of, text_fault_of, tree_for};
+use crate::check::scripts::{script_text_fault_of, scripts_diagnostic};
+use crate::check::{document_diagnostic, document_faults, text_fault_of, tree_for};
 use crate::explain::shown::add_shown;
-use city_details::{Diagnostic, Document, script_diagnostic, text_diagnostic};
+use city_details::{Diagnostic, Document};
 use city_doc::{ReadFault, ScriptFault};
 use city_model::OutOfMemory;
 use std::alloc::Global;
@@ -19,15 +20,10 @@ pub fn explain_document(
     is_given: bool,
     fault: &ReadFault,
 ) -> Result<String, OutOfMemory> {
-    let text_fault = text_fault_of(fault);
-    let tree = tree_for(alloc, text, text_fault)?;
-    let diagnostic = match text_fault {
-        Some(fault) => text_diagnostic(alloc, text, is_given, fault)?,
-        None => {
-            let document = Document::new(alloc, &tree, slice::from_ref(fault))?;
-            document.diagnostic(alloc, fault)?
-        }
-    };
+    let tree = tree_for(alloc, text, text_fault_of(fault))?;
+    let told = document_faults(alloc, slice::from_ref(fault))?;
+    let document = Document::new(alloc, &tree, told.as_slice())?;
+    let diagnostic = document_diagnostic(alloc, text, is_given, &document, fault)?;
     explained(alloc, &diagnostic)
 }
 
@@ -38,12 +34,8 @@ pub fn explain_scripts(
     is_given: bool,
     fault: &ScriptFault,
 ) -> Result<String, OutOfMemory> {
-    let text_fault = script_text_fault_of(fault);
-    let tree = tree_for(alloc, text, text_fault)?;
-    let diagnostic = match text_fault {
-        Some(fault) => text_diagnostic(alloc, text, is_given, fault)?,
-        None => script_diagnostic(alloc, &tree, fault)?,
-    };
+    let tree = tree_for(alloc, text, script_text_fault_of(fault))?;
+    let diagnostic = scripts_diagnostic(alloc, text, is_given, &tree, fault)?;
     explained(alloc, &diagnostic)
 }
 

@@ -150,8 +150,10 @@ pub fn tell_relations(
     if let Some(other) = broken.other() {
         diagnostic.details.text("other", other)?;
     }
-    write!(diagnostic.message, "{broken}")?;
-    diagnostic.cure = "Correct both sides of the relation.";
+    write!(
+        diagnostic.told("Correct both sides of the relation."),
+        "{broken}"
+    )?;
     Ok(())
 }
 

@@ -8,6 +8,8 @@ use serde_json::{Map, Value};
 use std::alloc::Global;
 use std::fmt::Write;
 
+const UPGRADE: &str = "Upgrade to CityJSON 2.0, and drop extensions.";
+
 /// Says what is wrong with the member of this name, the first wrong one.
 pub fn tell_wrong_member(
     alloc: Global,
@@ -22,9 +24,8 @@ pub fn tell_wrong_member(
             "Give MODEL before SCRIPTS.",
         );
     }
-    diagnostic.cure = "Upgrade to CityJSON 2.0, and drop extensions.";
     let Some(member) = tree.get(name) else {
-        write!(diagnostic.message, "The document has no {name}.")?;
+        write!(diagnostic.told(UPGRADE), "The document has no {name}.")?;
         return tell_path(alloc, &[Step::Member(name)], diagnostic);
     };
     if let Some(given) = member.as_str() {
@@ -35,9 +36,9 @@ pub fn tell_wrong_member(
         "CityObjects" => tell_objects(alloc, member, diagnostic),
         "vertices" => tell_vertices(alloc, member, diagnostic),
         "extensions" => {
-            write!(
-                diagnostic.message,
-                "The document has extensions, which are never read."
+            diagnostic.tell(
+                "The document has extensions, which are never read.",
+                UPGRADE,
             )?;
             tell_path(alloc, &[Step::Member(name)], diagnostic)
         }
@@ -67,7 +68,7 @@ fn tell_wrong_text(
 ) -> Result<(), OutOfMemory> {
     let Some(given) = given else {
         write!(
-            diagnostic.message,
+            diagnostic.told(UPGRADE),
             "The {name} of the document isn't a text."
         )?;
         return Ok(());
@@ -75,7 +76,7 @@ fn tell_wrong_text(
     let given = Quoted(given);
     let wanted = if name == "type" { "CityJSON" } else { "2.0" };
     write!(
-        diagnostic.message,
+        diagnostic.told(UPGRADE),
         "The {name} of the document is {given}, and not \"{wanted}\"."
     )?;
     Ok(())
@@ -88,7 +89,7 @@ fn tell_transform(
 ) -> Result<(), OutOfMemory> {
     let top = Step::Member("transform");
     if !transform.is_object() {
-        write!(diagnostic.message, "The transform isn't an object.")?;
+        diagnostic.tell("The transform isn't an object.", UPGRADE)?;
         return tell_path(alloc, &[top], diagnostic);
     }
     let name = if triple_at(transform, "scale").is_none() {
@@ -97,7 +98,7 @@ fn tell_transform(
         "translate"
     };
     write!(
-        diagnostic.message,
+        diagnostic.told(UPGRADE),
         "The {name} of the transform isn't an array of three numbers."
     )?;
     tell_path(alloc, &[top, Step::Member(name)], diagnostic)
@@ -110,7 +111,7 @@ fn tell_objects(
 ) -> Result<(), OutOfMemory> {
     let top = Step::Member("CityObjects");
     let Some(members) = objects.as_object() else {
-        write!(diagnostic.message, "CityObjects isn't an object.")?;
+        diagnostic.tell("CityObjects isn't an object.", UPGRADE)?;
         return tell_path(alloc, &[top], diagnostic);
     };
     match first_other(members) {
@@ -118,7 +119,7 @@ fn tell_objects(
         Some(id) => {
             let shown = Quoted(id);
             write!(
-                diagnostic.message,
+                diagnostic.told(UPGRADE),
                 "The city object {shown} isn't an object."
             )?;
             tell_path(alloc, &[top, Step::Member(id)], diagnostic)
@@ -143,14 +144,14 @@ fn tell_vertices(
 ) -> Result<(), OutOfMemory> {
     let top = Step::Member("vertices");
     let Some(items) = vertices.as_array() else {
-        write!(diagnostic.message, "The vertices aren't an array.")?;
+        diagnostic.tell("The vertices aren't an array.", UPGRADE)?;
         return tell_path(alloc, &[top], diagnostic);
     };
     match items.iter().position(|item| triple_of(item).is_none()) {
         None => Ok(()),
         Some(number) => {
             write!(
-                diagnostic.message,
+                diagnostic.told(UPGRADE),
                 "Vertex {number} isn't an array of three whole numbers."
             )?;
             tell_path(alloc, &[top, Step::Item(number)], diagnostic)

@@ -4,6 +4,8 @@ use city_model::OutOfMemory;
 use serde_json::Value;
 use std::fmt::Write;
 
+const WRITE_NAMES: &str = "Write the names of the attributes as texts, in an array.";
+
 /// Says that attributes are no object of values.
 pub fn tell_no_values(diagnostic: &mut Diagnostic) -> Result<(), OutOfMemory> {
     diagnostic.details.text("rule", "attributes")?;
@@ -16,19 +18,18 @@ pub fn tell_no_values(diagnostic: &mut Diagnostic) -> Result<(), OutOfMemory> {
 /// Says that the attributes of an unset aren't an array, or tells the first item other than a text.
 pub fn tell_no_names(attributes: &Value, diagnostic: &mut Diagnostic) -> Result<(), OutOfMemory> {
     diagnostic.details.text("rule", "attributes")?;
-    diagnostic.cure = "Write the names of the attributes as texts, in an array.";
     match attributes.as_array() {
-        None => write!(diagnostic.message, "Its attributes aren't an array.")?,
+        None => diagnostic.tell("Its attributes aren't an array.", WRITE_NAMES),
         Some(items) => {
             let item = first_other(items.as_slice());
             diagnostic.details.number("item", item)?;
             write!(
-                diagnostic.message,
+                diagnostic.told(WRITE_NAMES),
                 "Item {item} of its attributes isn't a text."
             )?;
+            Ok(())
         }
     }
-    Ok(())
 }
 
 /// The first item other than a text.

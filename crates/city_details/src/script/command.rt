@@ -107,8 +107,10 @@ fn tell_no_command(message: &str, diagnostic: &mut Diagnostic) -> Result<(), Out
 fn tell_missing(member: &str, diagnostic: &mut Diagnostic) -> Result<(), OutOfMemory> {
     diagnostic.details.text("rule", "missing")?;
     diagnostic.details.text("member", member)?;
-    write!(diagnostic.message, "Its member \"{member}\" is missing.")?;
-    diagnostic.cure = "Give the command all its members.";
+    write!(
+        diagnostic.told("Give the command all its members."),
+        "Its member \"{member}\" is missing."
+    )?;
     Ok(())
 }
 
@@ -121,18 +123,21 @@ fn tell_other_member(
     diagnostic.details.text("member", member)?;
     let member = Quoted(member);
     write!(
-        diagnostic.message,
+        diagnostic.told(
+            "Drop the member, or correct its name; each command is an object of its own."
+        ),
         "The command \"{command}\" doesn't have the member {member}."
     )?;
-    diagnostic.cure = "Drop the member, or correct its name; each command is an object of its own.";
     Ok(())
 }
 
 fn tell_no_text(member: &str, diagnostic: &mut Diagnostic) -> Result<(), OutOfMemory> {
     diagnostic.details.text("rule", "no text")?;
     diagnostic.details.text("member", member)?;
-    write!(diagnostic.message, "Its member \"{member}\" isn't a text.")?;
-    diagnostic.cure = "Write ids and names as texts, in quotes.";
+    write!(
+        diagnostic.told("Write ids and names as texts, in quotes."),
+        "Its member \"{member}\" isn't a text."
+    )?;
     Ok(())
 }
 
@@ -142,17 +147,27 @@ fn tell_word(alloc: Global, word: &str, diagnostic: &mut Diagnostic) -> Result<(
     let given = Quoted(word);
     if form_named(word).is_some() {
         write!(
-            diagnostic.message,
+            diagnostic.told("Write the command as an object with its members."),
             "The command {given} is an object, and no text."
         )?;
-        diagnostic.cure = "Write the command as an object with its members.";
         return Ok(());
     }
-    write!(diagnostic.message, "No command is named {given}")?;
-    if let Some(name) = nearest {
-        write!(diagnostic.message, "; the nearest is \"{name}\"")?;
+    match nearest {
+        None => {
+            write!(
+                diagnostic.told(CORRECT_NAME),
+                "No command is named {given}."
+            )?;
+            Ok(())
+        }
+        Some(name) => {
+            write!(
+                diagnostic.told(CORRECT_NAME),
+                "No command is named {given}; the nearest is \"{name}\"."
+            )?;
+            Ok(())
+        }
     }
-    diagnostic.tell(".", CORRECT_NAME)
 }
 
 /// Says that no member of an object names a command, and tells the one nearest to the first member.
@@ -165,21 +180,27 @@ fn tell_first_member(
     let given = Quoted(name);
     if is_word(name) {
         write!(
-            diagnostic.message,
+            diagnostic.told("Write the word alone, as a text."),
             "The command {given} is a text, and no object."
         )?;
-        diagnostic.cure = "Write the word alone, as a text.";
         return Ok(());
     }
-    diagnostic.tell(
-        "None of its members names a command; the first",
-        CORRECT_NAME,
-    )?;
     match nearest {
-        Some(name) => write!(diagnostic.message, ", {given}, is nearest to \"{name}\".")?,
-        None => write!(diagnostic.message, " is {given}.")?,
+        None => {
+            write!(
+                diagnostic.told(CORRECT_NAME),
+                "None of its members names a command; the first is {given}."
+            )?;
+            Ok(())
+        }
+        Some(name) => {
+            write!(
+                diagnostic.told(CORRECT_NAME),
+                "None of its members names a command; the first, {given}, is nearest to \"{name}\"."
+            )?;
+            Ok(())
+        }
     }
-    Ok(())
 }
 
 /// Adds a word in place of a command's name, and the nearest name. Returns the latter.

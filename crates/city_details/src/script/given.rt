@@ -74,8 +74,10 @@ fn tell_bad_object(
 fn tell_no_object(command: &str, diagnostic: &mut Diagnostic) -> Result<(), OutOfMemory> {
     diagnostic.details.text("rule", "no object")?;
     let done = done(command);
-    write!(diagnostic.message, "What is {done} isn't an object.")?;
-    diagnostic.cure = object_cure(command);
+    write!(
+        diagnostic.told(object_cure(command)),
+        "What is {done} isn't an object."
+    )?;
     Ok(())
 }
 
@@ -111,11 +113,11 @@ fn tell_relation(
     diagnostic.details.text("member", member)?;
     let done = done(command);
     write!(
-        diagnostic.message,
+        diagnostic.told(
+            "Leave parents and children out, and attach the object by a command of its own."
+        ),
         "The object that is {done} has the member \"{member}\"."
     )?;
-    diagnostic.cure =
-        "Leave parents and children out, and attach the object by a command of its own.";
     Ok(())
 }
 

@@ -104,8 +104,7 @@ pub fn tell_bad_script(
         BrokenRule::OtherMember(member) => diagnostic.details.text("member", member)?,
         _ => {}
     }
-    write!(diagnostic.message, "{rule}")?;
-    diagnostic.cure = rule.cure();
+    write!(diagnostic.told(rule.cure()), "{rule}")?;
     Ok(())
 }
 

@@ -43,10 +43,9 @@ fn command_count(item: &Value) -> usize {
 fn tell_scripts(scripts: usize, diagnostic: &mut Diagnostic) -> Result<(), OutOfMemory> {
     diagnostic.details.number("scripts", scripts)?;
     write!(
-        diagnostic.message,
+        diagnostic.told("Split the text, and run its parts one after the other."),
         "There are {scripts} scripts, and a text may have {MAX_SCRIPTS}."
     )?;
-    diagnostic.cure = "Split the text, and run its parts one after the other.";
     Ok(())
 }
 
@@ -58,9 +57,8 @@ fn tell_commands(
     diagnostic.details.number("script", script)?;
     diagnostic.details.number("commands", commands)?;
     write!(
-        diagnostic.message,
+        diagnostic.told("Split the script into several."),
         "It has {commands} commands, and a script may have {MAX_COMMANDS}."
     )?;
-    diagnostic.cure = "Split the script into several.";
     Ok(())
 }

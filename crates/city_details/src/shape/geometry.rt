@@ -3,6 +3,7 @@ use crate::diagnostic::Diagnostic;
 use crate::quoted::Quoted;
 use crate::shape::nesting::Nesting;
 use city_model::OutOfMemory;
+use city_model::shape_type::ShapeType;
 use serde_json::Value;
 use std::fmt::{self, Display, Formatter, Write};
 
@@ -19,7 +20,7 @@ enum Wrong<'v> {
     UnknownType(&'v str),
     NoBoundaries,
     /// The boundaries don't have the nesting of this type.
-    Nested(&'v str, Nesting),
+    Nested(ShapeType),
 }
 
 impl Wrong<'_> {
@@ -29,7 +30,7 @@ impl Wrong<'_> {
             Wrong::NoObject => "geometry",
             Wrong::NoLod | Wrong::LodNoText => "lod",
             Wrong::NoType | Wrong::TypeNoText | Wrong::UnknownType(_) => "type",
-            Wrong::NoBoundaries | Wrong::Nested(_, _) => "boundaries",
+            Wrong::NoBoundaries | Wrong::Nested(_) => "boundaries",
         }
     }
 }
@@ -55,8 +56,8 @@ impl Display for Message<'_> {
                 let kind = Quoted(kind);
                 write!(f, "Geometry {n} is of type {kind}, which isn't read.")
             }
-            Wrong::Nested(kind, nesting) => {
-                let depth = nesting.depth();
+            Wrong::Nested(kind) => {
+                let (kind, depth) = (kind.name(), Nesting::of(kind).depth());
                 write!(
                     f,
                     "The boundaries of geometry {n}, a {kind}, aren't positions in {depth} arrays."
@@ -91,8 +92,7 @@ fn tell(number: usize, wrong: Wrong<'_>, diagnostic: &mut Diagnostic) -> Result<
         diagnostic.details.text("given", kind)?;
     }
     let message = Message(number, wrong);
-    write!(diagnostic.message, "{message}")?;
-    diagnostic.cure = CURE;
+    write!(diagnostic.told(CURE), "{message}")?;
     Ok(())
 }
 
@@ -113,15 +113,15 @@ fn wrong_with_type(geometry: &Value) -> Option<Wrong<'_>> {
     let Some(kind) = geometry.get("type") else {
         return Some(Wrong::NoType);
     };
-    let Some(kind) = kind.as_str() else {
+    let Some(name) = kind.as_str() else {
         return Some(Wrong::TypeNoText);
     };
-    let Some(nesting) = Nesting::of_type(kind) else {
-        return Some(Wrong::UnknownType(kind));
+    let Some(kind) = ShapeType::of_name(name) else {
+        return Some(Wrong::UnknownType(name));
     };
     match geometry.get("boundaries") {
         None => Some(Wrong::NoBoundaries),
-        Some(boundaries) if !nesting.has(boundaries) => Some(Wrong::Nested(kind, nesting)),
+        Some(boundaries) if !Nesting::of(kind).has(boundaries) => Some(Wrong::Nested(kind)),
         Some(_) => None,
     }
 }

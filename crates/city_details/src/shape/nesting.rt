@@ -1,4 +1,5 @@
 //! How the boundaries of a geometry are nested, by its type (CityJSON 2.0, section 3).
+use city_model::shape_type::ShapeType;
 use serde_json::Value;
 
 /// The items of the outermost array of boundaries.
@@ -10,13 +11,12 @@ pub enum Nesting {
 }
 
 impl Nesting {
-    /// Returns the nesting of a type of geometry.
-    pub fn of_type(kind: &str) -> Option<Nesting> {
+    /// The nesting of a type of geometry.
+    pub fn of(kind: ShapeType) -> Nesting {
         match kind {
-            "MultiSurface" | "CompositeSurface" => Some(Nesting::Surfaces),
-            "Solid" => Some(Nesting::Shells),
-            "MultiSolid" | "CompositeSolid" => Some(Nesting::Solids),
-            _ => None,
+            ShapeType::MultiSurface | ShapeType::CompositeSurface => Nesting::Surfaces,
+            ShapeType::Solid => Nesting::Shells,
+            ShapeType::MultiSolid | ShapeType::CompositeSolid => Nesting::Solids,
         }
     }
 

@@ -7,6 +7,8 @@ use serde_json::Value;
 use std::alloc::Global;
 use std::fmt::Write;
 
+const CURE: &str = "Repair the positions.";
+
 /// A position of a ring, and its place in it.
 #[derive(Clone, Copy)]
 struct Found {
@@ -53,16 +55,17 @@ fn tell(found: Found, count: usize, diagnostic: &mut Diagnostic) -> Result<(), O
     diagnostic.details.number("item", item)?;
     diagnostic.details.integer("position", position)?;
     diagnostic.details.number("vertices", count)?;
-    write!(
-        diagnostic.message,
-        "Item {item} of the ring is {position}, but "
-    )?;
     if position < 0 {
-        write!(diagnostic.message, "no position is negative.")?;
-    } else {
-        write!(diagnostic.message, "there are {count} vertices, from 0 on.")?;
+        write!(
+            diagnostic.told(CURE),
+            "Item {item} of the ring is {position}, but no position is negative."
+        )?;
+        return Ok(());
     }
-    diagnostic.cure = "Repair the positions.";
+    write!(
+        diagnostic.told(CURE),
+        "Item {item} of the ring is {position}, but there are {count} vertices, from 0 on."
+    )?;
     Ok(())
 }
 

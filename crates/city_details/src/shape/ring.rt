@@ -92,8 +92,10 @@ fn tell(wrong: Wrong, diagnostic: &mut Diagnostic) -> Result<(), OutOfMemory> {
         Wrong::Short(points) => diagnostic.details.number("points", points)?,
         Wrong::Equal(_, _, point) => diagnostic.details.point("point", point)?,
     }
-    write!(diagnostic.message, "{wrong}")?;
-    diagnostic.cure = "Drop repeated points, and rings that are too short.";
+    write!(
+        diagnostic.told("Drop repeated points, and rings that are too short."),
+        "{wrong}"
+    )?;
     Ok(())
 }
 

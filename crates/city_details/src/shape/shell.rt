@@ -53,16 +53,16 @@ fn tell(edges: OpenEdges, diagnostic: &mut Diagnostic) -> Result<(), OutOfMemory
     if count > MOST_TOLD {
         diagnostic.details.number("more", count - MOST_TOLD)?;
     }
-    if let Some((from, to)) = first {
-        let from = Coordinates(from);
-        let to = Coordinates(to);
-        write!(
-            diagnostic.message,
-            "The shell has {count} open edges, the first from {from} to {to}."
-        )?;
-        diagnostic.cure =
-            "Close it, turn the face that is the wrong way round, or make it a MultiSurface.";
-    }
+    let Some((from, to)) = first else {
+        return Ok(());
+    };
+    let (from, to) = (Coordinates(from), Coordinates(to));
+    write!(
+        diagnostic.told(
+            "Close it, turn the face that is the wrong way round, or make it a MultiSurface."
+        ),
+        "The shell has {count} open edges, the first from {from} to {to}."
+    )?;
     Ok(())
 }
 

@@ -1,6 +1,7 @@
 //! The walk through boundaries: the lists of surfaces of an object, and the rings of such a list.
 use crate::shape::nesting::Nesting;
 use city_model::OutOfMemory;
+use city_model::shape_type::ShapeType;
 use serde_json::Value;
 use std::alloc::Global;
 
@@ -58,7 +59,7 @@ fn push_geometry<'v>(
 ) -> Result<(), OutOfMemory> {
     let kind = geometry.value.get("type").and_then(Value::as_str);
     let items = items_at(geometry.value, "boundaries");
-    match kind.and_then(Nesting::of_type) {
+    match kind.and_then(ShapeType::of_name).map(Nesting::of) {
         None => {}
         Some(Nesting::Surfaces) => lists.push(Surfaces {
             geometry,

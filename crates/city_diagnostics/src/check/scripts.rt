@@ -6,9 +6,9 @@ ghost use Rattle.city_doc.specs.script.Faults.{ScriptTextFault};
 ghost use Rattle.city_diagnostics.specs.Lines.{AreLinesOf, FirstLineIs, IsLineOf};
 ghost use Rattle.city_diagnostics.specs.ScriptLines.{TellsScript};
 
-use crate::check::{script_text_fault_of, tree_for};
+use crate::check::tree_for;
 use crate::line::script_line;
-use city_details::{script_diagnostic, text_diagnostic};
+use city_details::{Diagnostic, ScriptsFault, TextFault, script_diagnostic, text_diagnostic};
 use city_doc::{ScriptFault, script_faults_of};
 use city_model::OutOfMemory;
 use serde_json::Value;
@@ -66,9 +66,41 @@ fn line_of(
 ) -> Result<String, OutOfMemory>
     ensures { IfOk result (λ line. IsLineOf (TellsScript fault.now) (string_bytes line)) }
 {
-    let diagnostic = match script_text_fault_of(fault) {
-        Some(text_fault) => text_diagnostic(alloc, text, is_given, text_fault)?,
-        None => script_diagnostic(alloc, tree, fault)?,
-    };
+    let diagnostic = scripts_diagnostic(alloc, text, is_given, tree, fault)?;
     script_line(alloc, fault, diagnostic)
+}
+
+/// What is told of a fault of scripts, or of their text.
+pub fn scripts_diagnostic(
+    alloc: Global,
+    text: &[u8],
+    is_given: bool,
+    tree: &Value,
+    fault: &ScriptFault,
+) -> Result<Diagnostic, OutOfMemory> {
+    match script_text_fault_of(fault) {
+        Some(fault) => text_diagnostic(alloc, text, is_given, fault),
+        None => script_diagnostic(alloc, tree, scripts_fault_of(fault)),
+    }
+}
+
+/// A fault of scripts as a `TextFault`, if it is one.
+pub fn script_text_fault_of(fault: &ScriptFault) -> Option<TextFault> {
+    match fault {
+        ScriptFault::TooLong => Some(TextFault::TooLong),
+        ScriptFault::NotJson => Some(TextFault::NotJson),
+        ScriptFault::NotWhole => Some(TextFault::NotWhole),
+        _ => None,
+    }
+}
+
+/// Another fault of scripts as a `ScriptsFault`.
+fn scripts_fault_of(fault: &ScriptFault) -> ScriptsFault {
+    match fault {
+        ScriptFault::BadScript(script) => ScriptsFault::BadScript(*script),
+        ScriptFault::TooMany => ScriptsFault::TooMany,
+        ScriptFault::BadCommand(script, command) => ScriptsFault::BadCommand(*script, *command),
+        ScriptFault::BadVertex(script, command) => ScriptsFault::BadVertex(*script, *command),
+        _ => ScriptsFault::NotScripts,
+    }
 }
