@@ -1,13 +1,13 @@
 //! Diagnostics of a document's top and of its objects.
 //!
 //! - `top`: missing or wrong members of the top
-//! - `relatives`: the parents and children of all objects, in sets; `relations`: broken rules on them
-mod relations;
+//! - `relatives`: the parents and children of all objects, in sets; `relation_faults`: broken rules on them
+mod relation_faults;
 mod relatives;
 mod top;
 
 use crate::diagnostic::Diagnostic;
-use crate::document::relations::tell_relations;
+use crate::document::relation_faults::tell_relations;
 use crate::document::relatives::{RelativesById, all_relatives};
 use crate::document::top::tell_wrong_member;
 use crate::quoted::Quoted;

@@ -6,7 +6,7 @@ pub mod command_faults;
 pub mod command_form;
 pub mod each_fault;
 pub mod faults;
-pub mod form;
 pub mod numbered;
 pub mod parts;
 pub mod read;
+pub mod script_form;

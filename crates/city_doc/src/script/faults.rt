@@ -15,8 +15,8 @@ ghost use Rattle.city_tokens.specs.tree.Texts.{HasTree};
 
 use crate::fault::ScriptFault;
 use crate::script::command_faults::{is_bad_command, names_bad_vertex};
-use crate::script::form::ScriptForm;
 use crate::script::parts::{are_too_many, forms_of};
+use crate::script::script_form::ScriptForm;
 use crate::tree::parse::parse;
 use crate::tree::values::into_array;
 use serde_json::Value;

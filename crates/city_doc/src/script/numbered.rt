@@ -8,8 +8,8 @@ ghost use Rattle.city_doc.specs.internal.script.Forms.{parts_view};
 ghost use Rattle.city_doc.specs.internal.script.Told.{bad_scripts, numbered, numbered_view};
 
 use crate::fault::ScriptFault;
-use crate::script::form::ScriptForm;
 use crate::script::parts::{has_too_many_commands, parts_of};
+use crate::script::script_form::ScriptForm;
 use city_model::OutOfMemory;
 use city_tokens::MAX_SCRIPTS;
 use serde_json::Value;

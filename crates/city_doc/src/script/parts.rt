@@ -11,7 +11,7 @@ ghost use Rattle.city_tokens.specs.internal.ScriptItems.{has_too_many_commands};
 ghost use Rattle.city_doc.specs.internal.script.Searches.{first_at, bad_script};
 
 use crate::fault::ScriptFault;
-use crate::script::form::ScriptForm;
+use crate::script::script_form::ScriptForm;
 use crate::tree::values::{into_array, into_text};
 use city_model::members::{into_object, member, members_count, take};
 use city_model::sequence::Sequence;

@@ -7,7 +7,7 @@ use Rattle.city_doc.specs.declared.script.command_form.Form.{Form}
 use Rattle.city_doc.specs.declared.script.command_form.Form.TheVariants.{Read, Put, Add, Set, Unset, Reshape, Expect}
 use Rattle.city_doc.specs.declared.script.command_form.Form.TheVariants.{Delete, Attach, Detach, Mark, Back}
 use Rattle.city_doc.specs.declared.script.command_form.Form.TheVariants.{Commit, Abort}
-use Rattle.city_doc.specs.declared.script.form.ScriptForm.{ScriptForm}
+use Rattle.city_doc.specs.declared.script.script_form.ScriptForm.{ScriptForm}
 use Rattle.city_tokens.specs.script.CommandForms.{CommandForm, ReadForm, PutForm, AddForm, SetForm, UnsetForm}
 use Rattle.city_tokens.specs.script.CommandForms.{ReshapeForm, ExpectForm, DeleteForm, AttachForm, DetachForm}
 use Rattle.city_tokens.specs.script.CommandForms.{MarkForm, BackForm, CommitForm, AbortForm}
