@@ -1,4 +1,3 @@
-pub mod CrewFaults
 pub mod CrewResults
 pub mod Crossing
 pub mod Prelude

@@ -1,7 +1,7 @@
 -- What viewers of a run see: the city after some prefix of its ends.
 use Rattle.city_crew.proofs.Prelude.{◌≡◌, ◌≤◌, ◌∙◌, ℕ, List, [], ◌∷◌, Bool, true, false, All, length, take, refl, ap}
 use Rattle.city_crew.proofs.Prelude.{sym, subst, arith, length-append, End, CityMap, Change, after_changes, IsPrefix}
-use Rattle.city_crew.proofs.Prelude.{Rises, last_of}
+use Rattle.city_crew.proofs.Prelude.{last_of}
 use Rattle.std.proofs.Common.{suc, zero, cond, ◌+◌}
 use Rattle.std.specs.Global.{Vec}
 use Rattle.std.specs.List.{slice_index_or}
