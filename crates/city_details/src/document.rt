@@ -24,7 +24,7 @@ use std::fmt::Write;
 
 /// A fault of a document's tree.
 #[derive(Clone, Copy)]
-pub enum DocumentFault<'f> {
+pub enum ModelFault<'f> {
     /// The member of this name is wrong.
     WrongMember(&'f str),
     /// The object of this id is wrong.
@@ -58,7 +58,7 @@ impl<'t> Document<'t> {
     pub fn new(
         alloc: Global,
         tree: &'t Value,
-        faults: &[DocumentFault<'_>],
+        faults: &[ModelFault<'_>],
     ) -> Result<Document<'t>, OutOfMemory> {
         let points = if faults.iter().any(needs_points) {
             points_in(alloc, tree)?
@@ -81,14 +81,14 @@ impl<'t> Document<'t> {
     pub fn diagnostic(
         &self,
         alloc: Global,
-        fault: DocumentFault<'_>,
+        fault: ModelFault<'_>,
     ) -> Result<Diagnostic, OutOfMemory> {
         let mut diagnostic = Diagnostic::new(alloc);
         match fault {
-            DocumentFault::WrongMember(member) => {
+            ModelFault::WrongMember(member) => {
                 tell_wrong_member(alloc, self.tree, member, &mut diagnostic)?;
             }
-            DocumentFault::WrongObject(id, fault) => {
+            ModelFault::WrongObject(id, fault) => {
                 let shown = Quoted(id);
                 write!(diagnostic.narrowed()?, "object {shown}")?;
                 if let Some(object) = self.object(id) {
@@ -137,15 +137,15 @@ impl<'t> Document<'t> {
 }
 
 /// Whether a diagnostic shows points of rings.
-fn needs_points(fault: &DocumentFault<'_>) -> bool {
+fn needs_points(fault: &ModelFault<'_>) -> bool {
     matches!(
         fault,
-        DocumentFault::WrongObject(_, ObjectFault::BadRing | ObjectFault::OpenShell)
+        ModelFault::WrongObject(_, ObjectFault::BadRing | ObjectFault::OpenShell)
     )
 }
 
-fn needs_relatives(fault: &DocumentFault<'_>) -> bool {
-    matches!(fault, DocumentFault::WrongObject(_, ObjectFault::Relations))
+fn needs_relatives(fault: &ModelFault<'_>) -> bool {
+    matches!(fault, ModelFault::WrongObject(_, ObjectFault::Relations))
 }
 
 /// The points of a document's vertices.

@@ -18,7 +18,7 @@ mod tree;
 
 pub use details::Details;
 pub use diagnostic::Diagnostic;
-pub use document::{Document, DocumentFault, ObjectFault};
+pub use document::{Document, ModelFault, ObjectFault};
 pub use script::{ScriptsFault, script_diagnostic};
 pub use text::{TextFault, text_diagnostic};
 pub use tree::tree_of;

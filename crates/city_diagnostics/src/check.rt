@@ -11,7 +11,7 @@ pub mod scripts;
 
 use crate::line::document_line;
 use city_details::{
-    Diagnostic, Document, DocumentFault, ObjectFault, TextFault, text_diagnostic, tree_of,
+    Diagnostic, Document, ModelFault, ObjectFault, TextFault, text_diagnostic, tree_of,
 };
 use city_doc::{ReadFault, faults_of};
 use city_model::OutOfMemory;
@@ -99,7 +99,7 @@ pub fn document_diagnostic(
 pub fn document_faults<'f>(
     alloc: Global,
     faults: &'f [ReadFault],
-) -> Result<Vec<DocumentFault<'f>>, OutOfMemory> {
+) -> Result<Vec<ModelFault<'f>>, OutOfMemory> {
     let mut found = Vec::new(alloc);
     for fault in faults {
         if let Some(fault) = document_fault_of(fault) {
@@ -109,13 +109,13 @@ pub fn document_faults<'f>(
     Ok(found)
 }
 
-/// A document's fault as a `DocumentFault`, if it is one.
-fn document_fault_of(fault: &ReadFault) -> Option<DocumentFault<'_>> {
+/// A document's fault as a `ModelFault`, if it is one.
+fn document_fault_of(fault: &ReadFault) -> Option<ModelFault<'_>> {
     let (id, wrong) = match fault {
         ReadFault::OutOfMemory | ReadFault::TooLong | ReadFault::NotJson | ReadFault::NotWhole => {
             return None;
         }
-        ReadFault::NotCityJson(member) => return Some(DocumentFault::WrongMember(member.as_str())),
+        ReadFault::NotCityJson(member) => return Some(ModelFault::WrongMember(member.as_str())),
         ReadFault::UnknownType(id) => (id, ObjectFault::UnknownType),
         ReadFault::Unsupported(id, _) => (id, ObjectFault::Unsupported),
         ReadFault::BadGeometry(id) => (id, ObjectFault::BadGeometry),
@@ -124,7 +124,7 @@ fn document_fault_of(fault: &ReadFault) -> Option<DocumentFault<'_>> {
         ReadFault::Relations(id) => (id, ObjectFault::Relations),
         ReadFault::OpenShell(id) => (id, ObjectFault::OpenShell),
     };
-    Some(DocumentFault::WrongObject(id.as_str(), wrong))
+    Some(ModelFault::WrongObject(id.as_str(), wrong))
 }
 
 /// The tree of a text, to look up faults in; `null` for a fault of the text itself. Such a fault

@@ -1,5 +1,5 @@
 //! The parents and children of objects, in sets: a long list is searched as fast as a short one.
-use crate::document::{DocumentFault, ObjectFault};
+use crate::document::{ModelFault, ObjectFault};
 use city_model::OutOfMemory;
 use city_model::object_type::{ObjectType, type_named};
 use serde_json::{Map, Value};
@@ -34,7 +34,7 @@ pub fn list_at<'t>(object: &'t Value, name: &str) -> Option<&'t [Value]> {
 pub fn all_relatives(
     alloc: Global,
     tree: &Value,
-    faults: &[DocumentFault<'_>],
+    faults: &[ModelFault<'_>],
 ) -> Result<RelativesById, OutOfMemory> {
     match tree.get("CityObjects").and_then(Value::as_object) {
         None => Ok(BTreeMap::new(alloc)),
@@ -46,13 +46,10 @@ pub fn all_relatives(
 }
 
 /// The ids of unreadable objects.
-fn unread_ids(
-    alloc: Global,
-    faults: &[DocumentFault<'_>],
-) -> Result<BTreeSet<String>, OutOfMemory> {
+fn unread_ids(alloc: Global, faults: &[ModelFault<'_>]) -> Result<BTreeSet<String>, OutOfMemory> {
     let mut ids = BTreeSet::new(alloc);
     for fault in faults {
-        if let DocumentFault::WrongObject(id, fault) = fault {
+        if let ModelFault::WrongObject(id, fault) = fault {
             if is_unread(*fault) {
                 let id = id.to_string(alloc)?;
                 ids.insert(id)?;
