@@ -14,6 +14,7 @@ object of 10,000 points may ask for twice the bytes of sets on one of 10, since 
 Four workers may leave their cores to wait 200 times in a run of many scripts, long ones or short.
 Where valgrind is installed, the instructions of texts whose points would collide are counted too, and may grow six
 times. Prints one line for each kind, and ends with status 1 where one took more or ended otherwise.
+So are those of files that end in a newline, with `--decimals`: they may take 1.05 times those of files without one.
 """
 
 import json
@@ -39,6 +40,7 @@ EACH_ROAD = 2.1
 EACH_ATTRIBUTE = 4
 MOST_OF_POINTS = 2
 OF_AN_EMPTY_RUN = 100
+MOST_OF_A_NEWLINE = 1.05
 REFUSED = (growth.repeated_child, growth.open_solid)
 COLLIDING = {growth.colliding_points: 2_000, growth.colliding_replies: 500}
 FIRST_STATES = {"without a seed": growth.FIRST_STATE, "by the fixed seed": growth.FIXED_STATE}
@@ -53,12 +55,13 @@ class Counted:
         source = os.path.join(HERE, "count.c")
         subprocess.run(["cc", "-O1", "-shared", "-fPIC", "-o", self.library, source, "-ldl"], check=True)
 
-    def names(self, texts):
-        """The names of the two files, with these texts in them."""
+    def names(self, texts, end=""):
+        """The names of the two files, with these texts in them, and this behind each."""
         names = [os.path.join(self.folder, name) for name in ("model", "scripts")]
         for name, tree in zip(names, texts):
             with open(name, "w", encoding="utf-8") as file:
                 json.dump(tree, file, separators=(",", ":"))
+                file.write(end)
         return names
 
     def counts(self, texts, *options):
@@ -85,10 +88,10 @@ class Counted:
         ran = subprocess.run([self.path, *options, *self.names(texts)], capture_output=True, timeout=120)
         return ran, resource.getrusage(resource.RUSAGE_CHILDREN).ru_nvcsw - before
 
-    def instructions(self, texts):
+    def instructions(self, texts, *options, end=""):
         """How many instructions a run executes, by valgrind's count."""
-        words = ["valgrind", "--tool=callgrind", "--callgrind-out-file=/dev/null", self.path]
-        ran = subprocess.run([*words, *self.names(texts)], capture_output=True, check=True, timeout=600)
+        words = ["valgrind", "--tool=callgrind", "--callgrind-out-file=/dev/null", self.path, *options]
+        ran = subprocess.run([*words, *self.names(texts, end)], capture_output=True, check=True, timeout=600)
         return int(re.search(rb"Collected : (\d+)", ran.stderr)[1])
 
 
@@ -171,6 +174,15 @@ def colliding_are_quick(program, kind, count):
     return kept
 
 
+def newline_is_quick(program, count):
+    """Whether files that end in a newline take as long as others with `--decimals`."""
+    road = {"type": "Road", "attributes": {"height": 1.5, "length": 20, "name": "road"}}
+    texts = growth.model({f"r{number}": road for number in range(count)}), []
+    bare, ended = (program.instructions(texts, "--decimals", end=end) for end in ("", "\n"))
+    told = f"{count:,} roads with --decimals: {bare:,} instructions, {ended:,} with a newline at the end"
+    return say(ended <= MOST_OF_A_NEWLINE * bare, f"{told}, {ended / bare:.2f} times")
+
+
 def workers_sleep(program, count, scripts):
     """Whether workers that wait for others sleep: sixteen of them take little more processor time than one."""
     put = {"type": "Road"}
@@ -216,6 +228,7 @@ def main():
             print("instructions aren't counted: valgrind isn't installed")
         else:
             kept += [colliding_are_quick(program, kind, count) for kind, count in COLLIDING.items()]
+            kept += [newline_is_quick(program, count) for count in (300, 3_000)]
     return 0 if all(kept) else 1
 
 
