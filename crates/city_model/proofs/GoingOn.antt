@@ -13,10 +13,6 @@ pub goes_on_to : (P Q : Reply → Snapshot → Type 0) (e : Effect)
     → ((reply : Reply) (u : Snapshot) → e ≡ Answers reply u → P reply u → Q reply u) → GoesOn e P → GoesOn e Q
 goes_on_to P Q e f g = grind arith
 
-pub answered_reply : (v : Snapshot) (c : Command) (reply : Reply) (u : Snapshot) → effect v c ≡ Answers reply u
-    → reply ≡ answer v c
-answered_reply v c reply u is = grind arith
-
 pub answered_next : (v : Snapshot) (c : Command) (reply : Reply) (u : Snapshot) → effect v c ≡ Answers reply u → u ≡ step v c
 answered_next v c reply u is = grind arith
 
@@ -38,11 +34,6 @@ applied_no_end v c a reply u k is = grind arith
 
 pub effect_is : (v : Snapshot) (c : Command) → is_end c ≡ false → effect v c ≡ Answers (answer v c) (step v c)
 effect_is v c on = applied_goes_on v c (action v.map c) (kind_of v.map c) on
-
--- an answered command doesn't end its script
-pub answered_no_end : (v : Snapshot) (c : Command) (reply : Reply) (u : Snapshot) → effect v c ≡ Answers reply u
-    → is_end c ≡ false
-answered_no_end v c reply u is = (applied_no_end v c (action v.map c) reply u (kind_of v.map c) is).0
 
 pub answered_no_ending : (v : Snapshot) (c : Command) (reply : Reply) (u : Snapshot) → effect v c ≡ Answers reply u
     → is_ending reply ≡ false

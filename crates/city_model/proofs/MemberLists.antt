@@ -1,5 +1,5 @@
 -- Lists of members one behind the other: finding, putting and taking out a name at the list that reaches it.
-use Rattle.city_model.proofs.Prelude.{◌≡◌, ℕ, ◌<◌, ◌==◌, ◌-◌, ◌+◌, cond, List, [], ◌∷◌, ◌++◌, Bool, true, false, length, get_or}
+use Rattle.city_model.proofs.Prelude.{◌≡◌, ℕ, ◌<◌, ◌==◌, ◌-◌, ◌+◌, List, [], ◌∷◌, ◌++◌, Bool, true, false, length, get_or}
 use Rattle.city_model.proofs.Prelude.{take, drop, refl, sym, ap, ◌∙◌, arith, None, Ordering, Less, Equal}
 use Rattle.city_model.proofs.Prelude.{no_members, member, slice_cmp, nat_cmp, is_lt, nat_list_cmp_total, same_id}
 use Rattle.city_model.proofs.Prelude.{arc_value, string_bytes, not, ◌||◌, exact_bytes, subst}
@@ -284,8 +284,3 @@ ge_is Greater = refl
 pub has_no_member-entries : (es : Entries) → has_no_member (entries_view es) ≡ (length es == 0)
 has_no_member-entries [] = refl
 has_no_member-entries (e ∷ es) = grind arith
-
-pub has_no_member-joined : (ms ns : Members) → has_no_member (joined ms ns)
-    ≡ cond (has_no_member ms) (has_no_member ns) false
-has_no_member-joined no_members ns = refl
-has_no_member-joined (member k d ms) ns = refl

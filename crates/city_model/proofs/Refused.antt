@@ -1,19 +1,9 @@
 -- Refusals, and the snapshot after a refused command.
-use Rattle.city_model.proofs.Prelude.{arith, ◌≡◌, true, false, List, ℕ, Command, Cause, Reply, Refused, CityMap}
-use Rattle.city_model.proofs.Prelude.{Action, Edits, action, Snapshot, Answers, Does, applied, left, effect, is_refusal}
-use Rattle.city_model.proofs.Prelude.{answer, step}
+use Rattle.city_model.proofs.Prelude.{arith, ◌≡◌, true, Command, Cause, Refused, Action, action, Snapshot, Answers}
+use Rattle.city_model.proofs.Prelude.{Does, applied, left, effect, is_refusal, answer, step}
 use Rattle.city_model.specs.Meaning.{reply_of}
 use Rattle.city_model.proofs.ActionKinds.{IsKindOf, kind_of}
 use Rattle.city_model.proofs.GoingOn.{answered_next}
-
-edited : (c : Command) (a : Action) (reply : Reply) (ids : List (List ℕ)) (n : CityMap) → IsKindOf c a
-    → a ≡ Edits reply ids n → is_refusal reply ≡ false
-edited c a reply ids n k is = grind arith
-
--- the reply to a command with an edit is no refusal
-pub done_unrefused : (m : CityMap) (c : Command) (reply : Reply) (ids : List (List ℕ)) (n : CityMap)
-    → action m c ≡ Edits reply ids n → is_refusal reply ≡ false
-done_unrefused m c reply ids n is = edited c (action m c) reply ids n (kind_of m c) is
 
 applied_stays : (v : Snapshot) (c : Command) (a : Action) → IsKindOf c a → is_refusal (reply_of (applied v a)) ≡ true
     → left v (applied v a) ≡ v

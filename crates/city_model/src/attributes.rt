@@ -10,7 +10,7 @@ use crate::OutOfMemory;
 use crate::command::Attributes;
 use crate::kept::extra::Extra;
 use crate::kept::site::{AtObject, has_no_member};
-use crate::members::{into_object, member, put, take};
+use crate::members::{into_object, member, put, put_copy_of, take};
 use crate::same_value::same_value;
 use crate::text::Text;
 use serde_json::{Map, Value};
@@ -123,7 +123,7 @@ fn put_each(members: &mut Map<String, Value>, named: &Map<String, Value>) -> Res
         ≡ put_each (members_view named.now.entries) (members_view members.old.entries)) }
 {
     for (name, value) in named.iter() {
-        put(members, name.clone()?, value.clone()?)?;
+        put_copy_of(members, name, value)?;
     }
     Ok(())
 }

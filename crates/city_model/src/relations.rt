@@ -5,7 +5,7 @@ ghost use Rattle.city_model.specs.Actions.{is_wrong_family};
 ghost use Rattle.city_model.specs.Misrelated.{IsLeastMisrelated};
 ghost use Rattle.city_model.specs.internal.RelationTests.{relatives_once, level_fits, parent_fits, parents_fit};
 ghost use Rattle.city_model.specs.internal.RelationTests.{children_fit, is_in_order, is_misrelated};
-ghost use Rattle.city_model.specs.Relations.{IsRelated, same_family};
+ghost use Rattle.city_model.specs.Relations.{IsRelated, is_second_level, same_family};
 
 use crate::city::City;
 use crate::id_list::{are_distinct, is_same_id};
@@ -43,7 +43,7 @@ pub fn is_wrong_family(
     ensures { result ≡ is_wrong_family child.now child_object.now parent.now parent_object.now }
 {
     is_same_id(child, parent)
-        || level(child_object.body.get().kind) != 2
+        || !is_second_level(child_object)
         || !is_same_family(child_object.body.get().kind, parent_object.body.get().kind)
 }
 
@@ -75,7 +75,14 @@ fn relatives_once(object: &Object) -> bool
 fn level_fits(object: &Object) -> bool
     ensures { result ≡ level_fits object.now }
 {
-    level(object.body.get().kind) == 2 || object.parents.is_empty()
+    is_second_level(object) || object.parents.is_empty()
+}
+
+/// Whether the object is second-level.
+fn is_second_level(object: &Object) -> bool
+    ensures { result ≡ is_second_level object.now.body.kind }
+{
+    level(object.body.get().kind) == 2
 }
 
 /// Whether each parent is there, is another object, has this one as a child and is of its family.

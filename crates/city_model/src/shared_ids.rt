@@ -53,14 +53,13 @@ impl SharedIds {
     pub fn from_sequence(alloc: Global, ids: Sequence<Id>) -> Result<Self, OutOfMemory>
         ensures { IfOk result (λ list. list ≡ ids) }
     {
-        let mut list = SharedIds::new(alloc);
         if ids.len() == 0 {
-            return Ok(list);
+            return Ok(SharedIds::new(alloc));
         }
         if ids.len() <= CHUNK_LENGTH {
-            list.chunks.push(Arc::new(alloc, ids)?)?;
-            return Ok(list);
+            return one_chunk(alloc, ids);
         }
+        let mut list = SharedIds::new(alloc);
         for id in ids.into_vec() {
             list.push(id)?;
         }
@@ -107,9 +106,8 @@ impl SharedIds {
         match self.chunks.last_mut() {
             Some(last) if last.len() < CHUNK_LENGTH => push_to(alloc, last, id),
             _ => {
-                let mut ids = Sequence::new(alloc);
-                ids.push(id)?;
-                self.chunks.push(Arc::new(alloc, ids)?)?;
+                let chunk = chunk_of(alloc, id)?;
+                self.chunks.push(chunk)?;
                 Ok(())
             }
         }
@@ -131,6 +129,16 @@ impl SharedIds {
         replace(alloc, &mut chunks, at, others)?;
         Ok(SharedIds { chunks })
     }
+}
+
+/// The list of these ids, in one chunk.
+fn one_chunk(alloc: Global, ids: Sequence<Id>) -> Result<SharedIds, OutOfMemory>
+    ensures { IfOk result (λ list. list ≡ ids) }
+{
+    let chunk = Arc::new(alloc, ids)?;
+    let mut chunks = Vec::new(alloc);
+    chunks.push(chunk)?;
+    Ok(SharedIds { chunks })
 }
 
 /// The place of a chunk with the id, if one has it. Doesn't allocate.
@@ -163,9 +171,9 @@ fn replace(
 {
     if ids.len() == 0 {
         let _ = chunks.remove(at);
-    } else {
-        chunks[at] = Arc::new(alloc, ids)?;
+        return Ok(());
     }
+    chunks[at] = Arc::new(alloc, ids)?;
     Ok(())
 }
 
@@ -186,10 +194,28 @@ fn push_to(alloc: Global, chunk: &mut Chunk, id: Id) -> Result<(), OutOfMemory>
     if let Some(ids) = Arc::get_mut(chunk) {
         return ids.push(id);
     }
+    *chunk = copy_with(alloc, chunk, id)?;
+    Ok(())
+}
+
+/// A chunk of one id.
+fn chunk_of(alloc: Global, id: Id) -> Result<Chunk, OutOfMemory>
+    ensures { IfOk result (λ chunk. arc_value chunk ≡ id ∷ []) }
+{
+    let mut ids = Sequence::new(alloc);
+    ids.push(id)?;
+    let chunk = Arc::new(alloc, ids)?;
+    Ok(chunk)
+}
+
+/// A copy of a chunk, with an id more.
+fn copy_with(alloc: Global, chunk: &Chunk, id: Id) -> Result<Chunk, OutOfMemory>
+    ensures { IfOk result (λ copy. arc_value copy ≡ arc_value chunk.now ++ id ∷ []) }
+{
     let mut ids = chunk.copy(alloc)?;
     ids.push(id)?;
-    *chunk = Arc::new(alloc, ids)?;
-    Ok(())
+    let copy = Arc::new(alloc, ids)?;
+    Ok(copy)
 }
 
 impl Copied for SharedIds {

@@ -9,7 +9,7 @@ ghost use Rattle.city_model.specs.Members.{without, AreOrdered};
 ghost use Rattle.city_model.specs.internal.MemberLists.{joined, entries_view, reaches, pending};
 
 use crate::OutOfMemory;
-use crate::members::put;
+use crate::members::put_copy_of;
 use serde_json::{Map, Value};
 use std::alloc::Global;
 use std::cmp::Ordering;
@@ -97,7 +97,7 @@ impl MemberList {
     pub fn with(&self, alloc: Global, name: &str, value: &Value) -> Result<MemberList, OutOfMemory>
         ensures { IfOk result (λ list. list ≡ put name.now (view value.now) self.now) }
     {
-        let fresh = Arc::new(alloc, (name.to_string(alloc)?, value.clone()?))?;
+        let fresh = entry_of(alloc, name, value)?;
         let mut entries = Vec::with_capacity(alloc, self.entries.len())?;
         let mut is_placed = false;
         for entry in &self.entries {
@@ -138,12 +138,22 @@ impl MemberList {
     }
 }
 
+/// A copy of a member, as an entry.
+fn entry_of(alloc: Global, name: &str, value: &Value) -> Result<Entry, OutOfMemory>
+    ensures name { IfOk result (λ e. string_bytes (arc_value e).0 ≡ name.now) }
+    ensures value { IfOk result (λ e. view (arc_value e).1 ≡ view value.now) }
+{
+    let pair = (name.to_string(alloc)?, value.clone()?);
+    let entry = Arc::new(alloc, pair)?;
+    Ok(entry)
+}
+
 /// Gives the members a copy of an entry.
 fn put_copy(members: &mut Map<String, Value>, entry: &Entry) -> Result<(), OutOfMemory>
     ensures { OnOk result (members_view members.new.entries
         ≡ put (string_bytes (arc_value entry.now).0) (view (arc_value entry.now).1) (members_view members.old.entries)) }
 {
-    put(members, entry.0.clone()?, entry.1.clone()?)
+    put_copy_of(members, &entry.0, &entry.1)
 }
 
 /// Adds an entry to a list, unless it has this name.
@@ -154,7 +164,7 @@ fn push_other(entries: &mut Vec<Entry>, name: &str, entry: &Entry) -> Result<(),
     if name.cmp(entry.0.as_str()).is_eq() {
         return Ok(());
     }
-    entries.push(entry.clone()?)?;
+    push_copy(entries, entry)?;
     Ok(())
 }
 
@@ -186,22 +196,32 @@ fn push_beside(
         ≡ joined (entries_view entries.old.items) (pending is_placed fresh.now (joined (entries_view (entry.now ∷ [])) rest))) }
 {
     if is_placed {
-        entries.push(entry.clone()?)?;
+        push_copy(entries, entry)?;
         return Ok(true);
     }
     match fresh.0.as_str().cmp(entry.0.as_str()) {
         Ordering::Less => {
-            entries.push(fresh.clone()?)?;
-            entries.push(entry.clone()?)?;
+            push_copy(entries, fresh)?;
+            push_copy(entries, entry)?;
             Ok(true)
         }
         Ordering::Equal => {
-            entries.push(fresh.clone()?)?;
+            push_copy(entries, fresh)?;
             Ok(true)
         }
         Ordering::Greater => {
-            entries.push(entry.clone()?)?;
+            push_copy(entries, entry)?;
             Ok(false)
         }
     }
+}
+
+/// Adds a copy of an entry to a list. The copy shares its member.
+fn push_copy(entries: &mut Vec<Entry>, entry: &Entry) -> Result<(), OutOfMemory>
+    ensures { OnOk result ((rest : Members) → joined (entries_view entries.new.items) rest
+        ≡ joined (entries_view entries.old.items) (joined (entries_view (entry.now ∷ [])) rest)) }
+{
+    let copy = entry.clone()?;
+    entries.push(copy)?;
+    Ok(())
 }

@@ -53,11 +53,11 @@ impl Model for SharedMembers {
 
 /// How long the lists of so many members are.
 fn room_for(count: usize) -> usize {
-    if count <= 1 << 10 {
+    if count <= 1_024 {
         32
-    } else if count <= 1 << 14 {
+    } else if count <= 16_384 {
         128
-    } else if count <= 1 << 18 {
+    } else if count <= 262_144 {
         512
     } else {
         2048

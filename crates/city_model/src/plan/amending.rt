@@ -156,13 +156,21 @@ fn with_extra(
 {
     match extra {
         None => Ok(Err(Cause::BadAttributes(id.copy(alloc)?))),
-        Some(extra) => {
-            let made = Body {
-                kind: body.kind,
-                geometry: body.geometry.copy(alloc)?,
-                extra,
-            };
-            Ok(Ok(Shared::new(alloc, made)?))
-        },
+        Some(extra) => Ok(Ok(body_with(alloc, body, extra)?)),
     }
+}
+
+/// The body with these kept members instead.
+fn body_with(alloc: Global, body: &Body, extra: SharedExtra) -> Result<Shared<Body>, OutOfMemory>
+    ensures { IfOk result (λ made. made
+        ≡ record { kind = body.now.kind; geometry = body.now.geometry; extra = extra }) }
+{
+    let geometry = body.geometry.copy(alloc)?;
+    let made = Body {
+        kind: body.kind,
+        geometry,
+        extra,
+    };
+    let shared = Shared::new(alloc, made)?;
+    Ok(shared)
 }

@@ -27,10 +27,12 @@ pub fn with_body(alloc: Global, object: &Object, body: Shared<Body>) -> Result<O
     ensures { IfOk result (λ o. o
         ≡ record { body = body; parents = object.now.parents; children = object.now.children }) }
 {
+    let parents = object.parents.copy(alloc)?;
+    let children = object.children.copy(alloc)?;
     Ok(Object {
         body,
-        parents: object.parents.copy(alloc)?,
-        children: object.children.copy(alloc)?,
+        parents,
+        children,
     })
 }
 
@@ -38,10 +40,13 @@ pub fn with_body(alloc: Global, object: &Object, body: Shared<Body>) -> Result<O
 pub fn with_parent(alloc: Global, parent: &Id, object: &Object) -> Result<Object, OutOfMemory>
     ensures { IfOk result (λ o. o ≡ with_parent parent.now object.now) }
 {
+    let body = object.body.copy(alloc)?;
+    let parents = with_id(alloc, &object.parents, parent)?;
+    let children = object.children.copy(alloc)?;
     Ok(Object {
-        body: object.body.copy(alloc)?,
-        parents: with_id(alloc, &object.parents, parent)?,
-        children: object.children.copy(alloc)?,
+        body,
+        parents,
+        children,
     })
 }
 
@@ -61,10 +66,13 @@ pub fn without_parent(alloc: Global, parent: &Id, object: &Object) -> Result<Obj
     requires { AreDistinct object.now.parents }
     ensures { IfOk result (λ o. o ≡ without_parent parent.now object.now) }
 {
+    let body = object.body.copy(alloc)?;
+    let parents = object.parents.without(parent)?;
+    let children = object.children.copy(alloc)?;
     Ok(Object {
-        body: object.body.copy(alloc)?,
-        parents: object.parents.without(parent)?,
-        children: object.children.copy(alloc)?,
+        body,
+        parents,
+        children,
     })
 }
 

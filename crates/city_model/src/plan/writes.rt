@@ -1,5 +1,5 @@
 //! The writes of a plan, and short plans.
-ghost use Rattle.std.specs.Prelude.{◌≡◌, [], ◌∷◌, Some, IfOk};
+ghost use Rattle.std.specs.Prelude.{◌≡◌, [], ◌∷◌, ◌++◌, Some, IfOk, OnOk};
 ghost use Rattle.city_model.specs.declared.command.Cause.{Cause};
 ghost use Rattle.city_model.specs.declared.plan.Plan.{Plan};
 
@@ -27,9 +27,8 @@ pub fn no_object(alloc: Global, id: &Id) -> Result<Plan, OutOfMemory>
 pub fn one(alloc: Global, id: &Id, object: Object) -> Result<Writes, OutOfMemory>
     ensures { IfOk result (λ writes. writes ≡ (id.now, Some object) ∷ []) }
 {
-    let copy = id.copy(alloc)?;
     let mut writes = Writes::new(alloc);
-    writes.push((copy, Some(object)))?;
+    push_write(alloc, &mut writes, id, object)?;
     Ok(writes)
 }
 
@@ -45,6 +44,19 @@ pub fn two(
         ≡ (first.now, Some object) ∷ (second.now, Some other) ∷ []) }
 {
     let mut writes = one(alloc, first, object)?;
-    writes.push((second.copy(alloc)?, Some(other)))?;
+    push_write(alloc, &mut writes, second, other)?;
     Ok(writes)
+}
+
+/// Adds an object written at an id.
+fn push_write(
+    alloc: Global,
+    writes: &mut Writes,
+    id: &Id,
+    object: Object,
+) -> Result<(), OutOfMemory>
+    ensures { OnOk result (writes.new ≡ writes.old ++ (id.now, Some object) ∷ []) }
+{
+    let copy = id.copy(alloc)?;
+    writes.push((copy, Some(object)))
 }

@@ -1,8 +1,7 @@
-use Rattle.city_model.proofs.Prelude.{◌∙◌, ap, arith, drop, suc, take}
+use Rattle.city_model.proofs.Prelude.{◌∙◌, ap, arith, drop, suc, sym, take}
 use Rattle.city_model.specs.internal.MemberLists.{all_joined, joined}
 use Rattle.city_model.proofs.ListPlaces.{inserted_before, inserted_behind}
 use Rattle.city_model.proofs.MemberLists.{joined-assoc}
-use Rattle.city_model.proofs.Prelude.{sym}
 use Rattle.std.proofs.Common.{add-one}
 use Rattle.std.specs.List.{insert}
 use Rattle.city_model.proofs.kept.shared_members.cut_long.Goals as goal

@@ -8,8 +8,5 @@ is_attached-requires g c = search (rules, parent_and_child (g.V.ObjectLookup.map
 
 pub returns : goal.returns
 returns g c =
-    let m = g.V.ObjectLookup.map c.args.view.now in
-    let below = c.in_ok-below.below in
-    let above = c.in_ok-above.above in
-    let ws = c.in_ok-writes.writes in
-    search (rules, attach_writes m _ _ _ _ below above ws (sym c.in-Some.ensures) (sym c.in-Some-look.ensures))
+    attach_writes (g.V.ObjectLookup.map c.args.view.now) _ _ _ _ _ _ _ (sym c.in-Some.ensures)
+    (sym c.in-Some-look.ensures) c.in_ok-writes.ensures (search rules) (search rules) c.in_ok-below.ensures c.in_ok-above.ensures

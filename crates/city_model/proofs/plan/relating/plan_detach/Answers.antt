@@ -14,8 +14,5 @@ without_child-requires g c = (c.requires.sound _ _ (sym c.in-Some-look.ensures))
 
 pub returns : goal.returns
 returns g c =
-    let m = g.V.ObjectLookup.map c.args.view.now in
-    let below = c.in_ok-below.below in
-    let above = c.in_ok-above.above in
-    let ws = c.in_ok-writes.writes in
-    search (rules, detach_writes m _ _ _ _ below above ws (sym c.in-Some.ensures) (sym c.in-Some-look.ensures))
+    detach_writes (g.V.ObjectLookup.map c.args.view.now) _ _ _ _ _ _ _ (sym c.in-Some.ensures)
+    (sym c.in-Some-look.ensures) c.in_ok-writes.ensures c.requires.sound (search rules) c.in_ok-below.ensures c.in_ok-above.ensures

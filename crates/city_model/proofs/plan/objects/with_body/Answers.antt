@@ -1,0 +1,5 @@
+use Rattle.city_model.proofs.plan.objects.with_body.Goals as goal
+
+pub returns : goal.returns
+returns c =
+    λ i. record { body = c.args.body; parents = c.in_ok-parents.ensures i; children = c.in_ok-children.ensures i }
