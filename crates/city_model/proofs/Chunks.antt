@@ -22,7 +22,7 @@ alike_parts f xs ys zip = absurd zip
 -- another part in the place of one
 pub other_part : {A X : Type 0} (f : X → List A) (xs : List X) (i : ℕ) (y : X) → i < length xs
     → flat_map f (slice_set xs i y) ≡ flat_map f (take i xs) ++ (f y ++ flat_map f (drop (suc i) xs))
-other_part f xs i y within = search (arith, flat_map, set_split, flat_map-append, take, drop)
+other_part f xs i y within = search (arith, set_split, flat_map-append)
 
 pub this_part : {A X : Type 0} (f : X → List A) (xs : List X) (i : ℕ) (d : X) → i < length xs
     → flat_map f xs ≡ flat_map f (take i xs) ++ (f (get_or xs i d) ++ flat_map f (drop (suc i) xs))

@@ -12,7 +12,7 @@ use crate::command::{Attributes, Cause, Reply};
 use crate::copied::Copied;
 use crate::kept::shared_extra::SharedExtra;
 use crate::object::{Body, Geometries, Object};
-use crate::object_type::is_same;
+use crate::object_type::{ObjectType, is_same};
 use crate::plan::Plan;
 use crate::plan::object_lookup::ObjectLookup;
 use crate::plan::objects::with_body;
@@ -135,12 +135,8 @@ fn amended_body(
             with_extra(alloc, id, body, made)
         },
         Amendment::Reshaping(geometry) => {
-            let made = Body {
-                kind: body.kind,
-                geometry: geometry.copy(alloc)?,
-                extra: body.extra.copy(alloc)?,
-            };
-            Ok(Ok(Shared::new(alloc, made)?))
+            let extra = body.extra.copy(alloc)?;
+            Ok(Ok(body_of(alloc, body.kind, geometry, extra)?))
         },
     }
 }
@@ -156,18 +152,22 @@ fn with_extra(
 {
     match extra {
         None => Ok(Err(Cause::BadAttributes(id.copy(alloc)?))),
-        Some(extra) => Ok(Ok(body_with(alloc, body, extra)?)),
+        Some(extra) => Ok(Ok(body_of(alloc, body.kind, &body.geometry, extra)?)),
     }
 }
 
-/// The body with these kept members instead.
-fn body_with(alloc: Global, body: &Body, extra: SharedExtra) -> Result<Shared<Body>, OutOfMemory>
-    ensures { IfOk result (λ made. made
-        ≡ record { kind = body.now.kind; geometry = body.now.geometry; extra = extra }) }
+/// A body of a copy of these geometries and of these kept members.
+fn body_of(
+    alloc: Global,
+    kind: ObjectType,
+    geometry: &Geometries,
+    extra: SharedExtra,
+) -> Result<Shared<Body>, OutOfMemory>
+    ensures { IfOk result (λ made. made ≡ record { kind = kind; geometry = geometry.now; extra = extra }) }
 {
-    let geometry = body.geometry.copy(alloc)?;
+    let geometry = geometry.copy(alloc)?;
     let made = Body {
-        kind: body.kind,
+        kind,
         geometry,
         extra,
     };

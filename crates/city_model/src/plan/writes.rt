@@ -58,5 +58,6 @@ fn push_write(
     ensures { OnOk result (writes.new ≡ writes.old ++ (id.now, Some object) ∷ []) }
 {
     let copy = id.copy(alloc)?;
-    writes.push((copy, Some(object)))
+    writes.push((copy, Some(object)))?;
+    Ok(())
 }
