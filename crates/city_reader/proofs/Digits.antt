@@ -14,7 +14,8 @@ use Rattle.fast_float.specs.Text.{Parts, digits_of, text_of, IsInteger}
 abbrev pub IsDigit : ℕ → ℕ → Type 0
 IsDigit byte digit = (digit_value byte < 10) × (digit ≡ digit_value byte)
 
-pub digit_of : (byte : ℕ) → byte < 256 → (byte + 208) % 256 ≤ 9 → IsDigit byte ((byte + 208) % 256)
+pub digit_of : (byte : ℕ) → byte < 256 → (byte + 18446744073709551568) % 18446744073709551616 ≤ 9
+    → IsDigit byte ((byte + 18446744073709551568) % 18446744073709551616)
 digit_of byte in_range few = grind (arith, digit_value_digit)
 
 -- one digit more

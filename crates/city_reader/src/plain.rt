@@ -92,6 +92,9 @@ fn after_whole(cursor: &mut Cursor<'_>, next: u8) -> Place
         cursor.skip();
         return Place::AfterComma;
     }
+    if next == b']' {
+        return Place::AfterValue;
+    }
     after_value(cursor)
 }
 

@@ -24,11 +24,11 @@ fn few_digits(text: &[u8]) -> (u64, usize)
     let mut n: u64 = 0;
     let mut count = 0;
     while count < FEW {
-        let digit = text[count].wrapping_sub(b'0');
+        let digit = (text[count] as u64).wrapping_sub(b'0' as u64);
         if digit > 9 {
             return (n, count);
         }
-        n = n * 10 + digit as u64;
+        n = n * 10 + digit;
         count += 1;
     }
     (n, count)
@@ -42,7 +42,7 @@ fn has_needless_zero(text: &[u8]) -> bool
     byte_at(text, 0) == b'0' && byte_at(text, 1).is_ascii_digit()
 }
 
-/// The same as `is_delimiter`. Never inlined: most numbers end at a comma.
+/// The same as `is_delimiter`. Never inlined: most numbers end at a comma or a bracket.
 #[inline(never)]
 fn is_other_delimiter(byte: u8) -> bool
     ensures { result ≡ (is_operator byte || is_space byte) }
@@ -55,7 +55,7 @@ fn is_other_delimiter(byte: u8) -> bool
 fn ends_number(byte: u8) -> bool
     ensures { result ≡ (is_operator byte || is_space byte) }
 {
-    byte == b',' || is_other_delimiter(byte)
+    byte == b',' || byte == b']' || is_other_delimiter(byte)
 }
 
 /// Whether so many digits before this byte are a whole number by themselves.

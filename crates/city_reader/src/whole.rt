@@ -28,11 +28,11 @@ fn value_of_digits(digits: &[u8]) -> Option<u64>
 {
     let mut n: u64 = 0;
     for byte in digits {
-        let digit = byte.wrapping_sub(b'0');
+        let digit = (*byte as u64).wrapping_sub(b'0' as u64);
         if digit > 9 {
             return None;
         }
-        n = n * 10 + digit as u64;
+        n = n * 10 + digit;
     }
     Some(n)
 }

@@ -102,21 +102,21 @@ impl Walk {
     }
 }
 
+/// The bytes behind any blanks; `None` if there are only blanks.
+fn after_blanks(bytes: &[u8]) -> Option<&[u8]> {
+    let at = bytes.iter().position(|byte| *byte > b' ')?;
+    bytes.get(at..)
+}
+
 /// The bytes behind any blanks and then `start`; `None` if another byte comes first.
 fn behind(bytes: &[u8], start: u8) -> Option<&[u8]> {
-    let at = bytes.iter().position(|byte| *byte > b' ')?;
-    if bytes.get(at).copied() != Some(start) {
-        return None;
-    }
-    bytes.get(at.saturating_add(1)..)
+    let (first, rest) = after_blanks(bytes)?.split_first()?;
+    if *first == start { Some(rest) } else { None }
 }
 
 /// Whether the bytes begin with one of these names, but for blanks.
 fn begins_with_any(bytes: &[u8], names: &[&[u8]]) -> bool {
-    let Some(at) = bytes.iter().position(|byte| *byte > b' ') else {
-        return false;
-    };
-    let Some(name) = bytes.get(at..) else {
+    let Some(name) = after_blanks(bytes) else {
         return false;
     };
     names.iter().any(|known| name.starts_with(known))
@@ -233,8 +233,10 @@ fn keep(cuts: &mut Vec<Position>, cut: Option<usize>) -> Option<()> {
     let Some(at) = cut else {
         return Some(());
     };
-    if cuts.last().is_some_and(|last| last.at() >= at) {
-        return Some(());
+    if let Some(last) = cuts.last() {
+        if last.at() >= at {
+            return Some(());
+        }
     }
     cuts.push(Position::after_comma(at)).ok()
 }

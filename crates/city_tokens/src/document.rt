@@ -74,7 +74,10 @@ impl MemberVisitor for TopParts {
 pub fn is_text(member: Option<&Value>, text: &str) -> bool
     ensures { result ≡ is_text text.now (option_map (λ v. view v.now) member.entry) }
 {
-    match member.and_then(Value::as_str) {
+    let Some(member) = member else {
+        return false;
+    };
+    match member.as_str() {
         Some(found) => found == text,
         None => false,
     }

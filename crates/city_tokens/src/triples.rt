@@ -12,9 +12,9 @@ pub fn triple_of(value: &Value) -> Option<[i64; 3]>
     if value.get(3).is_some() {
         return None;
     }
-    let x = value.get(0).and_then(Value::as_i64)?;
-    let y = value.get(1).and_then(Value::as_i64)?;
-    let z = value.get(2).and_then(Value::as_i64)?;
+    let x = value.get(0)?.as_i64()?;
+    let y = value.get(1)?.as_i64()?;
+    let z = value.get(2)?.as_i64()?;
     Some([x, y, z])
 }
 

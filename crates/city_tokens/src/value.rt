@@ -12,8 +12,9 @@ use std::alloc::Global;
 /// For how many items a kept array has room at first.
 const FEW: usize = 2;
 
-/// The next value, if its arrays and objects nest no deeper than `depth`.
+/// The next value, if its arrays and objects nest no deeper than `depth`. Inlined: most are small.
 #[cycle(value)]
+#[inline(always)]
 pub fn read_value(alloc: Global, reader: &mut Reader<'_>, depth: usize) -> Option<Value>
     ensures { IfSome result (λ v. IsValue depth reader.old (view v) reader.new) }
 {

@@ -91,6 +91,7 @@ impl<'a> PointNumbers<'a> {
     ///
     /// If memory runs out, no point is lost. It also answers `OutOfMemory` if the number noted for the point isn't
     /// its own.
+    #[inline(always)]
     pub fn add(&mut self, point: Point) -> Result<usize, OutOfMemory>
         ensures number { IfOk result (λ i. i ≡ number_of self.old point) }
         ensures added { OnOk result (self.new ≡ with_point self.old point) }

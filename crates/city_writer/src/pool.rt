@@ -53,6 +53,7 @@ pub struct VertexPool {
 
 /// The place of a point's remembered number. The factors are odd and their bits are spread, so points near each other
 /// mostly have different places.
+#[inline(always)]
 fn place_of(point: &Point) -> u8 {
     let x = point.x.wrapping_mul(0x1E37_79B9_7F4A_7C15);
     let y = point.y.wrapping_mul(0x42B2_AE3D_27D4_EB4F);
@@ -61,6 +62,7 @@ fn place_of(point: &Point) -> u8 {
     place
 }
 
+#[inline(always)]
 fn is_same(point: &Point, other: &Point) -> bool
     ensures { result ≡ same_point point.now other.now }
 {
@@ -69,6 +71,7 @@ fn is_same(point: &Point, other: &Point) -> bool
 
 /// Whether a point stands at this number among distinct points.
 #[tactic(auto, using(crate::proofs::pool::NumberedAt::kept_at))]
+#[inline(always)]
 pub fn is_numbered(points: &[Point], point: &Point, number: usize) -> bool
     requires { IsDistinct same_point points.now }
     ensures number { result ≡ true → number ≡ number_of points.now point.now }
@@ -121,18 +124,30 @@ impl VertexPool {
     /// Adds a point, and gives its number. A point of the pool keeps its number.
     ///
     /// If memory runs out, the pool is unchanged.
+    #[inline(always)]
     pub fn add(&mut self, point: Point) -> Result<usize, OutOfMemory>
         ensures number { IfOk result (λ i. i ≡ number_of self.old point) }
         ensures added { OnOk result (self.new ≡ with_point self.old point) }
         ensures unchanged { OnErr result (self.new ≡ self.old) }
     {
-        let place = place_of(&point) as usize;
-        let lately = self.lately[place];
+        let place = place_of(&point);
+        let lately = self.lately[place as usize];
         if is_numbered(self.as_slice(), &point, lately) {
             return Ok(lately);
         }
+        self.add_by_table(point, place)
+    }
+
+    /// The same, by the table alone; its number is remembered at this place. Never inlined: that keeps the callers
+    /// small.
+    #[inline(never)]
+    fn add_by_table(&mut self, point: Point, place: u8) -> Result<usize, OutOfMemory>
+        ensures number { IfOk result (λ i. i ≡ number_of self.old point) }
+        ensures added { OnOk result (self.new ≡ with_point self.old point) }
+        ensures unchanged { OnErr result (self.new ≡ self.old) }
+    {
         let (number, _) = self.points.insert_full(point)?;
-        self.lately[place] = number;
+        self.lately[place as usize] = number;
         Ok(number)
     }
 

@@ -3,3 +3,4 @@
 pub mod kept_members;
 pub mod text;
 pub mod triples;
+pub mod whole_numbers;

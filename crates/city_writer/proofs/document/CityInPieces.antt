@@ -1,11 +1,8 @@
 -- A city written in pieces by several workers.
 use Rattle.city_writer.proofs.Prelude.{◌≡◌, ℕ, List, [], ◌∷◌, ◌++◌, Option, true, false, is_some, list_all, refl, sym}
-use Rattle.city_writer.proofs.Prelude.{ap}
-use Rattle.city_writer.proofs.Prelude.{◌∙◌, subst, append_assoc, entries}
-use Rattle.city_writer.proofs.Prelude.{entries_ascend, CityValue, Frame, Members, Point, pool_of, city_points}
-use Rattle.city_writer.proofs.Prelude.{tree_of, tokens_of}
-use Rattle.city_writer.proofs.Prelude.{transform_data, vertices_data, AreOrdered, kept_at_top, kept_at_transform}
-use Rattle.city_writer.proofs.Prelude.{members_from, IsInRange}
+use Rattle.city_writer.proofs.Prelude.{ap, ◌∙◌, subst, append_assoc, entries, entries_ascend, CityValue, Frame, Members}
+use Rattle.city_writer.proofs.Prelude.{Point, pool_of, city_points, tree_of, tokens_of, transform_data, vertices_data}
+use Rattle.city_writer.proofs.Prelude.{AreOrdered, kept_at_top, kept_at_transform, members_from, IsInRange}
 use Rattle.city_writer.proofs.Prelude.{MembersReadBack, ReadsBack, with_points, objects_data, end_object}
 use Rattle.std.proofs.Common.{codes, length, ◌<◌, ◌^◌}
 use Rattle.std.specs.Str.{IsUtf8}
@@ -21,11 +18,10 @@ use Rattle.city_writer.specs.internal.tree.OwnMembers.{written}
 use Rattle.city_writer.specs.report.JsonLines.{IsCompactJson}
 use Rattle.city_writer.proofs.EachPiece.{all_made}
 use Rattle.city_writer.proofs.document.CityTexts.{text_printed, city_json, city_written}
-use Rattle.city_writer.proofs.object.WrittenObjects.{written_in_turn}
+use Rattle.city_writer.proofs.object.WrittenObjects.{written_in_turn, ordered_in_turn}
 use Rattle.city_writer.proofs.document.OwnMembers.{city_own}
 use Rattle.city_writer.proofs.document.PiecesWritten.{each_known, pieces_written, city_printed, city_reads}
 use Rattle.city_writer.proofs.document.PutMembers.{IsPut, city_put}
-use Rattle.city_writer.proofs.object.WrittenObjects.{ordered_in_turn}
 use Rattle.city_writer.proofs.pool.NumberedPoints.{are_in, points_in_pool}
 use Rattle.city_writer.proofs.pool.PointsAgain.{points_joined}
 use Rattle.city_writer.proofs.pool.Repeats.{pool_is_without_repeats}

@@ -1,15 +1,10 @@
 -- Pieces of the objects of a city, written and put together.
 use Rattle.city_writer.proofs.Prelude.{◌≡◌, ℕ, Bool, true, false, List, [], ◌∷◌, ◌++◌, Option, Some, None, refl, sym}
-use Rattle.city_writer.proofs.Prelude.{ap}
-use Rattle.city_writer.proofs.Prelude.{◌∙◌, subst}
-use Rattle.city_writer.proofs.Prelude.{append_assoc, drop, Token, key, begin_object, end_object, Entries, Point}
-use Rattle.city_writer.proofs.Prelude.{are_kept_objects, and_parts}
-use Rattle.city_writer.proofs.Prelude.{list_all-append, tokens_of, tokens_of_members, MembersReadBack, with_points}
-use Rattle.city_writer.proofs.Prelude.{keys_of}
-use Rattle.city_writer.proofs.Prelude.{nat_cmp, slice_cmp, entries, CityValue, tree_of, Members, members_before}
-use Rattle.city_writer.proofs.Prelude.{members_from, Data}
-use Rattle.city_writer.proofs.Prelude.{objects_data, closing_members, Frame, ReadsBack, transform_data}
-use Rattle.city_writer.proofs.Prelude.{vertices_data}
+use Rattle.city_writer.proofs.Prelude.{ap, ◌∙◌, subst, append_assoc, drop, Token, key, begin_object, end_object}
+use Rattle.city_writer.proofs.Prelude.{Entries, Point, are_kept_objects, and_parts, list_all-append, tokens_of}
+use Rattle.city_writer.proofs.Prelude.{tokens_of_members, MembersReadBack, with_points, keys_of, nat_cmp, slice_cmp}
+use Rattle.city_writer.proofs.Prelude.{entries, CityValue, tree_of, Members, members_before, members_from, Data}
+use Rattle.city_writer.proofs.Prelude.{objects_data, closing_members, Frame, ReadsBack, transform_data, vertices_data}
 use Rattle.std.proofs.Common.{length, ◌<◌, ◌^◌, take, ◌||◌, ◌&&◌, cond, codes, suc, zero, ◌-◌}
 use Rattle.std.proofs.lemmas.List.{take-append-drop}
 use Rattle.std.specs.List.Sorted.{IsStrictlySortedBy}
@@ -31,9 +26,7 @@ use Rattle.city_writer.proofs.tree.Among.{string_reads}
 use Rattle.city_writer.proofs.pool.NumberedPoints.{are_in}
 use Rattle.city_writer.proofs.pool.PointsAgain.{points_known, points_parted}
 use Rattle.city_writer.proofs.tree.Appended.{after, printed, members_after, utf8_comma, printable-append}
-use Rattle.city_writer.proofs.tree.Appended.{printed-append}
-use Rattle.city_writer.proofs.tree.Appended.{after_begin}
-use Rattle.city_writer.proofs.tree.Appended.{before_end, members-closed}
+use Rattle.city_writer.proofs.tree.Appended.{printed-append, after_begin, before_end, members-closed}
 
 module _ (pool : List Point) where
   -- the tokens of objects, each under its id

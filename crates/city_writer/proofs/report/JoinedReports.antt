@@ -1,7 +1,6 @@
 -- Reports of pieces of the ends, one after the other.
 use Rattle.city_writer.proofs.Prelude.{◌≡◌, ℕ, List, [], ◌∷◌, ◌++◌, Option, Some, None, refl, sym, ap, ◌∙◌, subst}
-use Rattle.city_writer.proofs.Prelude.{append_assoc, drop}
-use Rattle.city_writer.proofs.Prelude.{AllByRecursion}
+use Rattle.city_writer.proofs.Prelude.{append_assoc, drop, AllByRecursion}
 use Rattle.std.proofs.Common.{take}
 use Rattle.std.proofs.lemmas.Grind.{flat_map-append}
 use Rattle.std.proofs.lemmas.List.{take-append-drop}

@@ -15,6 +15,7 @@ ghost use Rattle.city_writer.specs.internal.tree.ReadsBack.{ReadsBackNumbered};
 use crate::point_numbers::PointNumbers;
 use crate::pool::VertexPool;
 use crate::tree::kept_members::KeptMembers;
+use crate::tree::whole_numbers::write_u64;
 use city_model::OutOfMemory;
 use city_model::object::{Geometry, Point, Shape};
 use city_model::sequence::Sequence;
@@ -52,7 +53,7 @@ impl Written for Point {
 
     fn write(&self, pool: &mut PointNumbers<'_>, out: &mut Writer) -> Result<(), OutOfMemory> {
         let number = pool.add(*self)?;
-        out.u64(number as u64)
+        write_u64(number as u64, out)
     }
 
     fn add_points(&self, pool: &mut VertexPool) -> Result<(), OutOfMemory> {

@@ -9,6 +9,7 @@ ghost use Rattle.city_writer.specs.internal.tree.PartTokens.{closing_items, clos
 ghost use Rattle.city_writer.specs.internal.tree.ReadsBack.{ReadsBack, ItemsReadBack};
 ghost use Rattle.city_writer.specs.internal.tree.ReadsBack.{MembersReadBack};
 
+use crate::tree::whole_numbers::write_i64;
 use city_model::OutOfMemory;
 use json::Writer;
 use serde_json::{Map, Number, Value};
@@ -22,7 +23,7 @@ fn write_number(n: &Number, out: &mut Writer) -> Result<(), OutOfMemory>
     ensures reads { OnOk result (ReadsBack (number (number_view n.now))) }
 {
     match n.as_i64() {
-        Some(z) => out.i64(z),
+        Some(z) => write_i64(z, out),
         // (no kept number is of this kind)
         None => out.null(),
     }

@@ -5,16 +5,18 @@ ghost use Rattle.city_writer.specs.tree.Ranges.{is_i64, is_i64_triple};
 ghost use Rattle.city_writer.specs.tree.Tokens.{tokens_of};
 ghost use Rattle.city_writer.specs.internal.tree.ReadsBack.{ReadsBack};
 
+use crate::tree::whole_numbers::write_i64;
 use city_model::OutOfMemory;
 use json::Writer;
 
+#[inline(always)]
 fn write_integer(n: i64, out: &mut Writer) -> Result<(), OutOfMemory>
     ensures before { OnOk result (out.new.before ≡ out.old.before) }
     ensures tokens { OnOk result (out.new.tokens ≡ out.old.tokens ++ tokens_of (integer_data n)) }
     ensures reads { OnOk result (ReadsBack (integer_data n)) }
     ensures in_range { OnOk result (is_i64 n ≡ true) }
 {
-    out.i64(n)
+    write_i64(n, out)
 }
 
 /// Writes an array of three whole numbers.

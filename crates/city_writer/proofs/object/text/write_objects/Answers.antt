@@ -2,9 +2,8 @@ use Rattle.city_writer.proofs.Prelude.{◌≡◌, ◌∙◌, ap, entries, entrie
 use Rattle.std.proofs.Common.{take}
 use Rattle.std.specs.FinMap.{len-entries}
 use Rattle.std.proofs.Math.Seq.{take-length}
-use Rattle.city_writer.proofs.object.WrittenObjects.{written_in_turn}
+use Rattle.city_writer.proofs.object.WrittenObjects.{written_in_turn, ordered_in_turn}
 use Rattle.city_writer.proofs.document.PutMembers.{on_ok}
-use Rattle.city_writer.proofs.object.WrittenObjects.{ordered_in_turn}
 use Rattle.city_writer.proofs.tree.Appended.{object_closed}
 use Rattle.city_writer.proofs.tree.ReadBack.{object_reads}
 use Rattle.city_writer.proofs.object.text.write_objects.Goals as goal
