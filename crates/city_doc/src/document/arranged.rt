@@ -34,8 +34,18 @@ const FEW: usize = 64;
 /// Whether the ids are searched quickly: they are few, or each is above the one before it. Only the
 /// time depends on it.
 fn is_quick(ids: Ids<'_>) -> bool {
-    let mut left = ids;
-    left.nth(FEW).is_none() || are_increasing(ids)
+    are_few(ids) || are_increasing(ids)
+}
+
+fn are_few(ids: Ids<'_>) -> bool {
+    let mut left = FEW;
+    for _ in ids {
+        if left == 0 {
+            return false;
+        }
+        left -= 1;
+    }
+    true
 }
 
 /// Whether all lists of ids are searched quickly. Only the time depends on it.
