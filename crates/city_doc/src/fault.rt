@@ -1,7 +1,5 @@
 //! Why a text is refused. A fault shows by its number, its name and the things it names, texts as JSON texts.
-ghost use Rattle.std.specs.Prelude.{◌≡◌, ◌++◌, [], ◌∷◌, IfOk};
-ghost use Rattle.std.specs.Fmt.{WritesOnOk};
-ghost use Rattle.json.specs.Print.{quoted};
+ghost use Rattle.std.specs.Prelude.{◌≡◌, [], ◌∷◌, IfOk};
 
 mod quoted;
 
@@ -87,25 +85,18 @@ impl Display for ReadFault {
             ReadFault::TooLong => f.write_str("model: 1 TooLong"),
             ReadFault::NotJson => f.write_str("model: 2 NotJson"),
             ReadFault::NotWhole => f.write_str("model: 3 NotWhole"),
-            ReadFault::NotCityJson(member) => write_named(f, "model: 4 NotCityJson ", member),
-            ReadFault::UnknownType(id) => write_named(f, "model: 5 UnknownType ", id),
+            ReadFault::NotCityJson(member) => write!(f, "model: 4 NotCityJson {}", Quoted(member)),
+            ReadFault::UnknownType(id) => write!(f, "model: 5 UnknownType {}", Quoted(id)),
             ReadFault::Unsupported(id, name) => {
                 write!(f, "model: 6 Unsupported {} {}", Quoted(id), Quoted(name))
             }
-            ReadFault::BadGeometry(id) => write_named(f, "model: 7 BadGeometry ", id),
-            ReadFault::BadVertex(id) => write_named(f, "model: 8 BadVertex ", id),
-            ReadFault::BadRing(id) => write_named(f, "model: 9 BadRing ", id),
-            ReadFault::Relations(id) => write_named(f, "model: 10 Relations ", id),
-            ReadFault::OpenShell(id) => write_named(f, "model: 11 OpenShell ", id),
+            ReadFault::BadGeometry(id) => write!(f, "model: 7 BadGeometry {}", Quoted(id)),
+            ReadFault::BadVertex(id) => write!(f, "model: 8 BadVertex {}", Quoted(id)),
+            ReadFault::BadRing(id) => write!(f, "model: 9 BadRing {}", Quoted(id)),
+            ReadFault::Relations(id) => write!(f, "model: 10 Relations {}", Quoted(id)),
+            ReadFault::OpenShell(id) => write!(f, "model: 11 OpenShell {}", Quoted(id)),
         }
     }
-}
-
-/// A fault's number and name, and behind them what it names.
-fn write_named<W: Write>(f: &mut Formatter<W>, fault: &str, name: &Text) -> fmt::Result
-    ensures { WritesOnOk W.write_str_gives f.old result (fault.now ++ quoted name.now) f.new }
-{
-    write!(f, "{fault}{}", Quoted(name))
 }
 
 impl Error for ReadFault {}
