@@ -1,10 +1,11 @@
 //! The forms of commands: the words, and the objects with their members.
 //!
 //! A new command is a line in one of the two tables; no other diagnostic changes.
+use crate::tree::is_among;
 use serde_json::{Map, Value};
 
 /// The kind of a command's member.
-#[derive(Clone, Copy, PartialEq, Eq)]
+#[derive(Clone, Copy)]
 pub enum Kind {
     Text,
     /// A city object.
@@ -15,6 +16,12 @@ pub enum Kind {
     Names,
     /// The geometry of a city object.
     Geometry,
+}
+
+impl Kind {
+    fn is_text(&self) -> bool {
+        matches!(self, Kind::Text)
+    }
 }
 
 /// A command in the form of an object. The member of the command's name is a text.
@@ -81,7 +88,7 @@ pub const WORDS: &[&str] = &["commit", "abort"];
 
 /// Whether a word is a command by itself.
 pub fn is_word(word: &str) -> bool {
-    WORDS.iter().any(|name| *name == word)
+    is_among(WORDS, word)
 }
 
 /// The object command of this name.
@@ -127,7 +134,12 @@ impl Form {
 
     /// Whether it has a member of this name.
     fn has(&self, name: &str) -> bool {
-        self.name == name || self.others.iter().any(|(other, _)| *other == name)
+        for (other, _) in self.others {
+            if *other == name {
+                return true;
+            }
+        }
+        self.name == name
     }
 
     /// The first member that has to be a text but isn't.
@@ -136,7 +148,7 @@ impl Form {
             return Some(self.name);
         }
         for (name, kind) in self.others {
-            if *kind == Kind::Text && !is_text(members, *name) {
+            if kind.is_text() && !is_text(members, *name) {
                 return Some(*name);
             }
         }
@@ -146,7 +158,7 @@ impl Form {
     /// The name and the kind of its member other than a text, which it gives to an object.
     pub fn given(&self) -> Option<(&'static str, Kind)> {
         for (name, kind) in self.others {
-            if *kind != Kind::Text {
+            if !kind.is_text() {
                 return Some((*name, *kind));
             }
         }
@@ -156,5 +168,8 @@ impl Form {
 
 /// Whether the member of a name is a text.
 fn is_text(members: &Map<String, Value>, name: &str) -> bool {
-    members.get(name).and_then(Value::as_str).is_some()
+    match members.get(name) {
+        None => false,
+        Some(member) => member.is_string(),
+    }
 }
