@@ -19,7 +19,6 @@ pub use Rattle.serde_json.specs.Find.{as_array, as_str, get, get_member}
 pub use Rattle.serde_json.specs.Read.{of_items, of_json, of_members}
 pub use Rattle.serde_json.specs.View.{items_of}
 pub use Rattle.serde_json.specs.Written.{items_outline, members_outline, outline}
-pub use Rattle.city_decimals.proofs.Kept.{kept}
 pub use Rattle.city_decimals.proofs.Wholes.{bound, mapped}
 pub use Rattle.city_decimals.specs.Arranged.{arranged}
 pub use Rattle.city_decimals.specs.Decoded.{decoded, decoded_items, decoded_members, decoded_top, number_in}
