@@ -4,14 +4,13 @@ use Rattle.city_canonical.proofs.Prelude.{Some, None, nat_cmp, codes, refl, sym,
 use Rattle.city_canonical.proofs.Prelude.{option_map, option_and_then, slice_cmp, All, and_parts, All-nil, All-cons}
 use Rattle.city_canonical.proofs.Prelude.{All-weaker, list_all-append, is_eq-slice_cmp, bytes_eq-Decides, HasNumbers}
 use Rattle.city_canonical.proofs.Prelude.{MembersHaveNumbers, Some_inj, not_found, Data, string, array, object, Items}
-use Rattle.city_canonical.proofs.Prelude.{Members, no_members, member, put, get, get_member, as_array, of_json}
-use Rattle.city_canonical.proofs.Prelude.{of_members, items_of, outline, items_outline, members_outline, Geometry}
-use Rattle.city_canonical.proofs.Prelude.{Object, Point, CityValue, same_id, has_id, AreOrdered, by_id, is_shielded}
-use Rattle.city_canonical.proofs.Prelude.{has_shield, only, encoded, encoded_members, encoded_top, number_in}
-use Rattle.city_canonical.proofs.Prelude.{decoded_members, decoded_top, geometry_points, object_points, pool_of}
-use Rattle.city_canonical.proofs.Prelude.{IsInRange, transform_data, tree_of, object_data, vertex_data, object_of}
-use Rattle.city_canonical.proofs.Prelude.{read_items, point_of, and_then_some, is_in, are_in, array_is, object_is}
-use Rattle.city_canonical.proofs.Prelude.{or_empty, list_at}
+use Rattle.city_canonical.proofs.Prelude.{Members, no_members, member, put, get_member, of_json, of_members, items_of}
+use Rattle.city_canonical.proofs.Prelude.{outline, items_outline, members_outline, Geometry, Object, Point, CityValue}
+use Rattle.city_canonical.proofs.Prelude.{same_id, has_id, AreOrdered, by_id, is_shielded, has_shield, only, encoded}
+use Rattle.city_canonical.proofs.Prelude.{encoded_members, encoded_top, number_in, decoded_members, decoded_top}
+use Rattle.city_canonical.proofs.Prelude.{geometry_points, object_points, pool_of, IsInRange, transform_data, tree_of}
+use Rattle.city_canonical.proofs.Prelude.{object_data, vertex_data, object_of, read_items, point_of, and_then_some}
+use Rattle.city_canonical.proofs.Prelude.{is_in, are_in, array_is, object_is, or_empty, list_at}
 use Rattle.std.specs.FinMap.{entries}
 use Rattle.std.specs.List.{Contains}
 use Rattle.std.proofs.lemmas.Cmp.{nat_list_cmp_total, eq_by_cmp_equiv}
