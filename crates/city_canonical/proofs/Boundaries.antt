@@ -1,25 +1,37 @@
 -- Data without objects was read from the very value written for it; boundaries are placed under any numbering of
--- points.
+-- points; written vertices are each there once, and each is in the boundaries of some geometry.
 use Rattle.city_canonical.proofs.Prelude.{arith, ◌≡◌, ℕ, zero, suc, ℤ, List, [], ◌∷◌, Bool, cond, Option, Some, refl}
-use Rattle.city_canonical.proofs.Prelude.{sym, ap, subst, ◌∙◌, ◌<◌, length, true, option_and_then, ◌^◌, map, slice_get}
+use Rattle.city_canonical.proofs.Prelude.{sym, ap, ◌∙◌, ◌<◌, length, true, option_and_then, ◌^◌, map, slice_get}
 use Rattle.city_canonical.proofs.Prelude.{option_map, and_parts, bytes_eq-Decides, Some_inj, not_found, Data, array}
 use Rattle.city_canonical.proofs.Prelude.{object, Items, no_items, item, as_str, of_json, of_items, outline}
 use Rattle.city_canonical.proofs.Prelude.{items_outline, Point, encoded, encoded_items, decoded, decoded_items, mapped}
-use Rattle.city_canonical.proofs.Prelude.{bound, vertex_data, nested_of, read_items, list_of, triple_of, point_of}
-use Rattle.city_canonical.proofs.Prelude.{points_of, and_then_some, map_some, AllByRecursion, bytes_eq, items_of}
+use Rattle.city_canonical.proofs.Prelude.{vertex_data, nested_of, read_items, list_of, point_of, points_of}
+use Rattle.city_canonical.proofs.Prelude.{and_then_some, map_some, AllByRecursion, bytes_eq, items_of}
 use Rattle.city_canonical.proofs.Prelude.{number_of-decimal, Shape, shape_points, boundaries_data, Nested, nested}
-use Rattle.city_canonical.proofs.Prelude.{geometry_type, shape_name, are_in, placed}
-use Rattle.std.proofs.Common.{ap₂}
-use Rattle.std.specs.Prelude.{find}
-use Rattle.serde_json.specs.Find.{as_number, as_i64}
+use Rattle.city_canonical.proofs.Prelude.{geometry_type, shape_name, are_in, placed, false, flat_map, All, All-nil}
+use Rattle.city_canonical.proofs.Prelude.{All-cons, All-weaker}
+use Rattle.std.proofs.Common.{ap₂, true≢false, not, inl, inr}
+use Rattle.std.specs.Prelude.{find, filter}
+use Rattle.serde_json.specs.Find.{as_number, as_i64, of_integer}
 use Rattle.city_tokens.specs.shape.Geometries.{point_at}
 use Rattle.city_tokens.specs.tree.Triples.{integral_at, three_of}
 use Rattle.city_writer.specs.tree.Lists.{integer_data}
-use Rattle.std.proofs.lemmas.List.Sums.{prefix_len-le-length}
+use Rattle.std.proofs.lemmas.List.Sums.{prefix_len-le-length, AllPass-from_list_all}
 use Rattle.city_writer.specs.shape.Canonical.{point_data, nested_data}
 use Rattle.city_tokens.specs.shape.GeometryTypes.{GeometryType, geometry_types}
-use Rattle.city_doc.proofs.Laws.{nested_read}
+use Rattle.city_doc.proofs.Laws.{nested_read, text_of_integer}
 use Rattle.city_canonical.specs.Placed.{placed_items}
+use lib.Signed.{mag}
+use Rattle.std.specs.List.{list_all}
+use Rattle.std.proofs.lemmas.Fmt.{signed_decimal_injective}
+use Rattle.std.proofs.lemmas.List.Elements.{All-head, All-tail, All-append, All-filter, filter_passes}
+use Rattle.std.proofs.lemmas.Option.{slice_get_within, get_or_from_slice_get}
+use Rattle.serde_json.specs.Written.{number_text}
+use Rattle.city_model.specs.Shells.{same_point}
+use Rattle.city_writer.specs.Pool.{nested_points, without_repeats}
+use Rattle.city_writer.specs.shape.Vertices.{is_i64_point}
+use Rattle.city_writer.specs.tree.Ranges.{is_i64}
+use Rattle.city_canonical.specs.Same.{IsEachOnce, IsPart, IsPartOfOne}
 use Rattle.json.specs.Json as json
 use Rattle.json.specs.Find as look
 
@@ -40,23 +52,13 @@ mutual
   pub itself : (j : json.Json) (d : Data) → of_json (encoded j) ≡ Some d → IsPlain d
       → (encoded j ≡ j) × (j ≡ outline d)
   itself (json.number s) d is h = search (arith, mapped, bytes_eq-Decides, and_parts)
-  itself (json.array js) d is h =
-      let ds = mapped array (of_items (encoded_items js)) d is in
-      let all = themselves js ds.0 ds.1 (subst IsPlain (sym ds.2) h) in
-      (ap json.array all.0, ap json.array all.1 ∙ ap outline ds.2)
-  itself (json.object ms) d is h = grind arith
-  itself j d is h = (refl, ap outline (Some_inj _ _ is))
+  itself (json.array js) d is h = grind (arith, themselves js)
+  itself j d is h = grind arith
 
   themselves : (js : json.Items) (ds : Items) → of_items (encoded_items js) ≡ Some ds → ArePlain ds
       → (encoded_items js ≡ js) × (js ≡ items_outline ds)
-  themselves json.no_items ds is h = (refl, ap items_outline (Some_inj _ _ is))
-  themselves (json.item j js) ds is h =
-      let d = bound _ (of_json (encoded j)) ds is in
-      let rest = mapped (item d.0) (of_items (encoded_items js)) ds d.2 in
-      let both = subst ArePlain (sym rest.2) h in
-      let one = itself j d.0 d.1 both.0 in
-      let more = themselves js rest.0 rest.1 both.1 in
-      grind arith
+  themselves json.no_items ds is h = grind arith
+  themselves (json.item j js) ds is h = grind (arith, itself j, themselves js)
 
 -- it is decoded as itself
 mutual
@@ -80,10 +82,7 @@ text_plain d s h = grind arith
 module _ {A : Type 0} (read : Data → Option A) (plain : ReadsPlain read) where
   items_plain : (ds : Items) (xs : List A) → read_items read ds ≡ Some xs → ArePlain ds
   items_plain no_items xs h = tt
-  items_plain (item d ds) xs h =
-      let x = and_then_some _ (read d) xs h in
-      let rest = map_some _ (read_items read ds) xs x.2 in
-      (plain d x.0 x.1, items_plain ds rest.0 rest.1)
+  items_plain (item d ds) xs h = grind (arith, plain d, items_plain ds)
 
   pub list_plain : ReadsPlain (list_of read)
   list_plain d xs h = search (arith, items_plain, not_found)
@@ -98,7 +97,8 @@ integer_is : (d : Data) (z : ℤ) → option_and_then as_i64 (as_number d) ≡ S
     → IsPlain d × (outline d ≡ outline (integer_data z))
 integer_is d z h = search arith
 
-three_is : {A : Type 0} (make : ℤ → ℤ → ℤ → A) (d : Data) (r : A) → three_of make d ≡ Some r
+-- data read as three whole numbers is written like a vertex
+pub three_is : {A : Type 0} (make : ℤ → ℤ → ℤ → A) (d : Data) (r : A) → three_of make d ≡ Some r
     → (p : Point) × (r ≡ make p.x p.y p.z) × IsPlain d × (outline d ≡ outline (vertex_data p))
 three_is make (array (item a (item b (item c no_items)))) r h =
     let ds = item a (item b (item c no_items)) in
@@ -111,11 +111,6 @@ three_is make (array (item a (item b (item c no_items)))) r h =
     let p : Point = record { x = x.0; y = y.0; z = z.0 } in
     (p, z.2, (first.0, (second.0, (third.0, tt))), rw (first.1, second.1, third.1) refl)
 three_is make d r h = grind arith
-
--- data read as three whole numbers is written like a vertex
-pub triple_is : (d : Data) (zs : List ℤ) → triple_of d ≡ Some zs
-    → (p : Point) × IsPlain d × (outline d ≡ outline (vertex_data p))
-triple_is d zs h = let t = three_is (λ x y z. x ∷ y ∷ z ∷ []) d zs h in (t.0, t.2, t.3)
 
 vertex_is : (d : Data) (p : Point) → point_of d ≡ Some p → IsPlain d × (outline d ≡ outline (vertex_data p))
 vertex_is d p h = search (arith, three_is)
@@ -139,15 +134,11 @@ Show vs ps = (m : ℕ) (p : Point) → slice_get ps m ≡ Some p → look.get_it
 pub shows_read : (dvs : Items) (ps : List Point) → read_items point_of dvs ≡ Some ps → Show (items_outline dvs) ps
 shows_read no_items ps h m p e = not_found p (ap (λ qs. slice_get qs m) (Some_inj _ _ h) ∙ e)
 shows_read (item d ds) ps h zero p e = search (arith, and_then_some, map_some, vertex_itself)
-shows_read (item d ds) ps h (suc m) p e =
-    let x = and_then_some _ (point_of d) ps h in
-    let rest = map_some _ (read_items point_of ds) ps x.2 in
-    shows_read ds rest.0 rest.1 m p (ap (λ qs. slice_get qs (suc m)) (sym rest.2) ∙ e)
+shows_read (item d ds) ps h (suc m) p e = search (arith, and_then_some, map_some, shows_read ds)
 
 pub shows_written : (ps : List Point) → Show (items_outline (items_of (map vertex_data ps))) ps
 shows_written [] m p e = not_found p e
-shows_written (q ∷ ps) zero p e = ap (option_map shown_point) e
-shows_written (q ∷ ps) (suc m) p e = shows_written ps m p e
+shows_written (q ∷ ps) m p e = grind (arith, shows_written ps)
 
 -- ---- boundaries as read, with the vertices themselves
 
@@ -172,12 +163,7 @@ module _ (vs : json.Items) where
     items_placed : (js : json.Items) (ds : Items) (xs : List A) → of_items js ≡ Some ds → read_items reads ds ≡ Some xs
         → placed_items vs js ≡ shown_list shows xs
     items_placed json.no_items ds xs is h = grind arith
-    items_placed (json.item j js) ds xs is h =
-        let d = bound _ (of_json j) ds is in
-        let more = mapped (item d.0) (of_items js) ds d.2 in
-        let x = and_then_some _ (reads d.0) xs (ap (read_items reads) more.2 ∙ h) in
-        let rest = map_some _ (read_items reads more.0) xs x.2 in
-        grind (arith, items_placed js more.0 rest.0 more.1 rest.1)
+    items_placed (json.item j js) ds xs is h = grind (arith, each j, items_placed js)
 
     list_placed : Places (list_of reads) (λ xs. json.array (shown_list shows xs))
     list_placed (json.array js) d xs is h = search (arith, mapped, items_placed)
@@ -240,3 +226,110 @@ module _ (pool : List Point) (small : length pool < 2 ^ 63) where
       → IsPlain (boundaries_data pool shape)
   boundaries_plain shape h = let b = nested shape in
       nested_plain pool b.0 (nested_data pool b.0 b.1) b.1 (nested_read pool small b.0 b.1 h)
+
+-- ---- properties of all points
+
+pub all_at : {A : Type 0} (P : A → Type 0) (xs : List A) (n : ℕ) (x : A) → All P xs → slice_get xs n ≡ Some x → P x
+all_at P xs n x h e = search (arith, get_or_from_slice_get, slice_get_within)
+
+pub all_repeats : (P : Point → Type 0) (ps : List Point) → All P ps → All P (without_repeats ps)
+all_repeats P [] h = h
+all_repeats P (q ∷ ps) h =
+    All-cons P q _ (All-head P q ps h) (All-filter _ P (without_repeats ps) (all_repeats P ps (All-tail P q ps h)))
+
+pub all_flat : {A B : Type 0} (P : B → Type 0) (f : A → List B) (xs : List A) → All (λ x. All P (f x)) xs
+    → All P (flat_map f xs)
+all_flat P f [] h = All-nil P
+all_flat P f (x ∷ xs) h =
+    All-append P (f x) (flat_map f xs) (All-head (λ x. All P (f x)) x xs h)
+    (all_flat P f xs (All-tail (λ x. All P (f x)) x xs h))
+
+-- ---- points without repeats
+
+abbrev AreOnce : List Point → Type 0
+AreOnce [] = Unit {0}
+AreOnce (p ∷ ps) = All (λ q. same_point p q ≡ false) ps × AreOnce ps
+
+once_left : (test : Point → Bool) (ps : List Point) → AreOnce ps → AreOnce (filter test ps)
+once_left test [] h = tt
+once_left test (p ∷ ps) h = grind (arith, All-filter test (λ q. same_point p q ≡ false) ps h.0, once_left test ps h.1)
+
+each_once : (ps : List Point) → AreOnce (without_repeats ps)
+each_once [] = tt
+each_once (p ∷ ps) =
+    let rest = without_repeats ps in
+    let apart : (q : Point) → not (same_point p q) ≡ true → same_point p q ≡ false = λ q e. grind arith in
+    (All-weaker _ _ apart _ (filter_passes (λ q. not (same_point p q)) rest), once_left _ rest (each_once ps))
+
+-- the first point isn't there again
+first_alone : (q : Point) (ps : List Point) (n : ℕ) (p : Point) → All (λ r. same_point q r ≡ false) ps → q ≡ p
+    → slice_get ps n ≡ Some p → ⊥
+first_alone q ps n p alone same h = search (arith, true≢false, all_at (λ r. same_point q r ≡ false) ps n p alone h)
+
+once_at : (ps : List Point) → AreOnce ps → (m n : ℕ) (p : Point) → slice_get ps m ≡ Some p → slice_get ps n ≡ Some p
+    → m ≡ n
+once_at [] h m n p a b = not_found p a
+once_at (q ∷ ps) h (suc m) (suc n) p a b = ap suc (once_at ps h.1 m n p a b)
+once_at (q ∷ ps) h m n p a b = search (arith, first_alone q ps, h.0)
+
+-- ---- different points are written differently
+
+in_width : (z : ℤ) → is_i64 z ≡ true → mag z < 2 ^ 63
+in_width z h = grind arith
+
+whole_is : (y z : ℤ) → is_i64 y ≡ true → is_i64 z ≡ true → number_text (of_integer y) ≡ number_text (of_integer z)
+    → y ≡ z
+whole_is y z a b e = search (arith, signed_decimal_injective, in_width, text_of_integer)
+
+-- the text of the number at an index
+abbrev number_at : ℕ → json.Json → Option (List ℕ)
+number_at n j = option_and_then look.as_number (look.at n j)
+
+point_is : (p q : Point) → is_i64_point p ≡ true → is_i64_point q ≡ true → shown_point p ≡ shown_point q → p ≡ q
+point_is p q a b e =
+    let x : p.x ≡ q.x = whole_is p.x q.x (grind arith) (grind arith) (Some_inj _ _ (ap (number_at 0) e)) in
+    let y : p.y ≡ q.y = whole_is p.y q.y (grind arith) (grind arith) (Some_inj _ _ (ap (number_at 1) e)) in
+    let z : p.z ≡ q.z = whole_is p.z q.z (grind arith) (grind arith) (Some_inj _ _ (ap (number_at 2) e)) in
+    rw (x, y, z) refl
+
+-- ---- written vertices
+
+pub vertex_at : (ps : List Point) (n : ℕ) (v : json.Json)
+    → look.get_item n (items_outline (items_of (map vertex_data ps))) ≡ Some v
+    → (p : Point) × (slice_get ps n ≡ Some p) × (shown_point p ≡ v)
+vertex_at [] n v h = not_found v h
+vertex_at (p ∷ ps) n v h = grind (arith, vertex_at ps)
+
+pub vertices_once : (ps : List Point) → list_all is_i64_point (without_repeats ps) ≡ true
+    → IsEachOnce (items_outline (items_of (map vertex_data (without_repeats ps))))
+vertices_once ps h m n v a b =
+    let pool = without_repeats ps in
+    let p = vertex_at pool m v a in
+    let q = vertex_at pool n v b in
+    let in_range = all_at (λ p. is_i64_point p ≡ true) pool in
+    let each = AllPass-from_list_all is_i64_point pool h in
+    let same = point_is p.0 q.0 (in_range m p.0 each p.1) (in_range n q.0 each q.1) (p.2 ∙ sym q.2) in
+    once_at pool (each_once ps) m n p.0 p.1 (q.1 ∙ ap Some (sym same))
+
+-- ---- points in boundaries
+
+-- each item is a part of the value shown for the list
+part_list : {A : Type 0} (f : A → json.Json) (xs : List A) (Q : A → Type 0)
+    → ((x : A) → ((v : json.Json) → IsPart v (f x) → IsPartOfOne v (shown_list f xs)) → Q x) → All Q xs
+part_list f [] Q each = All-nil Q
+part_list f (y ∷ xs) Q each =
+    All-cons Q y xs (each y (λ v p. inl p)) (part_list f xs Q (λ x into. each x (λ v p. inr (into v p))))
+
+abbrev pub IsIn : json.Json → Point → Type 0
+IsIn j p = IsPart (shown_point p) j
+
+nested_part : (n : ℕ) (x : Nested n) → All (IsIn (shown n x)) (nested_points n x)
+nested_part zero q = All-cons (IsIn (shown_point q)) q [] (inl refl) (All-nil (IsIn (shown_point q)))
+nested_part (suc n) xs =
+    let P = IsIn (shown (suc n) xs) in
+    all_flat P (nested_points n) xs
+    (part_list (shown n) xs (λ x. All P (nested_points n x))
+    (λ x into. All-weaker (IsIn (shown n x)) P (λ p part. inr (into (shown_point p) part)) _ (nested_part n x)))
+
+pub shape_part : (shape : Shape) → All (IsIn (shown_shape shape)) (shape_points shape)
+shape_part shape = let b = nested shape in nested_part b.0 b.1

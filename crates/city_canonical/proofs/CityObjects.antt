@@ -1,16 +1,16 @@
 -- Geometries and city objects read from encoded ones are written the same.
 use Rattle.city_canonical.proofs.Prelude.{arith, ◌≡◌, ℕ, ◌<◌, List, [], ◌∷◌, length, true, false, Option, Some, None}
 use Rattle.city_canonical.proofs.Prelude.{codes, refl, sym, ap, subst, ◌∙◌, ◌^◌, map, flat_map, option_map}
-use Rattle.city_canonical.proofs.Prelude.{option_and_then, and_parts, list_all-append, bytes_eq-Decides, bytes_eq}
-use Rattle.city_canonical.proofs.Prelude.{HasNumbers, ItemsHaveNumbers, MembersHaveNumbers, Some_inj, not_found, Data}
-use Rattle.city_canonical.proofs.Prelude.{string, object, Items, no_items, item, Members, no_members, put, get_member}
-use Rattle.city_canonical.proofs.Prelude.{as_str, as_array, of_json, of_items, of_members, items_of, outline}
-use Rattle.city_canonical.proofs.Prelude.{items_outline, members_outline, Geometry, Object, Point, has_id, AreOrdered}
-use Rattle.city_canonical.proofs.Prelude.{by_id, is_shielded, has_shield, encoded, encoded_items, encoded_members}
-use Rattle.city_canonical.proofs.Prelude.{decoded, decoded_items, decoded_members, mapped, bound, geometry_points}
-use Rattle.city_canonical.proofs.Prelude.{object_points, object_data, boundaries_data, listed, object_of, nested_of}
-use Rattle.city_canonical.proofs.Prelude.{geometry_type, shape_name, read_items, list_of, put_list, and_then_some}
-use Rattle.city_canonical.proofs.Prelude.{map_some, is_in, are_in, array_is, object_is, placed, or_empty, list_at}
+use Rattle.city_canonical.proofs.Prelude.{option_and_then, list_all-append, bytes_eq-Decides, bytes_eq, HasNumbers}
+use Rattle.city_canonical.proofs.Prelude.{ItemsHaveNumbers, MembersHaveNumbers, Some_inj, not_found, Data, string}
+use Rattle.city_canonical.proofs.Prelude.{object, Items, no_items, item, Members, no_members, put, get_member, as_str}
+use Rattle.city_canonical.proofs.Prelude.{as_array, of_json, of_items, of_members, items_of, outline, items_outline}
+use Rattle.city_canonical.proofs.Prelude.{members_outline, Geometry, Object, Point, has_id, AreOrdered, by_id}
+use Rattle.city_canonical.proofs.Prelude.{is_shielded, has_shield, encoded, encoded_items, encoded_members, decoded}
+use Rattle.city_canonical.proofs.Prelude.{decoded_items, decoded_members, mapped, bound, geometry_points, object_points}
+use Rattle.city_canonical.proofs.Prelude.{object_data, boundaries_data, listed, object_of, nested_of, geometry_type}
+use Rattle.city_canonical.proofs.Prelude.{shape_name, read_items, list_of, put_list, and_then_some, map_some, is_in}
+use Rattle.city_canonical.proofs.Prelude.{are_in, array_is, object_is, placed, or_empty, list_at}
 use Rattle.city_model.specs.declared.object_type.ObjectType.{ObjectType}
 use Rattle.city_model.specs.Types.{name_of, first_named, all_types, type_named}
 use Rattle.city_writer.specs.shape.Canonical.{geometry_data}
@@ -82,10 +82,7 @@ object_parts ps d o h = search (arith, read_as, and_then_some, codes, map_some, 
 
 ids_data : (ds : Items) (ids : List (List ℕ)) → read_items as_str ds ≡ Some ids → ds ≡ items_of (map string ids)
 ids_data no_items ids h = ap (λ xs. items_of (map string xs)) (Some_inj _ _ h)
-ids_data (item d ds) ids h =
-    let x = and_then_some _ (as_str d) ids h in
-    let rest = map_some _ (read_items as_str ds) ids x.2 in
-    grind (arith, ids_data ds rest.0 rest.1)
+ids_data (item d ds) ids h = grind (arith, ids_data ds)
 
 ids_list : (d : Data) (ids : List (List ℕ)) → list_of as_str d ≡ Some ids → d ≡ list_data string ids
 ids_list d ids h = let ds = and_then_some (read_items as_str) (as_array d) ids h in search (arith, array_is, ids_data)
@@ -186,8 +183,8 @@ module _ (vs ws : json.Items) (ps pool : List Point) (small : length pool < 2 ^ 
 
     placed_written : IsShown ws (json.object (decoded_members false (members_outline parts))) g
     placed_written =
-        rw (decoded_members_at false (codes "boundaries") parts parts_ordered)
-        (simp (lookups, plain_decoded bounds (boundaries_plain pool small g.shape within))
+        rw (decoded_members_at false (codes "boundaries") parts (Some bounds) parts_ordered (simp lookups))
+        (simp (plain_decoded bounds (boundaries_plain pool small g.shape within))
         (ap Some (shape_written pool small ws show_written g.shape within)))
 
     part_same : (name : List ℕ) → has_id (codes "boundaries" ∷ []) name ≡ false
@@ -220,18 +217,15 @@ module _ (vs ws : json.Items) (ps pool : List Point) (small : length pool < 2 ^ 
   geometries_same : (js : json.Items) (ds : Items) (gs : List Geometry) → ItemsHaveNumbers js
       → of_items (encoded_items js) ≡ Some ds → read_items (geometry_of ps) ds ≡ Some gs
       → are_in pool (flat_map geometry_points gs) ≡ true → AreWritten vs ws pool js gs
-  geometries_same json.no_items ds gs numbers is h within =
-      rw (← Some_inj _ _ (ap (read_items (geometry_of ps)) (Some_inj _ _ is) ∙ h)) (tt, tt)
-  geometries_same (json.item j js) ds gs numbers is h within =
+  geometries_same json.no_items ds [] numbers is h within = (tt, tt)
+  geometries_same (json.item j js) ds (g ∷ gs) numbers is h within =
       let d = bound _ (of_json (encoded j)) ds is in
       let more = mapped (item d.0) (of_items (encoded_items js)) ds d.2 in
-      let g = and_then_some _ (geometry_of ps d.0) gs (ap (read_items (geometry_of ps)) more.2 ∙ h) in
-      let rest = map_some _ (read_items (geometry_of ps) more.0) gs g.2 in
-      let both = and_parts (are_in pool (geometry_points g.0)) (are_in pool (flat_map geometry_points rest.0))
-      (sym (list_all-append (is_in pool) (geometry_points g.0) _) ∙ (rw rest.2 at within)) in
-      let first = geometry_same j d.0 g.0 numbers.0 d.1 g.1 both.0 in
-      let later = geometries_same js more.0 rest.0 numbers.1 more.1 rest.1 both.1 in
-      rw rest.2 ((first.0, later.0), (first.1, later.1))
+      let apart = list_all-append (is_in pool) (geometry_points g) (flat_map geometry_points gs) in
+      let first = geometry_same j d.0 g numbers.0 d.1 (grind arith) (grind arith) in
+      let later = geometries_same js more.0 gs numbers.1 more.1 (grind arith) (grind arith) in
+      ((first.0, later.0), (first.1, later.1))
+  geometries_same js ds gs numbers is h within = grind arith
 
   module _ (js : json.Members) (d : Data) (o : Object) (p : IsObjectOf ps d o)
       (read : of_members (encoded_members false js) no_members ≡ Some p.ms) (numbers : MembersHaveNumbers js)
@@ -257,13 +251,9 @@ module _ (vs ws : json.Items) (ps pool : List Point) (small : length pool < 2 ^ 
     all_ordered : AreOrdered all
     all_ordered = rw p.extra (search (ordered, read) depth 12)
 
-    found_at : (name : List ℕ) (r : Option Data) → get_member name all ≡ r
-        → look.get_member name (decoded_members false (members_outline all)) ≡ option_map (value_at false name) r
-    found_at name r is = decoded_members_at false name all all_ordered ∙ ap (option_map (value_at false name)) is
-
     there : look.get_member (codes "geometry") (decoded_members false (members_outline all))
         ≡ option_map (value_at false (codes "geometry")) (listed (geometry_data pool) o.body.geometry)
-    there = found_at (codes "geometry") (listed (geometry_data pool) o.body.geometry) (rw p.extra (simp lookups))
+    there = decoded_members_at false (codes "geometry") all _ all_ordered (rw p.extra (simp lookups))
 
     list_there : list_at (codes "geometry") (json.object (decoded_members false (members_outline all)))
         ≡ decoded_items (items_outline (items_of (map (geometry_data pool) o.body.geometry)))
@@ -284,9 +274,11 @@ module _ (vs ws : json.Items) (ps pool : List Point) (small : length pool < 2 ^ 
             names = ascend_decoded false all all_ordered;
             members = λ name apart.
                 member_same false name js p.ms all refl numbers read all_ordered (same_at name apart);
-            parents = found_at (codes "parents") (listed string o.parents) (rw p.extra (simp lookups))
+            parents = decoded_members_at false (codes "parents") all (listed string o.parents) all_ordered
+                (rw p.extra (simp lookups))
                 ∙ ids_same (codes "parents") js p.ms o.parents _ (λ j. refl) (λ j. refl) read refl p.parents;
-            children = found_at (codes "children") (listed string o.children) (rw p.extra (simp lookups))
+            children = decoded_members_at false (codes "children") all (listed string o.children) all_ordered
+                (rw p.extra (simp lookups))
                 ∙ ids_same (codes "children") js p.ms o.children _ (λ j. refl) (λ j. refl) read refl p.children;
             geometry = rw list_there geometries.0;
             not_empty = ap unless_empty there ∙ (listed_both (geometry_data pool) o.body.geometry).1 ∙ sym there;

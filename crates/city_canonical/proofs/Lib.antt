@@ -5,5 +5,3 @@ pub mod Members
 pub mod Models
 pub mod Prelude
 pub mod Texts
-pub mod Transforms
-pub mod Vertices

@@ -1,4 +1,4 @@
--- Members read from encoded ones, and members decoded from written ones.
+-- Members read from encoded ones, and members decoded from written ones; a framed transform, written in its frame.
 use Rattle.city_canonical.proofs.Prelude.{arith, ◌≡◌, ℕ, List, [], ◌∷◌, Bool, false, cond, Option, Some, None, nat_cmp}
 use Rattle.city_canonical.proofs.Prelude.{codes, refl, sym, ap, subst, ◌∙◌, ◌&&◌, option_map, bytes_eq, slice_cmp}
 use Rattle.city_canonical.proofs.Prelude.{AllByRecursion, is_eq-slice_cmp, bytes_eq-Decides, HasNumbers}
@@ -6,21 +6,27 @@ use Rattle.city_canonical.proofs.Prelude.{MembersHaveNumbers, Some_inj, not_foun
 use Rattle.city_canonical.proofs.Prelude.{Members, no_members, member, put, get_member, as_str, of_json, of_items}
 use Rattle.city_canonical.proofs.Prelude.{of_members, outline, members_outline, same_id, has_id, AreOrdered, by_id}
 use Rattle.city_canonical.proofs.Prelude.{is_tag, is_shielded, encoded, encoded_items, encoded_members, number_in}
-use Rattle.city_canonical.proofs.Prelude.{out_of_form, decoded, decoded_members, arranged, kept, put_list, listed}
-use Rattle.city_canonical.proofs.Prelude.{and_then_some}
-use Rattle.std.proofs.Common.{Ordering, Equal, is_eq}
+use Rattle.city_canonical.proofs.Prelude.{out_of_form, decoded, decoded_members, arranged, put_list, listed}
+use Rattle.city_canonical.proofs.Prelude.{and_then_some, ℤ, true, number_of-decimal, transform_data, triple_of}
+use Rattle.std.proofs.Common.{Ordering, Equal, is_eq, pos}
 use Rattle.std.specs.Option.{option_or}
 use Rattle.std.specs.Ordering.{match_ordering}
-use Rattle.std.proofs.lemmas.Bool.{or_parts}
+use Rattle.std.proofs.lemmas.Bool.{and_from}
 use Rattle.std.proofs.lemmas.Map.Lookups.{exact_bytes}
 use Rattle.serde_json.proofs.Views.{get_member-put}
 use Rattle.city_model.specs.Members.{without, AllAbove}
 use Rattle.city_model.proofs.Ids.{same_id_itself, same_id_back}
+use Rattle.city_model.proofs.MemberLists.{ordered_without}
 use Rattle.city_model.proofs.MemberLaws.{get_member-without, get_member-without_same}
-use Rattle.city_decimals.specs.Shapes.{form_of, in_form}
-use Rattle.city_decimals.proofs.Kept.{kept_at}
-use Rattle.city_doc.proofs.Laws.{get_member-put_apart, ordered_put}
+use Rattle.city_decimals.specs.Shapes.{form_of, in_form, is_triple, is_frame, framed}
+use Rattle.city_decimals.proofs.Kept.{kept, kept_at, transform_kept}
+use Rattle.city_doc.proofs.Laws.{get_member-put_apart, ordered_put, HasFrameParts}
 use Rattle.city_canonical.specs.Members.{IsBelow, Ascend}
+use Rattle.std.proofs.lemmas.Fmt.{decimal_digit}
+use Rattle.city_model.specs.declared.frame.Frame.{Frame}
+use Rattle.city_tokens.specs.document.Frames.{triple_at, without_transform_members, without_top_members}
+use Rattle.city_writer.specs.tree.Lists.{triple_data}
+use Rattle.city_canonical.proofs.Boundaries.{three_is, itself}
 use Rattle.json.specs.Json as json
 use Rattle.json.specs.Find as look
 
@@ -51,8 +57,7 @@ string_is d s h = grind arith
 pub apart_from : (names : List (List ℕ)) (name : List ℕ) → has_id names name ≡ false
     → AllByRecursion (λ n. same_id name n ≡ false) names
 apart_from [] name h = tt
-apart_from (n ∷ names) name h =
-    let both = or_parts (same_id name n) (has_id names name) h in (both.0, apart_from names name both.1)
+apart_from (n ∷ names) name h = grind (arith, apart_from names name)
 
 pub at_put : (name k : List ℕ) (d : Data) (ms : Members)
     → get_member name (put k d ms) ≡ cond (same_id name k) (Some d) (get_member name ms)
@@ -97,8 +102,7 @@ pub read_members : (top : Bool) (name : List ℕ) (ms : json.Members) (before ds
 read_members top name json.no_members before ds h = ap (get_member name) (sym (Some_inj _ _ h))
 read_members top name (json.member k j ms) before ds h =
     let d = and_then_some _ (member_read top k j) ds h in
-    read_step top name k j d.0 before (get_member name ds) (bytes_eq k name) (look.get_member name ms) refl d.1
-    (read_members top name ms (put k d.0 before) ds d.2)
+    search (arith, read_step top name k j d.0 before, read_members top name ms)
 
 found_step : (top : Bool) (name : List ℕ) (o : Option json.Json) (r : Option Data) (d : Data)
     → IsRead top name None o r → r ≡ Some d → (j : json.Json) × (o ≡ Some j) × (member_read top name j ≡ Some d)
@@ -117,14 +121,6 @@ none_read top name ms ds is h = grind (arith, read_members top name ms no_member
 
 -- ---- the names ascend
 
-above_without : (k name : List ℕ) (ms : Members) → AllAbove k ms → AllAbove k (without name ms)
-above_without k name no_members h = tt
-above_without k name (member l d ms) h = grind (arith, above_without k name ms h.1)
-
-pub ordered_without : (name : List ℕ) (ms : Members) → AreOrdered ms → AreOrdered (without name ms)
-ordered_without name no_members h = tt
-ordered_without name (member l d ms) h = grind (arith, ordered_without name ms h.1, above_without l name ms h.0)
-
 pub ordered_put_list : {A : Type 0} (name : List ℕ) (f : A → Data) (xs : List A) (ms : Members) → AreOrdered ms
     → AreOrdered (put_list name f xs ms)
 ordered_put_list name f xs ms h = search (arith, ordered_put)
@@ -132,8 +128,7 @@ ordered_put_list name f xs ms h = search (arith, ordered_put)
 pub ordered_read : (ms : json.Members) (before ds : Members) → of_members ms before ≡ Some ds → AreOrdered before
     → AreOrdered ds
 ordered_read json.no_members before ds is h = subst AreOrdered (Some_inj _ _ is) h
-ordered_read (json.member k j ms) before ds is h =
-    let d = and_then_some _ (of_json j) ds is in ordered_read ms (put k d.0 before) ds d.2 (ordered_put k d.0 before h)
+ordered_read (json.member k j ms) before ds is h = search (arith, and_then_some, ordered_put, ordered_read ms)
 
 pub ruleset ordered = (ordered_put, ordered_without, ordered_put_list, ordered_read)
 
@@ -164,12 +159,12 @@ decoded_step : (f : List ℕ → Data → json.Json) (name l : List ℕ) (d : Da
 decoded_step f name l d r o same = grind arith
 
 -- if the names ascend, a member found in the decoding is the decoding of the member found
-pub decoded_members_at : (top : Bool) (name : List ℕ) (ds : Members) → AreOrdered ds
-    → look.get_member name (decoded_members top (members_outline ds)) ≡ option_map (value_at top name)
-    (get_member name ds)
-decoded_members_at top name no_members h = refl
-decoded_members_at top name (member l d ds) h =
-    rw (decoded_members_at top name ds h.1, ← is_eq-slice_cmp l name, same_id_back l name)
+pub decoded_members_at : (top : Bool) (name : List ℕ) (ds : Members) (r : Option Data) → AreOrdered ds
+    → get_member name ds ≡ r
+    → look.get_member name (decoded_members top (members_outline ds)) ≡ option_map (value_at top name) r
+decoded_members_at top name no_members r h is = ap (option_map (value_at top name)) is
+decoded_members_at top name (member l d ds) r h is =
+    rw (← is, decoded_members_at top name ds _ h.1 refl, ← is_eq-slice_cmp l name, same_id_back l name)
     (decoded_step (value_at top) name l d (get_member name ds) (slice_cmp nat_cmp name l)
     (λ e. let same = exact_bytes name l e in (same, rw same (not_above l ds h.0))))
 
@@ -190,16 +185,11 @@ decoded_object ms h = rw h refl
 no_frame : (a b c : Bool) → (a && b) ≡ false → (a && (b && c)) ≡ false
 no_frame a b c e = grind arith
 
-kept_form : (name : List ℕ) (j : json.Json) (d : Data) → HasNumbers j → member_read false name j ≡ Some d
-    → value_at false name d ≡ arranged j
-kept_form name j d h is =
-    let k = kept_at name j (is_shielded name j) refl (kept j h) in
-    ap (value_at false name) (Some_inj _ _ (sym is ∙ k.read)) ∙ k.back
-
 kept_value : (top : Bool) (name : List ℕ) (j : json.Json) → HasNumbers j
     → (top && bytes_eq name (codes "transform")) ≡ false → (d : Data) → member_read top name j ≡ Some d
     → value_at top name d ≡ arranged j
-kept_value top name j h e d is = search (arith, no_frame, codes, kept_form)
+kept_value top name j h e d is =
+    search (arith, no_frame, codes, kept_at name j (is_shielded name j) refl (kept j h))
 
 -- ---- a member of an object
 
@@ -221,4 +211,75 @@ pub member_same : (top : Bool) (name : List ℕ) (ms : json.Members) (ds written
 member_same top name ms ds written e h is order same =
     let read = read_members top name ms no_members ds is in
     let numbers = numbers_at name ms h in
-    rw (decoded_members_at top name written order, same) (search (arith, kept_value))
+    rw (decoded_members_at top name written (get_member name ds) order same) (search (arith, kept_value))
+
+-- ---- the source of a frame
+
+pub record IsFrameOf (ms : Members) (f : Frame) : Type 0 where
+  pub transform : Data
+  pub there : get_member (codes "transform") ms ≡ Some transform
+  pub members : Members
+  pub is : transform ≡ object members
+  pub scale : triple_at (codes "scale") transform ≡ Some f.scale
+  pub translate : triple_at (codes "translate") transform ≡ Some f.translate
+  pub more : f.more ≡ without_transform_members members
+  pub extra : f.extra ≡ without_top_members ms
+
+pub frame_read : (d : Data) (f : Frame) (p : HasFrameParts d f) → IsFrameOf p.top f
+frame_read d f p = grind arith
+
+-- ---- the transform in a frame
+
+-- the members of a frame round the data
+abbrev framed_members : Data → Members
+framed_members d =
+    member (codes "#") d
+    (member (codes "scale") (triple_data (pos 1 ∷ pos 1 ∷ pos 1 ∷ []))
+    (member (codes "translate") (triple_data (pos 0 ∷ pos 0 ∷ pos 0 ∷ [])) no_members))
+
+framed_read : (j : json.Json) (d : Data) → of_json j ≡ Some d → of_json (framed j) ≡ Some (object (framed_members d))
+framed_read j d h =
+    search (arith, decimal_digit 1 (omega arith), decimal_digit 0 (omega arith), number_of-decimal)
+
+framed_written : (d : Data) → outline (object (framed_members d)) ≡ framed (outline d)
+framed_written d = search (arith, decimal_digit)
+
+-- ---- the transform comes back
+
+triple_there : (name : List ℕ) → ((j : json.Json) → member_read false name j ≡ of_json (encoded j))
+    → ((s : List ℕ) → get_member name (member (codes "#") (string s) no_members) ≡ None)
+    → (j : json.Json) (ms : Members) (zs : List ℤ) → of_json (encoded j) ≡ Some (object ms)
+    → triple_at name (object ms) ≡ Some zs → is_triple (look.get name j) ≡ true
+triple_there name bare none j ms zs is h =
+    let v = and_then_some triple_of (get_member name ms) zs h in
+    let o = object_read (get_member name) v.0 j ms none v.1 is in
+    let found = found_read false name o.ms ms v.0 o.read v.1 in
+    let t = three_is (λ x y z. x ∷ y ∷ z ∷ []) v.0 zs v.2 in
+    rw (o.is, found.1) (search (arith, itself found.0 v.0, bare))
+
+module _ (ms : Members) (f : Frame) (p : IsFrameOf ms f) (t : json.Json) (numbers : HasNumbers t)
+    (is : member_read true (codes "transform") t ≡ Some p.transform) where
+  framed_there : (b : Bool) → is_frame t ≡ b → is_frame t ≡ true
+  framed_there true e = e
+  framed_there false e =
+      let read : of_json (encoded t) ≡ Some (object p.members) = (rw e at is) ∙ ap Some p.is in
+      and_from (is_triple (look.get (codes "scale") t)) (is_triple (look.get (codes "translate") t))
+      (triple_there (codes "scale") (λ j. refl) (λ s. refl) t p.members f.scale read (rw p.is at p.scale))
+      (triple_there (codes "translate") (λ j. refl) (λ s. refl) t p.members f.translate read (rw p.is at p.translate))
+
+  pub transform_same : value_at true (codes "transform") (transform_data f) ≡ arranged t
+  transform_same =
+      let e = framed_there (is_frame t) refl in
+      let k = kept t numbers in
+      let same : object (framed_members k.d) ≡ p.transform =
+      Some_inj _ _ (sym (framed_read (encoded t) k.d k.read) ∙ (rw e at is)) in
+      let members : framed_members k.d ≡ p.members = let all = same ∙ p.is in cc in
+      let scale : f.scale ≡ pos 1 ∷ pos 1 ∷ pos 1 ∷ [] =
+      sym (Some_inj _ _ (ap (triple_at (codes "scale")) same ∙ p.scale)) in
+      let translate : f.translate ≡ pos 0 ∷ pos 0 ∷ pos 0 ∷ [] =
+      sym (Some_inj _ _ (ap (triple_at (codes "translate")) same ∙ p.translate)) in
+      let more : f.more ≡ member (codes "#") k.d no_members = p.more ∙ ap without_transform_members (sym members) in
+      let whole : transform_data f ≡ object (framed_members k.d) = rw (scale, translate, more) refl in
+      ap (value_at true (codes "transform")) whole
+      ∙ ap (λ j. out_of_form true (codes "transform") j (decoded j)) (framed_written k.d)
+      ∙ transform_kept t numbers e k.d k.read

@@ -4,21 +4,19 @@ use Rattle.city_canonical.proofs.Prelude.{Some, None, nat_cmp, codes, refl, sym,
 use Rattle.city_canonical.proofs.Prelude.{option_map, option_and_then, slice_cmp, All, and_parts, All-nil, All-cons}
 use Rattle.city_canonical.proofs.Prelude.{All-weaker, list_all-append, is_eq-slice_cmp, bytes_eq-Decides, HasNumbers}
 use Rattle.city_canonical.proofs.Prelude.{MembersHaveNumbers, Some_inj, not_found, Data, string, array, object, Items}
-use Rattle.city_canonical.proofs.Prelude.{Members, no_members, member, put, get, get_member, as_array, of_json}
-use Rattle.city_canonical.proofs.Prelude.{of_members, items_of, outline, items_outline, members_outline, Geometry}
-use Rattle.city_canonical.proofs.Prelude.{Object, Point, CityValue, same_id, has_id, AreOrdered, by_id, is_shielded}
-use Rattle.city_canonical.proofs.Prelude.{has_shield, only, encoded, encoded_members, encoded_top, number_in}
-use Rattle.city_canonical.proofs.Prelude.{decoded_members, decoded_top, geometry_points, object_points}
-use Rattle.city_canonical.proofs.Prelude.{pool_of, IsInRange, transform_data, tree_of, object_data, vertex_data}
-use Rattle.city_canonical.proofs.Prelude.{object_of, read_items, point_of, points_of, and_then_some, map_some, is_in}
-use Rattle.city_canonical.proofs.Prelude.{are_in, array_is, object_is, or_empty, list_at}
+use Rattle.city_canonical.proofs.Prelude.{Members, no_members, member, put, get_member, of_json, of_members, items_of}
+use Rattle.city_canonical.proofs.Prelude.{outline, items_outline, members_outline, Geometry, Object, Point, CityValue}
+use Rattle.city_canonical.proofs.Prelude.{same_id, has_id, AreOrdered, by_id, is_shielded, has_shield, only, encoded}
+use Rattle.city_canonical.proofs.Prelude.{encoded_members, encoded_top, number_in, decoded_members, decoded_top}
+use Rattle.city_canonical.proofs.Prelude.{geometry_points, object_points, pool_of, IsInRange, transform_data, tree_of}
+use Rattle.city_canonical.proofs.Prelude.{object_data, vertex_data, object_of, read_items, point_of, and_then_some}
+use Rattle.city_canonical.proofs.Prelude.{is_in, are_in, array_is, object_is, or_empty, list_at}
 use Rattle.std.specs.FinMap.{entries}
 use Rattle.std.specs.List.{Contains}
 use Rattle.std.proofs.lemmas.Cmp.{nat_list_cmp_total, eq_by_cmp_equiv}
 use Rattle.std.proofs.lemmas.List.Elements.{All-contains_itself}
 use Rattle.std.proofs.lemmas.Map.Keys.{IsDistinct-from_sorted}
 use Rattle.std.proofs.lemmas.Map.Views.{lookup-from_Contains}
-use Rattle.serde_json.specs.Find.{as_object}
 use Rattle.city_model.specs.CityMap.{Entries, found_in}
 use Rattle.city_model.proofs.Objects.{at_entries, entries_ascend}
 use Rattle.city_writer.specs.Pool.{city_points}
@@ -34,11 +32,11 @@ use Rattle.city_canonical.specs.Same.{IsUsed, IsSameObjectOrNone, IsSameModel}
 use Rattle.city_canonical.proofs.CityObjects.{IsShown, AreShown, object_same, object_decoded}
 use Rattle.city_canonical.proofs.Members.{IsRead, member_read, value_at, object_read, found_read, read_members, lookups}
 use Rattle.city_canonical.proofs.Members.{ordered, ascend_decoded, decoded_members_at, no_number, decoded_object}
-use Rattle.city_canonical.proofs.Members.{Numbers, numbers_at, member_same, apart_from}
+use Rattle.city_canonical.proofs.Members.{Numbers, numbers_at, member_same, apart_from, IsFrameOf, frame_read}
+use Rattle.city_canonical.proofs.Members.{transform_same}
 use Rattle.city_canonical.proofs.Boundaries.{Show, shown_point, shown_shape, shows_read, shows_written, ArePlain}
-use Rattle.city_canonical.proofs.Boundaries.{vertices_plain, itself, plain_decoded}
-use Rattle.city_canonical.proofs.Vertices.{IsIn, all_at, all_repeats, all_flat, vertex_at, vertices_once, shape_part}
-use Rattle.city_canonical.proofs.Transforms.{IsFrameOf, frame_read, transform_same}
+use Rattle.city_canonical.proofs.Boundaries.{vertices_plain, itself, plain_decoded, IsIn, all_at, all_repeats, all_flat}
+use Rattle.city_canonical.proofs.Boundaries.{vertex_at, vertices_once, shape_part}
 use Rattle.json.specs.Json as json
 use Rattle.json.specs.Find as look
 use Rattle.city_model.specs.CityMap as city
@@ -67,12 +65,7 @@ city_parts d c h =
     let s = stands_for d c h in
     let frame = frame_parts d c.0 s.frame in
     let is = object_is d frame.top frame.is_top in
-    let texts = and_parts (is_text (codes "CityJSON") (get (codes "type") d))
-    (is_text (codes "2.0") (get (codes "version") d)) s.json in
-    let objects = and_then_some as_object (get (codes "CityObjects") d) _ s.objects in
-    let vertices = and_then_some points_of (get (codes "vertices") d) _ s.points in
-    let items = and_then_some (read_items point_of) (as_array vertices.0) _ vertices.2 in
-    (frame.top, is, search (arith, codes, text_is, frame_read, object_is, array_is))
+    (frame.top, is, search (arith, codes, text_is, frame_read, object_is, array_is, and_then_some, and_parts))
 
 -- the top was read from an object
 top_read : (j : json.Json) (ms : Members) (d : Data) → of_json (encoded_top j) ≡ Some (object ms)
@@ -93,11 +86,8 @@ turn_number pool es = refl
 
 found_none : (ps : List Point) (ms : Members) (es : Entries) (id : List ℕ) → entries_of ps ms ≡ Some es
     → get_member id ms ≡ None → found_in es id ≡ None
-found_none ps no_members es id read h = rw (← Some_inj _ _ read) refl
-found_none ps (member k x ms) es id read h =
-    let o = and_then_some _ (object_of ps x) es read in
-    let r = map_some _ (entries_of ps ms) es o.2 in
-    grind (arith, found_none ps ms r.0 id r.1)
+found_none ps no_members es id read h = grind arith
+found_none ps (member k x ms) es id read h = grind (arith, found_none ps ms)
 
 -- the points of an object are among the city's
 points_within : (pool : List Point) (es : Entries) (id : List ℕ) (o : Object)
@@ -105,10 +95,8 @@ points_within : (pool : List Point) (es : Entries) (id : List ℕ) (o : Object)
     → are_in pool (object_points o) ≡ true
 points_within pool [] id o all h = not_found o h
 points_within pool (e ∷ es) id o all h =
-    let rest = flat_map (λ e. object_points e.1) es in
-    let both = and_parts (are_in pool (object_points e.1)) (are_in pool rest)
-    (sym (list_all-append (is_in pool) (object_points e.1) rest) ∙ all) in
-    grind (arith, points_within pool es id o both.1)
+    let apart = list_all-append (is_in pool) (object_points e.1) (flat_map (λ e. object_points e.1) es) in
+    grind (arith, apart, points_within pool es id o)
 
 -- an id is no shielded name
 bare_read : (ps : List Point) (id : List ℕ) (j : json.Json) (d : Data) (o : Object) (b : Bool)
@@ -157,16 +145,12 @@ module _ (js : json.Members) (ms : Members) (c : CityValue) (numbers : MembersHa
   all_ordered : AreOrdered all
   all_ordered = rw p.frame.extra (search (ordered, read) depth 12)
 
-  found_at : (name : List ℕ) (d : Data) → get_member name all ≡ Some d
-      → look.get name back ≡ Some (value_at true name d)
-  found_at name d is = rw (decoded_members_at true name all all_ordered, is) refl
-
   -- kept members
 
   transform_is : IsSameAt (json.object js) back (codes "transform")
   transform_is =
       let t = found_read true (codes "transform") js ms p.frame.transform read p.frame.there in
-      found_at (codes "transform") (transform_data c.0) (simp lookups)
+      decoded_members_at true (codes "transform") all (Some (transform_data c.0)) all_ordered (simp lookups)
       ∙ rw t.1
       (ap Some (transform_same ms c.0 p.frame t.0 (rw t.1 at (numbers_at (codes "transform") js numbers)) t.2))
 
@@ -194,7 +178,7 @@ module _ (js : json.Members) (ms : Members) (c : CityValue) (numbers : MembersHa
 
   vertices_back : list_at (codes "vertices") back ≡ items_outline (items_of (map vertex_data pool))
   vertices_back =
-      rw (found_at (codes "vertices") (vertices_data pool) (simp lookups))
+      rw (decoded_members_at true (codes "vertices") all (Some (vertices_data pool)) all_ordered (simp lookups))
       (ap (λ j. or_empty (look.as_array j)) (plain_decoded (vertices_data pool) (points_plain pool)))
 
   abbrev vs : json.Items
@@ -222,7 +206,8 @@ module _ (js : json.Members) (ms : Members) (c : CityValue) (numbers : MembersHa
 
   objects_there : look.get (codes "CityObjects") back ≡ Some (json.object turned)
   objects_there =
-      found_at (codes "CityObjects") (objects_data pool (entries c.1)) (simp lookups)
+      decoded_members_at true (codes "CityObjects") all (Some (objects_data pool (entries c.1))) all_ordered
+      (simp lookups)
       ∙ rw (written_in_turn pool (entries c.1) (entries_ascend c.1))
       (ap Some (decoded_object turn (turn_number pool (entries c.1))))
 
@@ -238,9 +223,10 @@ module _ (js : json.Members) (ms : Members) (c : CityValue) (numbers : MembersHa
       (o.ms, there, o.read, rw there at (numbers_at (codes "CityObjects") js numbers))
 
   turn_found : (id : List ℕ) (r : Option Object) → found_in (entries c.1) id ≡ r
-      → look.get_member id turned ≡ option_map (λ o. value_at false id (object_data pool o)) r
+      → look.get_member id turned ≡ option_map (value_at false id) (option_map (object_data pool) r)
   turn_found id r is =
-      rw (decoded_members_at false id turn turn_ordered, turn_at pool (entries c.1) id, is) (grind arith)
+      decoded_members_at false id turn (option_map (object_data pool) r) turn_ordered
+      (turn_at pool (entries c.1) id ∙ ap (option_map (object_data pool)) is)
 
   same_found : (id : List ℕ) → found_in (entries c.1) id ≡ found_in p.list id
   same_found id = ap (λ m. m id) (sym (at_entries c.1)) ∙ ap (λ x. city.object_at x id) p.made

@@ -15,11 +15,10 @@ pub use Rattle.json.specs.Tree.{HasNumbers, ItemsHaveNumbers, MembersHaveNumbers
 pub use Rattle.serde_json.proofs.Numbers.{number_of-decimal}
 pub use Rattle.serde_json.specs.Data.{Data, Items, Members, array, item, member, no_items, no_members, object, put}
 pub use Rattle.serde_json.specs.Data.{string}
-pub use Rattle.serde_json.specs.Find.{as_array, as_str, get, get_member}
+pub use Rattle.serde_json.specs.Find.{as_array, as_str, get_member}
 pub use Rattle.serde_json.specs.Read.{of_items, of_json, of_members}
 pub use Rattle.serde_json.specs.View.{items_of}
 pub use Rattle.serde_json.specs.Written.{items_outline, members_outline, outline}
-pub use Rattle.city_decimals.proofs.Kept.{kept}
 pub use Rattle.city_decimals.proofs.Wholes.{bound, mapped}
 pub use Rattle.city_decimals.specs.Arranged.{arranged}
 pub use Rattle.city_decimals.specs.Decoded.{decoded, decoded_items, decoded_members, decoded_top, number_in}

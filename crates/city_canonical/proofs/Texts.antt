@@ -1,8 +1,8 @@
 -- The decoded text is a text of the same model.
-use Rattle.city_canonical.proofs.Prelude.{◌≡◌, ℕ, List, [], Bool, true, false, cond, Option, Some, sym, ap, subst, ◌∙◌}
-use Rattle.city_canonical.proofs.Prelude.{arith, option_and_then, HasNumbers, ItemsHaveNumbers, MembersHaveNumbers}
-use Rattle.city_canonical.proofs.Prelude.{not_found, Data, of_json, outline, CityValue, only, encoded_top, number_in}
-use Rattle.city_canonical.proofs.Prelude.{out_of_form, decoded, decoded_items, decoded_members, decoded_top, IsDecoded}
+use Rattle.city_canonical.proofs.Prelude.{◌≡◌, ℕ, List, [], Bool, true, false, cond, Some, sym, ap, subst, ◌∙◌, arith}
+use Rattle.city_canonical.proofs.Prelude.{option_and_then, HasNumbers, ItemsHaveNumbers, MembersHaveNumbers, not_found}
+use Rattle.city_canonical.proofs.Prelude.{Data, of_json, outline, CityValue, only, encoded_top, number_in, out_of_form}
+use Rattle.city_canonical.proofs.Prelude.{decoded, decoded_items, decoded_members, decoded_top, IsDecoded}
 use Rattle.city_canonical.proofs.Prelude.{IsDecimalsFault, DocumentFault, pool_of, tree_of, IsInRange, IsTextOfCity}
 use Rattle.city_canonical.proofs.Prelude.{and_then_some}
 use Rattle.std.proofs.Common.{◌≤◌, append-nil}
@@ -10,7 +10,7 @@ use Rattle.std.specs.Str.{IsUtf8}
 use Rattle.json.specs.Json.{Json, array, object, Items, no_items, item, Members, no_members, member, value, if_last}
 use Rattle.json.specs.Json.{max_depth, document}
 use Rattle.json.specs.Lex.{tokens}
-use Rattle.json.specs.Print.{print, IsNumber}
+use Rattle.json.specs.Print.{print}
 use Rattle.json.specs.Token.{Token}
 use Rattle.json.specs.Tree.{json_tokens, depth, items_depth, members_depth}
 use Rattle.json.proofs.Found.{one_reading}
@@ -48,18 +48,14 @@ only_tame j = search (arith, only_numbers)
 out_tame : (top : Bool) (k : List ℕ) (i j r : Json) → IsTame j r → IsTame j (out_of_form top k i r)
 out_tame top k i j r h = let f = fronted_tame r in let o = only_tame r in search (arith, chosen)
 
-number_is : (ms : Members) (t : List ℕ) → number_in ms ≡ Some t → IsNumber t
-number_is ms t h = grind arith
-
-or_tame : (o : Option (List ℕ)) (ms rs : Members) → ((t : List ℕ) → o ≡ Some t → IsNumber t)
-    → (MembersHaveNumbers ms → MembersHaveNumbers rs) × (members_depth rs ≤ members_depth ms)
-    → IsTame (object ms) (number_or o rs)
-or_tame o ms rs each h = grind arith
+or_tame : (ms rs : Members) → (MembersHaveNumbers ms → MembersHaveNumbers rs) × (members_depth rs ≤ members_depth ms)
+    → IsTame (object ms) (number_or (number_in ms) rs)
+or_tame ms rs h = grind arith
 
 mutual
   tame : (j : Json) → IsTame j (decoded j)
   tame (array js) = let r = items_tame js in (r.0, omega arith)
-  tame (object ms) = or_tame (number_in ms) ms (decoded_members false ms) (number_is ms) (members_tame false ms)
+  tame (object ms) = or_tame ms (decoded_members false ms) (members_tame false ms)
   tame j = ((λ h. h), omega arith)
 
   items_tame : (js : Items)
@@ -73,7 +69,7 @@ mutual
   members_tame top (member k j ms) = grind (arith, out_tame top k j j (decoded j) (tame j), tame j, members_tame top ms)
 
 top_tame : (j : Json) → IsTame j (decoded_top j)
-top_tame (object ms) = or_tame (number_in ms) ms (decoded_members true ms) (number_is ms) (members_tame true ms)
+top_tame (object ms) = or_tame ms (decoded_members true ms) (members_tame true ms)
 top_tame j = tame j
 
 -- ---- texts
@@ -122,9 +118,8 @@ written_read : (written : List ℕ) (c : CityValue) → IsTextOfCity written c �
 written_read written c stands same =
     let i = outline (tree_of c) in
     let parsed = and_then_some of_json _ stands.0 stands.1.1 in
-    let shallow : depth i ≤ max_depth =
-    omega (arith, (tokens_read serde.max_depth i parsed.0 (tokens written) same parsed.1).1) in
-    grind (arith, append-nil (json_tokens i), value-json_tokens i max_depth [] shallow)
+    let was = tokens_read serde.max_depth i parsed.0 (tokens written) same parsed.1 in
+    grind (arith, append-nil (json_tokens i), value-json_tokens i max_depth [] (omega (arith, was.1)))
 
 pub decode_fault : (text written : List ℕ) (c : CityValue) (f : DecimalsFault) → IsTextOfCity written c
     → tokens written ≡ tokens_of (tree_of c) → IsDecimalsFault written f → IsCanonicalFault text (fault_of f)
