@@ -1,6 +1,5 @@
 use Rattle.city_txn.proofs.Prelude.{arith, true, ◌≡◌, ◌∙◌, ◌∷◌, ap, sym, same_id_true, same_id_itself, BeforeImage}
 use Rattle.city_txn.proofs.Prelude.{state_of, State, store_own, store_written, is_reserved, log_of, marked}
-use Rattle.city_txn.proofs.Touched.{touches_itself}
 use Rattle.city_txn.proofs.UndoLogs.{noted_marked}
 use Rattle.city_txn.proofs.store.Store.note.Goals as goal
 
@@ -35,12 +34,3 @@ returns-clause-marks c =
 pub returns-clause-ok : goal.returns-clause-ok
 returns-clause-ok c =
     let e = c.in_ok-push.ensures.ok c.args.stamp in let key = c.in_ok-key.ensures in grind (arith, same_id_itself)
-
-pub returns-then-is_empty-clause-touches : goal.returns-then-is_empty-clause-touches
-returns-then-is_empty-clause-touches c = touches_itself _ _ _
-
-pub returns-in_err-key-clause-touches : goal.returns-in_err-key-clause-touches
-returns-in_err-key-clause-touches c = touches_itself _ _ _
-
-pub returns-in_err-write-clause-touches : goal.returns-in_err-write-clause-touches
-returns-in_err-write-clause-touches c = touches_itself _ _ _
