@@ -1,10 +1,12 @@
 -- A value without a float, put among members without one.
-use Rattle.city_details.proofs.Prelude.{◌≡◌, ◌∷◌, ◌++◌, List, ℕ, [], Data, Members, no_members, member, put, has_float}
-use Rattle.city_details.proofs.Prelude.{members_have_float, items_have_float, items_of, false, refl, object, Ordering}
-use Rattle.city_details.proofs.Prelude.{Less, Equal, Greater, match_ordering, slice_cmp, nat_cmp, map, view, sym, subst}
-use Rattle.city_details.proofs.Prelude.{◌∙◌}
+use Rattle.city_details.proofs.Prelude.{◌≡◌, ◌∷◌, ◌++◌, List, ℕ, [], Data, Members, no_members, member, put}
+use Rattle.city_details.proofs.Prelude.{has_float, members_have_float, items_have_float, items_of, false, refl}
+use Rattle.city_details.proofs.Prelude.{nat_cmp}
+use Rattle.city_details.proofs.Prelude.{Ordering, Less, Equal, Greater, match_ordering, slice_cmp}
+use Rattle.city_details.proofs.Prelude.{map, view, object, number, sym, subst, ◌∙◌, ℤ, pos, negsuc}
 use Rattle.std.proofs.lemmas.Bool.{or_parts}
 use Rattle.std.proofs.lemmas.List.{map-append}
+use Rattle.serde_json.specs.Find.{of_integer}
 use Rattle.serde_json.specs.declared.value.Value.{Value}
 
 put_at : (o : Ordering) (k l : List ℕ) (d e : Data) (ms rest : Members)
@@ -40,3 +42,8 @@ object_pushed vs os v ms same h seen g =
     let HasNone : List Data → Type 0 = λ ds. items_have_float (items_of ds) ≡ false in
     let all = one_more_stays (map object os) (object ms) (subst HasNone same h) free in
     (shown ∙ sym (map-append object os (ms ∷ [])), subst HasNone (sym shown) all)
+
+-- a whole number is no float
+pub integer_is_no_float : (z : ℤ) → has_float (number (of_integer z)) ≡ false
+integer_is_no_float (pos n) = refl
+integer_is_no_float (negsuc n) = refl

@@ -6,7 +6,6 @@ ghost use Rattle.serde_json.specs.View.{view, items_of, items_view, members_view
 ghost use Rattle.serde_json.specs.Written.{has_float, items_have_float, members_have_float};
 ghost use Rattle.city_writer.specs.shape.Vertices.{vertex_data};
 
-use crate::sentence::Fact;
 use city_model::OutOfMemory;
 use city_model::members::members_count;
 use city_model::object::Point;
@@ -47,16 +46,6 @@ impl Details {
         Details {
             alloc,
             members: Map::new(alloc),
-        }
-    }
-
-    /// Adds a fact.
-    pub(crate) fn add(&mut self, name: &str, fact: Fact<'_>) -> Result<(), OutOfMemory> {
-        match fact {
-            Fact::Word(text) | Fact::Text(text) => self.text(name, text),
-            Fact::Count(number) => self.number(name, number),
-            Fact::Integer(number) => self.integer(name, number),
-            Fact::Point(point) => self.point(name, point),
         }
     }
 

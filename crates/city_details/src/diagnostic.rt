@@ -1,6 +1,5 @@
 //! The diagnostic of one fault.
 use crate::details::Details;
-use crate::sentence::{Fact, push_sentence};
 use city_model::OutOfMemory;
 use std::alloc::Global;
 
@@ -27,26 +26,23 @@ impl Diagnostic {
         }
     }
 
-    /// Narrows the place by further words, with these facts in their gaps.
-    pub(crate) fn narrow(&mut self, words: &str, facts: &[Fact<'_>]) -> Result<(), OutOfMemory> {
+    /// Returns the place, ready for narrower words: earlier words now end with a comma.
+    pub(crate) fn narrowed(&mut self) -> Result<&mut String, OutOfMemory> {
         if !self.place.is_empty() {
             self.place.push_str(", ")?;
         }
-        push_sentence(&mut self.place, words, facts)
+        Ok(&mut self.place)
     }
 
-    /// Adds details, sets the cure, and says the message, with these facts in its gaps.
-    pub(crate) fn tell(
-        &mut self,
-        details: &[(&str, Fact<'_>)],
-        cure: &'static str,
-        message: &str,
-        facts: &[Fact<'_>],
-    ) -> Result<(), OutOfMemory> {
+    /// Sets the message and the cure.
+    pub(crate) fn tell(&mut self, message: &str, cure: &'static str) -> Result<(), OutOfMemory> {
+        self.told(cure).push_str(message)?;
+        Ok(())
+    }
+
+    /// Sets the cure, and returns the message, ready for its words.
+    pub(crate) fn told(&mut self, cure: &'static str) -> &mut String {
         self.cure = cure;
-        for (name, fact) in details {
-            self.details.add(*name, *fact)?;
-        }
-        push_sentence(&mut self.message, message, facts)
+        &mut self.message
     }
 }

@@ -10,17 +10,17 @@ use crate::diagnostic::Diagnostic;
 use crate::document::relation_faults::tell_relations;
 use crate::document::relatives::{RelativesById, all_relatives};
 use crate::document::top::tell_wrong_member;
-use crate::sentence::Fact;
+use crate::quoted::Quoted;
 use crate::shape::ring::tell_bad_ring;
 use crate::shape::shell::tell_open_shell;
 use crate::shape::{tell_bad_geometry, tell_bad_vertex, tell_unknown_type, tell_unsupported};
-use crate::tree::items_at;
 use city_model::OutOfMemory;
 use city_model::object::Point;
 use city_tokens::triple_of;
 use serde_json::Value;
 use std::alloc::Global;
 use std::collections::BTreeMap;
+use std::fmt::Write;
 
 /// A fault of a document's tree.
 #[derive(Clone, Copy)]
@@ -60,8 +60,16 @@ impl<'t> Document<'t> {
         tree: &'t Value,
         faults: &[ModelFault<'_>],
     ) -> Result<Document<'t>, OutOfMemory> {
-        let points = points_for(alloc, tree, faults)?;
-        let relatives = relatives_for(alloc, tree, faults)?;
+        let points = if faults.iter().any(needs_points) {
+            points_in(alloc, tree)?
+        } else {
+            Vec::new(alloc)
+        };
+        let relatives = if faults.iter().any(needs_relatives) {
+            all_relatives(alloc, tree, faults)?
+        } else {
+            BTreeMap::new(alloc)
+        };
         Ok(Document {
             tree,
             points,
@@ -76,28 +84,19 @@ impl<'t> Document<'t> {
         fault: ModelFault<'_>,
     ) -> Result<Diagnostic, OutOfMemory> {
         let mut diagnostic = Diagnostic::new(alloc);
-        self.tell(alloc, fault, &mut diagnostic)?;
-        Ok(diagnostic)
-    }
-
-    fn tell(
-        &self,
-        alloc: Global,
-        fault: ModelFault<'_>,
-        diagnostic: &mut Diagnostic,
-    ) -> Result<(), OutOfMemory> {
         match fault {
             ModelFault::WrongMember(member) => {
-                tell_wrong_member(alloc, self.tree, member, diagnostic)
+                tell_wrong_member(alloc, self.tree, member, &mut diagnostic)?;
             }
             ModelFault::WrongObject(id, fault) => {
-                diagnostic.narrow("object %", &[Fact::Text(id)])?;
-                match self.object(id) {
-                    None => Ok(()),
-                    Some(object) => self.tell_of_object(alloc, id, object, fault, diagnostic),
+                let shown = Quoted(id);
+                write!(diagnostic.narrowed()?, "object {shown}")?;
+                if let Some(object) = self.object(id) {
+                    self.tell_of_object(alloc, id, object, fault, &mut diagnostic)?;
                 }
             }
         }
+        Ok(diagnostic)
     }
 
     fn object(&self, id: &str) -> Option<&Value> {
@@ -106,7 +105,10 @@ impl<'t> Document<'t> {
 
     /// The number of vertices.
     fn vertex_count(&self) -> usize {
-        items_at(self.tree, "vertices").len()
+        match self.tree.get("vertices").and_then(Value::as_array) {
+            None => 0,
+            Some(vertices) => vertices.len(),
+        }
     }
 
     fn tell_of_object(
@@ -134,42 +136,28 @@ impl<'t> Document<'t> {
     }
 }
 
-/// The points of a document, if a diagnostic of these faults shows points of rings.
-fn points_for(
-    alloc: Global,
-    tree: &Value,
-    faults: &[ModelFault<'_>],
-) -> Result<Vec<Point>, OutOfMemory> {
-    for fault in faults {
-        if let ModelFault::WrongObject(_, ObjectFault::BadRing | ObjectFault::OpenShell) = fault {
-            return points_in(alloc, tree);
-        }
-    }
-    Ok(Vec::new(alloc))
+/// Whether a diagnostic shows points of rings.
+fn needs_points(fault: &ModelFault<'_>) -> bool {
+    matches!(
+        fault,
+        ModelFault::WrongObject(_, ObjectFault::BadRing | ObjectFault::OpenShell)
+    )
 }
 
-/// The relatives of a document, if relations are among these faults.
-fn relatives_for(
-    alloc: Global,
-    tree: &Value,
-    faults: &[ModelFault<'_>],
-) -> Result<RelativesById, OutOfMemory> {
-    for fault in faults {
-        if let ModelFault::WrongObject(_, ObjectFault::Relations) = fault {
-            return all_relatives(alloc, tree, faults);
-        }
-    }
-    Ok(BTreeMap::new(alloc))
+fn needs_relatives(fault: &ModelFault<'_>) -> bool {
+    matches!(fault, ModelFault::WrongObject(_, ObjectFault::Relations))
 }
 
 /// The points of a document's vertices.
 fn points_in(alloc: Global, tree: &Value) -> Result<Vec<Point>, OutOfMemory> {
     let mut points = Vec::new(alloc);
-    push_points(items_at(tree, "vertices"), &mut points)?;
+    if let Some(vertices) = tree.get("vertices").and_then(Value::as_array) {
+        push_points(vertices, &mut points)?;
+    }
     Ok(points)
 }
 
-fn push_points(vertices: &[Value], points: &mut Vec<Point>) -> Result<(), OutOfMemory> {
+fn push_points(vertices: &Vec<Value>, points: &mut Vec<Point>) -> Result<(), OutOfMemory> {
     for vertex in vertices {
         if let Some(point) = point_of(vertex) {
             points.push(point)?;

@@ -1,6 +1,6 @@
 //! The diagnostic of one fault: its place, a message, a cure, and the details of its line.
 //!
-//! - `diagnostic`: a diagnostic; `details`: further members of its line; `sentence`: sentences with facts in them
+//! - `diagnostic`: a diagnostic; `details`: further members of its line
 //! - `text`: faults of any text; `document`: of a document's top and objects; `script`: of scripts
 //! - `shape`: faults of an object's type and geometry
 //! - `tree`: the tree of a text; `path`: a path to one of its values; `quoted`: a text as a JSON text
@@ -12,7 +12,6 @@ mod document;
 mod path;
 mod quoted;
 mod script;
-mod sentence;
 mod shape;
 mod text;
 mod tree;

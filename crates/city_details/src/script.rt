@@ -21,9 +21,7 @@ use crate::script::given::{narrow_to_object, shaped_tree};
 use crate::script::item::tell_bad_script;
 use crate::script::limits::tell_too_many;
 use crate::script::place::{command_at, narrow_to_command, narrow_to_script};
-use crate::sentence::Fact;
 use crate::shape::tell_bad_vertex;
-use crate::tree::{items_at, text_at};
 use city_model::OutOfMemory;
 use serde_json::Value;
 use std::alloc::Global;
@@ -48,44 +46,32 @@ pub fn script_diagnostic(
     fault: ScriptsFault,
 ) -> Result<Diagnostic, OutOfMemory> {
     let mut diagnostic = Diagnostic::new(alloc);
-    tell_fault(alloc, tree, fault, &mut diagnostic)?;
-    Ok(diagnostic)
-}
-
-fn tell_fault(
-    alloc: Global,
-    tree: &Value,
-    fault: ScriptsFault,
-    diagnostic: &mut Diagnostic,
-) -> Result<(), OutOfMemory> {
     match fault {
-        ScriptsFault::NotScripts => not_scripts(tree, diagnostic),
-        ScriptsFault::BadScript(script) => bad_script(tree, script, diagnostic),
-        ScriptsFault::TooMany => tell_too_many(tree, diagnostic),
+        ScriptsFault::NotScripts => not_scripts(tree, &mut diagnostic)?,
+        ScriptsFault::BadScript(script) => bad_script(tree, script, &mut diagnostic)?,
+        ScriptsFault::TooMany => tell_too_many(tree, &mut diagnostic)?,
         ScriptsFault::BadCommand(script, command) => {
-            bad_command(alloc, tree, script, command, diagnostic)
+            bad_command(alloc, tree, script, command, &mut diagnostic)?;
         }
         ScriptsFault::BadVertex(script, command) => {
-            bad_vertex(alloc, tree, script, command, diagnostic)
+            bad_vertex(alloc, tree, script, command, &mut diagnostic)?;
         }
     }
+    Ok(diagnostic)
 }
 
 /// Says that the text isn't an array.
 fn not_scripts(tree: &Value, diagnostic: &mut Diagnostic) -> Result<(), OutOfMemory> {
-    if text_at(tree, "type").unwrap_or("") == "CityJSON" {
+    if tree.get("type").and_then(Value::as_str) == Some("CityJSON") {
+        diagnostic.details.text("form", "model")?;
         return diagnostic.tell(
-            &[("form", Fact::Word("model"))],
-            "Give the model first, and the scripts behind it.",
             "The text is a CityJSON model, and no array of scripts.",
-            &[],
+            "Give the model first, and the scripts behind it.",
         );
     }
     diagnostic.tell(
-        &[],
-        "Write the scripts in an array, also a single one.",
         "The text isn't an array of scripts.",
-        &[],
+        "Write the scripts in an array, also a single one.",
     )
 }
 
@@ -131,8 +117,12 @@ fn bad_vertex(
 
 /// The number of a script's vertices.
 fn vertex_count(tree: &Value, script: usize) -> usize {
-    match tree.get(script) {
-        Some(item) => items_at(item, "vertices").len(),
+    match vertices_of(tree, script) {
+        Some(vertices) => vertices.len(),
         None => 0,
     }
+}
+
+fn vertices_of(tree: &Value, script: usize) -> Option<&Vec<Value>> {
+    tree.get(script)?.get("vertices")?.as_array()
 }

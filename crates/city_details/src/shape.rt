@@ -13,50 +13,43 @@ pub mod shell;
 mod walk;
 
 use crate::diagnostic::Diagnostic;
-use crate::sentence::Fact;
-use crate::tree::{is_among, text_at};
+use crate::quoted::Quoted;
 use city_model::OutOfMemory;
 use city_model::kept::site::has_location;
 pub use geometry::tell_bad_geometry;
-use place::narrow_to_geometry;
 pub use position::tell_bad_vertex;
 use serde_json::Value;
+use std::fmt::Write;
 use walk::geometries_of;
 
 const USE_TYPE: &str = "Use a type of CityJSON 2.0, or GenericCityObject.";
 
-/// Types of geometries that are never read.
-const UNSUPPORTED: &[&str] = &["MultiPoint", "MultiLineString", "GeometryInstance"];
-
 /// Says whether an object's type is missing, no text, or unknown.
 pub fn tell_unknown_type(object: &Value, diagnostic: &mut Diagnostic) -> Result<(), OutOfMemory> {
-    match object.get("type") {
-        None => diagnostic.tell(&[], USE_TYPE, "It has no type.", &[]),
-        Some(kind) => match kind.as_str() {
-            None => diagnostic.tell(&[], USE_TYPE, "Its type isn't a text.", &[]),
-            Some(kind) => tell_type(kind, diagnostic),
-        },
-    }
-}
-
-fn tell_type(kind: &str, diagnostic: &mut Diagnostic) -> Result<(), OutOfMemory> {
-    let message = if kind == "CityObjectGroup" || kind.starts_with("+") {
-        "Its type % is never read."
-    } else {
-        "Its type % is no type of CityJSON 2.0."
+    let Some(kind) = object.get("type") else {
+        return diagnostic.tell("It has no type.", USE_TYPE);
     };
-    let kind = Fact::Text(kind);
-    diagnostic.tell(&[("given", kind)], USE_TYPE, message, &[kind])
+    let Some(kind) = kind.as_str() else {
+        return diagnostic.tell("Its type isn't a text.", USE_TYPE);
+    };
+    diagnostic.details.text("given", kind)?;
+    let why = if kind == "CityObjectGroup" || kind.starts_with("+") {
+        "never read"
+    } else {
+        "no type of CityJSON 2.0"
+    };
+    let kind = Quoted(kind);
+    write!(diagnostic.told(USE_TYPE), "Its type {kind} is {why}.")?;
+    Ok(())
 }
 
 /// Tells the first unsupported part of an object: its address's location, or a geometry.
 pub fn tell_unsupported(object: &Value, diagnostic: &mut Diagnostic) -> Result<(), OutOfMemory> {
     if has_location(object.get("address")) {
+        diagnostic.details.text("name", "location")?;
         return diagnostic.tell(
-            &[("name", Fact::Word("location"))],
-            "Drop the location.",
             "Its address has a location, which is never read.",
-            &[],
+            "Drop the location.",
         );
     }
     match unsupported_geometry(object) {
@@ -70,13 +63,14 @@ fn tell_unsupported_geometry(
     kind: &str,
     diagnostic: &mut Diagnostic,
 ) -> Result<(), OutOfMemory> {
-    narrow_to_geometry(number, diagnostic)?;
-    diagnostic.tell(
-        &[("name", Fact::Word(kind))],
-        "Drop it, or triangulate it into a MultiSurface.",
-        "Geometry % is a %, which is never read.",
-        &[Fact::Count(number), Fact::Word(kind)],
-    )
+    write!(diagnostic.narrowed()?, "geometry {number}")?;
+    diagnostic.details.number("geometry", number)?;
+    diagnostic.details.text("name", kind)?;
+    write!(
+        diagnostic.told("Drop it, or triangulate it into a MultiSurface."),
+        "Geometry {number} is a {kind}, which is never read."
+    )?;
+    Ok(())
 }
 
 /// Whether an object has an unsupported part.
@@ -85,7 +79,7 @@ pub fn is_unsupported(object: &Value) -> bool {
 }
 
 /// The number and the type of the first geometry of an unsupported type.
-fn unsupported_geometry(object: &Value) -> Option<(usize, &str)> {
+fn unsupported_geometry(object: &Value) -> Option<(usize, &'static str)> {
     let geometries = geometries_of(object);
     for number in 0..geometries.len() {
         if let Some(kind) = unsupported_type(&geometries[number]) {
@@ -96,11 +90,11 @@ fn unsupported_geometry(object: &Value) -> Option<(usize, &str)> {
 }
 
 /// The type of a geometry, if it is unsupported.
-fn unsupported_type(geometry: &Value) -> Option<&str> {
-    let kind = text_at(geometry, "type")?;
-    if is_among(UNSUPPORTED, kind) {
-        Some(kind)
-    } else {
-        None
+fn unsupported_type(geometry: &Value) -> Option<&'static str> {
+    match geometry.get("type")?.as_str()? {
+        "MultiPoint" => Some("MultiPoint"),
+        "MultiLineString" => Some("MultiLineString"),
+        "GeometryInstance" => Some("GeometryInstance"),
+        _ => None,
     }
 }

@@ -4,19 +4,26 @@ mod fraction;
 mod numeral;
 
 use crate::diagnostic::Diagnostic;
-use crate::path::narrow_to_path;
-use crate::sentence::Fact;
-use crate::text::form::form_of;
+use crate::path::path_text;
+use crate::text::form::TextForm;
 use crate::text::fraction::path_to_fraction;
 use crate::text::numeral::numeral_at;
 use crate::tree::tree_of;
 use city_model::OutOfMemory;
 use serde_json::{Error, Value};
 use std::alloc::Global;
+use std::fmt::Write;
 
 const SPLIT: &str = "Split it into smaller texts.";
 
 const REPAIR: &str = "Repair the text: JSON in UTF-8 that nests no deeper than 127.";
+
+const RESTORE: &str =
+    "Restore it, and name the output by --output: a redirect onto the model empties it first.";
+
+const WITHOUT_MARK: &str = "Save it in UTF-8 without a byte order mark.";
+
+const AS_UTF8: &str = "Save it in UTF-8.";
 
 const DECIMALS: &str = "Give --decimals, which takes numbers of any form and keeps their digits.";
 
@@ -41,30 +48,31 @@ pub fn text_diagnostic(
     fault: TextFault,
 ) -> Result<Diagnostic, OutOfMemory> {
     let mut diagnostic = Diagnostic::new(alloc);
-    tell_fault(alloc, text, is_given, fault, &mut diagnostic)?;
+    match fault {
+        TextFault::TooLong => {
+            diagnostic.tell("The text has more than 67,108,864 bytes.", SPLIT)?;
+        }
+        TextFault::NotJson => match TextForm::of(text) {
+            Some(form) => tell_form(form, &mut diagnostic)?,
+            None => tell_not_json(alloc, text, is_given, &mut diagnostic)?,
+        },
+        TextFault::NotWhole => tell_fraction(alloc, text, &mut diagnostic)?,
+    }
     Ok(diagnostic)
 }
 
-fn tell_fault(
-    alloc: Global,
-    text: &[u8],
-    is_given: bool,
-    fault: TextFault,
-    diagnostic: &mut Diagnostic,
-) -> Result<(), OutOfMemory> {
-    match fault {
-        TextFault::TooLong => {
-            diagnostic.tell(&[], SPLIT, "The text has more than 67,108,864 bytes.", &[])
-        }
-        TextFault::NotJson => match form_of(text) {
-            Some(form) => {
-                let details = [("form", Fact::Word(form.name))];
-                diagnostic.tell(&details, form.cure, form.message, &[])
-            }
-            None => tell_not_json(alloc, text, is_given, diagnostic),
-        },
-        TextFault::NotWhole => tell_fraction(alloc, text, diagnostic),
-    }
+/// Tells the form of a text in place of JSON.
+fn tell_form(form: TextForm, diagnostic: &mut Diagnostic) -> Result<(), OutOfMemory> {
+    diagnostic.details.text("form", form.name())?;
+    let (message, cure) = match form {
+        TextForm::Empty => ("The text is empty.", RESTORE),
+        TextForm::ByteOrderMark => (
+            "The text begins with a byte order mark, which isn't JSON.",
+            WITHOUT_MARK,
+        ),
+        TextForm::Utf16 => ("The text is in UTF-16, and JSON is read in UTF-8.", AS_UTF8),
+    };
+    diagnostic.tell(message, cure)
 }
 
 /// Says why a text isn't JSON, and the place of the first error.
@@ -75,7 +83,8 @@ fn tell_not_json(
     diagnostic: &mut Diagnostic,
 ) -> Result<(), OutOfMemory> {
     match Value::from_slice(alloc, text) {
-        Ok(_tree) => diagnostic.tell(&[], REPAIR, "The text isn't JSON.", &[]),
+        Ok(_tree) => diagnostic.tell("The text isn't JSON.", REPAIR),
+        Err(error) if error.is_memory() => Err(OutOfMemory),
         Err(error) => tell_error(alloc, &error, is_given, diagnostic),
     }
 }
@@ -87,22 +96,15 @@ fn tell_error(
     is_given: bool,
     diagnostic: &mut Diagnostic,
 ) -> Result<(), OutOfMemory> {
-    if error.is_memory() {
-        return Err(OutOfMemory);
-    }
+    let shown = error.to_string(alloc)?;
+    let (reason, _) = shown
+        .as_str()
+        .split_once(" at line ")
+        .unwrap_or((shown.as_str(), ""));
+    diagnostic.details.text("reason", reason)?;
     if is_given {
         narrow_to_error(error, diagnostic)?;
     }
-    let shown = error.to_string(alloc)?;
-    tell_shown(error, shown.as_str(), diagnostic)
-}
-
-/// Tells the reason of an error, which shows as this text.
-fn tell_shown(error: &Error, shown: &str, diagnostic: &mut Diagnostic) -> Result<(), OutOfMemory> {
-    let reason = match shown.split_once(" at line ") {
-        None => shown,
-        Some((reason, _)) => reason,
-    };
     let message = if error.is_eof() {
         "The text isn't JSON: it ends too early."
     } else if reason == "number out of range" {
@@ -110,21 +112,18 @@ fn tell_shown(error: &Error, shown: &str, diagnostic: &mut Diagnostic) -> Result
     } else {
         "The text isn't JSON."
     };
-    diagnostic.tell(&[("reason", Fact::Word(reason))], REPAIR, message, &[])
+    diagnostic.tell(message, REPAIR)
 }
 
 /// Narrows the place to an error's line and column, if it has them.
 fn narrow_to_error(error: &Error, diagnostic: &mut Diagnostic) -> Result<(), OutOfMemory> {
     let (line, column) = (error.line(), error.column());
-    if line == 0 {
-        return Ok(());
+    if line > 0 {
+        diagnostic.details.number("line", line)?;
+        diagnostic.details.number("column", column)?;
+        write!(diagnostic.narrowed()?, "line {line}, column {column}")?;
     }
-    diagnostic.details.number("line", line)?;
-    diagnostic.details.number("column", column)?;
-    diagnostic.narrow(
-        "line %, column %",
-        &[Fact::Count(line), Fact::Count(column)],
-    )
+    Ok(())
 }
 
 /// Tells the first number outside the whole numbers of 64 bits, and its path.
@@ -134,32 +133,25 @@ fn tell_fraction(
     diagnostic: &mut Diagnostic,
 ) -> Result<(), OutOfMemory> {
     let tree = tree_of(alloc, text)?;
-    tell_fraction_of(alloc, text, &tree, diagnostic)
-}
-
-/// The same, of a text with this tree.
-fn tell_fraction_of(
-    alloc: Global,
-    text: &[u8],
-    tree: &Value,
-    diagnostic: &mut Diagnostic,
-) -> Result<(), OutOfMemory> {
-    let steps = path_to_fraction(alloc, tree)?;
-    narrow_to_path(alloc, steps.as_slice(), diagnostic)?;
-    let numeral = numeral_at(alloc, text, steps.as_slice())?;
-    tell_numeral(numeral.as_ref(), diagnostic)
+    let steps = path_to_fraction(alloc, &tree)?;
+    let path = path_text(alloc, steps.as_slice())?;
+    diagnostic.details.text("path", path.as_str())?;
+    diagnostic.narrowed()?.push_str(path.as_str())?;
+    match numeral_at(alloc, text, steps.as_slice())? {
+        Some(value) => tell_numeral(value.as_str(), diagnostic),
+        None => diagnostic.tell(NO_WHOLE, DECIMALS),
+    }
 }
 
 /// Tells such a number, as written in the text.
-fn tell_numeral(numeral: Option<&String>, diagnostic: &mut Diagnostic) -> Result<(), OutOfMemory> {
-    let Some(numeral) = numeral else {
-        return diagnostic.tell(&[], DECIMALS, NO_WHOLE, &[]);
-    };
-    let value = Fact::Word(numeral.as_str());
-    let message = if numeral.len() > SHOWN {
-        NO_WHOLE
-    } else {
-        "The number % isn't a whole number of 64 bits."
-    };
-    diagnostic.tell(&[("value", value)], DECIMALS, message, &[value])
+fn tell_numeral(value: &str, diagnostic: &mut Diagnostic) -> Result<(), OutOfMemory> {
+    diagnostic.details.text("value", value)?;
+    if value.len() > SHOWN {
+        return diagnostic.tell(NO_WHOLE, DECIMALS);
+    }
+    write!(
+        diagnostic.told(DECIMALS),
+        "The number {value} isn't a whole number of 64 bits."
+    )?;
+    Ok(())
 }

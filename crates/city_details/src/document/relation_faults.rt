@@ -1,49 +1,137 @@
 //! Broken rules on an object's parents and children.
 use crate::diagnostic::Diagnostic;
-use crate::document::relatives::{RelativesById, list_at, repeated_in};
-use crate::sentence::{Fact, NOTHING};
-use crate::tree::items_at;
+use crate::document::relatives::{Relatives, RelativesById, list_at, repeated_in};
+use crate::quoted::Quoted;
 use city_model::OutOfMemory;
 use city_model::object_type::{ObjectType, family, is_same, level, name};
 use serde_json::Value;
 use std::alloc::Global;
+use std::fmt::{self, Display, Formatter, Write};
 
-const PARENTS: &str = "parents";
-
-const CHILDREN: &str = "children";
-
-/// A broken rule.
+/// One of the two lists of ids of an object.
 #[derive(Clone, Copy)]
-struct Broken<'t> {
-    rule: &'static str,
-    /// The name of the list of ids.
-    list: &'static str,
-    /// The other object.
-    other: Option<&'t str>,
-    message: &'static str,
-    /// The type named by the message: behind the other object, or before it.
-    kind: &'static str,
-    is_kind_first: bool,
-    /// The type named last.
-    own: &'static str,
+enum IdList {
+    Parents,
+    Children,
 }
 
-/// A broken rule on a list, whose message names no type.
-fn broken_rule<'t>(
-    rule: &'static str,
-    list: &'static str,
-    other: Option<&'t str>,
-    message: &'static str,
-) -> Option<Broken<'t>> {
-    Some(Broken {
-        rule,
-        list,
-        other,
-        message,
-        kind: "",
-        is_kind_first: false,
-        own: "",
-    })
+impl IdList {
+    fn name(self) -> &'static str {
+        match self {
+            IdList::Parents => "parents",
+            IdList::Children => "children",
+        }
+    }
+
+    /// The word for one item of the list.
+    fn one(self) -> &'static str {
+        match self {
+            IdList::Parents => "parent",
+            IdList::Children => "child",
+        }
+    }
+
+    /// The list on the other side of a relation.
+    fn other_side(self) -> IdList {
+        match self {
+            IdList::Parents => IdList::Children,
+            IdList::Children => IdList::Parents,
+        }
+    }
+}
+
+/// A broken rule, with the other object.
+#[derive(Clone, Copy)]
+enum Broken<'t> {
+    NoListOfIds(IdList),
+    Repeated(IdList, &'t str),
+    FirstLevelWithParents(ObjectType, &'t str),
+    NoParents(ObjectType),
+    Itself(&'t str),
+    Missing(IdList, &'t str),
+    NotMutual(IdList, &'t str),
+    /// The object's type, and the type of this parent.
+    OtherFamily(ObjectType, ObjectType, &'t str),
+}
+
+impl<'t> Broken<'t> {
+    fn rule(&self) -> &'static str {
+        match self {
+            Broken::NoListOfIds(_) => "no list of ids",
+            Broken::Repeated(_, _) => "repeated",
+            Broken::FirstLevelWithParents(_, _) => "first-level with parents",
+            Broken::NoParents(_) => "no parents",
+            Broken::Itself(_) => "itself",
+            Broken::Missing(_, _) => "missing",
+            Broken::NotMutual(_, _) => "not mutual",
+            Broken::OtherFamily(_, _, _) => "other family",
+        }
+    }
+
+    fn list(&self) -> IdList {
+        match *self {
+            Broken::NoListOfIds(list)
+            | Broken::Repeated(list, _)
+            | Broken::Missing(list, _)
+            | Broken::NotMutual(list, _) => list,
+            _ => IdList::Parents,
+        }
+    }
+
+    fn other(&self) -> Option<&'t str> {
+        match *self {
+            Broken::NoListOfIds(_) | Broken::NoParents(_) => None,
+            Broken::Repeated(_, other)
+            | Broken::FirstLevelWithParents(_, other)
+            | Broken::Itself(other)
+            | Broken::Missing(_, other)
+            | Broken::NotMutual(_, other)
+            | Broken::OtherFamily(_, _, other) => Some(other),
+        }
+    }
+}
+
+impl Display for Broken<'_> {
+    fn fmt<W: Write>(&self, f: &mut Formatter<W>) -> fmt::Result {
+        match *self {
+            Broken::NoListOfIds(list) => {
+                let names = list.name();
+                write!(f, "Its {names} aren't an array of texts.")
+            }
+            Broken::Repeated(list, id) => {
+                let (names, id) = (list.name(), Quoted(id));
+                write!(f, "Its {names} have {id} twice.")
+            }
+            Broken::FirstLevelWithParents(kind, id) => {
+                let (kind, id) = (name(kind), Quoted(id));
+                write!(
+                    f,
+                    "An object of type {kind} has no parents, but it has the parent {id}."
+                )
+            }
+            Broken::NoParents(kind) => {
+                let kind = name(kind);
+                write!(f, "An object of type {kind} has a parent, but it has none.")
+            }
+            Broken::Itself(_) => write!(f, "It is its own parent."),
+            Broken::Missing(list, id) => {
+                let (one, id) = (list.one(), Quoted(id));
+                write!(f, "Its {one} {id} is no object that can be read.")
+            }
+            Broken::NotMutual(list, id) => {
+                let (one, id) = (list.one(), Quoted(id));
+                let back = list.other_side().name();
+                write!(f, "Its {one} {id} doesn't have it in its {back}.")
+            }
+            Broken::OtherFamily(own, kind, id) => {
+                let (own, kind, id) = (name(own), name(kind), Quoted(id));
+                write!(
+                    f,
+                    "Its parent {id} is of type {kind}, another family than that of {own}."
+                )
+            }
+        }
+    }
 }
 
 /// Tells the first broken rule on an object's parents and children.
@@ -54,32 +142,19 @@ pub fn tell_relations(
     object: &Value,
     diagnostic: &mut Diagnostic,
 ) -> Result<(), OutOfMemory> {
-    match first_broken(alloc, objects, id, object)? {
-        None => Ok(()),
-        Some(broken) => tell(broken, diagnostic),
-    }
-}
-
-fn tell(broken: Broken<'_>, diagnostic: &mut Diagnostic) -> Result<(), OutOfMemory> {
-    if let Some(other) = broken.other {
+    let Some(broken) = first_broken(alloc, objects, id, object)? else {
+        return Ok(());
+    };
+    diagnostic.details.text("rule", broken.rule())?;
+    diagnostic.details.text("list", broken.list().name())?;
+    if let Some(other) = broken.other() {
         diagnostic.details.text("other", other)?;
     }
-    let other = broken.other.unwrap_or("");
-    let facts = if broken.is_kind_first {
-        [Fact::Word(broken.kind), Fact::Text(other), NOTHING]
-    } else {
-        [
-            Fact::Text(other),
-            Fact::Word(broken.kind),
-            Fact::Word(broken.own),
-        ]
-    };
-    let details = [
-        ("rule", Fact::Word(broken.rule)),
-        ("list", Fact::Word(broken.list)),
-    ];
-    let cure = "Correct both sides of the relation.";
-    diagnostic.tell(&details, cure, broken.message, &facts)
+    write!(
+        diagnostic.told("Correct both sides of the relation."),
+        "{broken}"
+    )?;
+    Ok(())
 }
 
 /// The first broken rule, if any.
@@ -89,88 +164,38 @@ fn first_broken<'t>(
     id: &str,
     object: &'t Value,
 ) -> Result<Option<Broken<'t>>, OutOfMemory> {
-    if list_at(object, PARENTS).is_none() {
-        let message = "Its parents aren't an array of texts.";
-        return Ok(broken_rule("no list of ids", PARENTS, None, message));
+    let Some(parents) = list_at(object, "parents") else {
+        return Ok(Some(Broken::NoListOfIds(IdList::Parents)));
+    };
+    let Some(children) = list_at(object, "children") else {
+        return Ok(Some(Broken::NoListOfIds(IdList::Children)));
+    };
+    if let Some(other) = repeated_in(alloc, parents)? {
+        return Ok(Some(Broken::Repeated(IdList::Parents, other)));
     }
-    if list_at(object, CHILDREN).is_none() {
-        let message = "Its children aren't an array of texts.";
-        return Ok(broken_rule("no list of ids", CHILDREN, None, message));
+    if let Some(other) = repeated_in(alloc, children)? {
+        return Ok(Some(Broken::Repeated(IdList::Children, other)));
     }
-    match first_repeated(alloc, object)? {
-        None => Ok(broken_by_relatives(objects, id, object)),
-        repeated => Ok(repeated),
+    let Some(own) = objects.get(id) else {
+        return Ok(None);
+    };
+    if let Some(broken) = broken_by_level(own.kind, parents) {
+        return Ok(Some(broken));
     }
-}
-
-/// The first repeated id of an object's two lists of ids.
-fn first_repeated<'t>(alloc: Global, object: &'t Value) -> Result<Option<Broken<'t>>, OutOfMemory> {
-    if let Some(other) = repeated_in(alloc, items_at(object, PARENTS))? {
-        let message = "Its parents have % twice.";
-        return Ok(broken_rule("repeated", PARENTS, Some(other), message));
-    }
-    match repeated_in(alloc, items_at(object, CHILDREN))? {
-        None => Ok(None),
-        Some(other) => {
-            let message = "Its children have % twice.";
-            Ok(broken_rule("repeated", CHILDREN, Some(other), message))
-        }
-    }
-}
-
-/// The first rule broken by lists without repeated ids.
-fn broken_by_relatives<'t>(
-    objects: &RelativesById,
-    id: &str,
-    object: &'t Value,
-) -> Option<Broken<'t>> {
-    let kind = objects.get(id)?.kind;
-    let parents = items_at(object, PARENTS);
-    if let Some(broken) = broken_by_level(kind, parents) {
-        return Some(broken);
-    }
-    match broken_by_parents(objects, id, kind, parents) {
-        None => broken_by_children(objects, id, items_at(object, CHILDREN)),
-        broken => broken,
+    match broken_by_parents(objects, id, own.kind, parents) {
+        None => Ok(broken_by_children(objects, id, children)),
+        broken => Ok(broken),
     }
 }
 
 /// The rule broken by an object's parents at its level: the second has parents, the first has none.
 fn broken_by_level(kind: ObjectType, parents: &[Value]) -> Option<Broken<'_>> {
     match parents.first() {
-        None => no_parents(kind),
-        Some(parent) => with_parent(kind, parent.as_str()?),
+        None if level(kind) == 2 => Some(Broken::NoParents(kind)),
+        None => None,
+        Some(_) if level(kind) == 2 => None,
+        Some(parent) => Some(Broken::FirstLevelWithParents(kind, parent.as_str()?)),
     }
-}
-
-fn no_parents(kind: ObjectType) -> Option<Broken<'static>> {
-    if level(kind) != 2 {
-        return None;
-    }
-    Some(Broken {
-        rule: "no parents",
-        list: PARENTS,
-        other: None,
-        message: "An object of type % has a parent, but it has none.",
-        kind: name(kind),
-        is_kind_first: true,
-        own: "",
-    })
-}
-
-fn with_parent(kind: ObjectType, parent: &str) -> Option<Broken<'_>> {
-    if level(kind) == 2 {
-        return None;
-    }
-    Some(Broken {
-        rule: "first-level with parents",
-        list: PARENTS,
-        other: Some(parent),
-        message: "An object of type % has no parents, but it has the parent %.",
-        kind: name(kind),
-        is_kind_first: true,
-        own: "",
-    })
 }
 
 fn broken_by_parents<'t>(
@@ -197,36 +222,18 @@ fn broken_by_parent<'t>(
     parent: &'t str,
 ) -> Option<Broken<'t>> {
     if parent == id {
-        return broken_rule("itself", PARENTS, Some(parent), "It is its own parent.");
+        return Some(Broken::Itself(parent));
     }
-    match objects.get(parent) {
-        None => {
-            let message = "Its parent % is no object that can be read.";
-            broken_rule("missing", PARENTS, Some(parent), message)
-        }
-        Some(other) => {
-            if other.children.contains(id) {
-                return broken_by_family(kind, other.kind, parent);
-            }
-            let message = "Its parent % doesn't have it in its children.";
-            broken_rule("not mutual", PARENTS, Some(parent), message)
-        }
+    let Some(other) = objects.get(parent) else {
+        return Some(Broken::Missing(IdList::Parents, parent));
+    };
+    if !other.children.contains(id) {
+        Some(Broken::NotMutual(IdList::Parents, parent))
+    } else if !is_same(family(other.kind), family(kind)) {
+        Some(Broken::OtherFamily(kind, other.kind, parent))
+    } else {
+        None
     }
-}
-
-fn broken_by_family(own: ObjectType, kind: ObjectType, parent: &str) -> Option<Broken<'_>> {
-    if is_same(family(kind), family(own)) {
-        return None;
-    }
-    Some(Broken {
-        rule: "other family",
-        list: PARENTS,
-        other: Some(parent),
-        message: "Its parent % is of type %, another family than that of %.",
-        kind: name(kind),
-        is_kind_first: false,
-        own: name(own),
-    })
 }
 
 fn broken_by_children<'t>(
@@ -236,27 +243,14 @@ fn broken_by_children<'t>(
 ) -> Option<Broken<'t>> {
     for child in children {
         if let Some(child) = child.as_str() {
-            let broken = broken_by_child(objects, id, child);
-            if broken.is_some() {
-                return broken;
+            match objects.get(child) {
+                None => return Some(Broken::Missing(IdList::Children, child)),
+                Some(other) if !other.parents.contains(id) => {
+                    return Some(Broken::NotMutual(IdList::Children, child));
+                }
+                Some(_) => {}
             }
         }
     }
     None
-}
-
-fn broken_by_child<'t>(objects: &RelativesById, id: &str, child: &'t str) -> Option<Broken<'t>> {
-    match objects.get(child) {
-        None => {
-            let message = "Its child % is no object that can be read.";
-            broken_rule("missing", CHILDREN, Some(child), message)
-        }
-        Some(other) => {
-            if other.parents.contains(id) {
-                return None;
-            }
-            let message = "Its child % doesn't have it in its parents.";
-            broken_rule("not mutual", CHILDREN, Some(child), message)
-        }
-    }
 }

@@ -1,6 +1,5 @@
 //! The parents and children of objects, in sets: a long list is searched as fast as a short one.
 use crate::document::{ModelFault, ObjectFault};
-use crate::tree::{first_no_text, text_at};
 use city_model::OutOfMemory;
 use city_model::object_type::{ObjectType, type_named};
 use serde_json::{Map, Value};
@@ -23,11 +22,12 @@ pub fn list_at<'t>(object: &'t Value, name: &str) -> Option<&'t [Value]> {
     let Some(value) = object.get(name) else {
         return Some(&[]);
     };
-    let items = value.as_array()?.as_slice();
-    if first_no_text(items).is_some() {
-        return None;
+    let items = value.as_array()?;
+    if items.iter().all(Value::is_string) {
+        Some(items.as_slice())
+    } else {
+        None
     }
-    Some(items)
 }
 
 /// The relatives of all readable objects of a document with these faults.
@@ -89,7 +89,8 @@ fn relatives_of(
 
 /// The relatives of one object, if its type is known.
 fn relatives_at(alloc: Global, object: &Value) -> Result<Option<Relatives>, OutOfMemory> {
-    let Some(kind) = kind_of(object) else {
+    let kind = object.get("type").and_then(Value::as_str);
+    let Some(kind) = kind.and_then(type_named) else {
         return Ok(None);
     };
     Ok(Some(Relatives {
@@ -97,10 +98,6 @@ fn relatives_at(alloc: Global, object: &Value) -> Result<Option<Relatives>, OutO
         parents: id_set(alloc, list_at(object, "parents").unwrap_or(&[]))?,
         children: id_set(alloc, list_at(object, "children").unwrap_or(&[]))?,
     }))
-}
-
-fn kind_of(object: &Value) -> Option<ObjectType> {
-    type_named(text_at(object, "type")?)
 }
 
 fn id_set(alloc: Global, list: &[Value]) -> Result<BTreeSet<String>, OutOfMemory> {

@@ -1,12 +1,12 @@
 //! Diagnostics of missing or wrong members of the top.
 use crate::diagnostic::Diagnostic;
-use crate::path::{Step, narrow_to_path};
-use crate::sentence::Fact;
-use crate::tree::first_no_triple;
+use crate::path::{Step, path_text};
+use crate::quoted::Quoted;
 use city_model::OutOfMemory;
-use city_tokens::triple_at;
+use city_tokens::{triple_at, triple_of};
 use serde_json::{Map, Value};
 use std::alloc::Global;
+use std::fmt::Write;
 
 const UPGRADE: &str = "Upgrade to CityJSON 2.0, and drop extensions.";
 
@@ -18,32 +18,16 @@ pub fn tell_wrong_member(
     diagnostic: &mut Diagnostic,
 ) -> Result<(), OutOfMemory> {
     if tree.is_array() {
+        diagnostic.details.text("form", "scripts")?;
         return diagnostic.tell(
-            &[("form", Fact::Word("scripts"))],
-            "Give MODEL before SCRIPTS.",
             "The text is an array, as scripts are, and no document.",
-            &[],
+            "Give MODEL before SCRIPTS.",
         );
     }
-    match tree.get(name) {
-        None => tell_at(
-            alloc,
-            &[Step::Member(name)],
-            "The document has no %.",
-            &[Fact::Word(name)],
-            diagnostic,
-        ),
-        Some(member) => tell_member(alloc, name, member, diagnostic),
-    }
-}
-
-/// Says what is wrong with this member of this name.
-fn tell_member(
-    alloc: Global,
-    name: &str,
-    member: &Value,
-    diagnostic: &mut Diagnostic,
-) -> Result<(), OutOfMemory> {
+    let Some(member) = tree.get(name) else {
+        write!(diagnostic.told(UPGRADE), "The document has no {name}.")?;
+        return tell_path(alloc, &[Step::Member(name)], diagnostic);
+    };
     if let Some(given) = member.as_str() {
         diagnostic.details.text("given", given)?;
     }
@@ -51,40 +35,51 @@ fn tell_member(
         "transform" => tell_transform(alloc, member, diagnostic),
         "CityObjects" => tell_objects(alloc, member, diagnostic),
         "vertices" => tell_vertices(alloc, member, diagnostic),
-        _ => tell_text(alloc, name, member.as_str(), diagnostic),
+        "extensions" => {
+            diagnostic.tell(
+                "The document has extensions, which are never read.",
+                UPGRADE,
+            )?;
+            tell_path(alloc, &[Step::Member(name)], diagnostic)
+        }
+        _ => {
+            tell_wrong_text(name, member.as_str(), diagnostic)?;
+            tell_path(alloc, &[Step::Member(name)], diagnostic)
+        }
     }
 }
 
-/// Tells this message, and narrows the place to a path.
-fn tell_at(
+/// Narrows the place to a path, and adds the path.
+fn tell_path(
     alloc: Global,
     steps: &[Step<'_>],
-    message: &str,
-    facts: &[Fact<'_>],
     diagnostic: &mut Diagnostic,
 ) -> Result<(), OutOfMemory> {
-    narrow_to_path(alloc, steps, diagnostic)?;
-    diagnostic.tell(&[], UPGRADE, message, facts)
+    let path = path_text(alloc, steps)?;
+    diagnostic.narrowed()?.push_str(path.as_str())?;
+    diagnostic.details.text("path", path.as_str())
 }
 
-/// Says what is wrong with the type, the version or the extensions.
-fn tell_text(
-    alloc: Global,
+/// Says what is wrong with the type or the version, by its text.
+fn tell_wrong_text(
     name: &str,
     given: Option<&str>,
     diagnostic: &mut Diagnostic,
 ) -> Result<(), OutOfMemory> {
-    let message = if name == "extensions" {
-        "The document has extensions, which are never read."
-    } else if given.is_none() {
-        "The % of the document isn't a text."
-    } else if name == "type" {
-        "The % of the document is %, and not \"CityJSON\"."
-    } else {
-        "The % of the document is %, and not \"2.0\"."
+    let Some(given) = given else {
+        write!(
+            diagnostic.told(UPGRADE),
+            "The {name} of the document isn't a text."
+        )?;
+        return Ok(());
     };
-    let facts = [Fact::Word(name), Fact::Text(given.unwrap_or(""))];
-    tell_at(alloc, &[Step::Member(name)], message, &facts, diagnostic)
+    let given = Quoted(given);
+    let wanted = if name == "type" { "CityJSON" } else { "2.0" };
+    write!(
+        diagnostic.told(UPGRADE),
+        "The {name} of the document is {given}, and not \"{wanted}\"."
+    )?;
+    Ok(())
 }
 
 fn tell_transform(
@@ -94,30 +89,19 @@ fn tell_transform(
 ) -> Result<(), OutOfMemory> {
     let top = Step::Member("transform");
     if !transform.is_object() {
-        return tell_at(
-            alloc,
-            &[top],
-            "The transform isn't an object.",
-            &[],
-            diagnostic,
-        );
+        diagnostic.tell("The transform isn't an object.", UPGRADE)?;
+        return tell_path(alloc, &[top], diagnostic);
     }
-    let name = wrong_triple(transform);
-    tell_at(
-        alloc,
-        &[top, Step::Member(name)],
-        "The % of the transform isn't an array of three numbers.",
-        &[Fact::Word(name)],
-        diagnostic,
-    )
-}
-
-/// The name of the member of a transform that isn't three numbers.
-fn wrong_triple(transform: &Value) -> &'static str {
-    match triple_at(transform, "scale") {
-        None => "scale",
-        Some(_) => "translate",
-    }
+    let name = if triple_at(transform, "scale").is_none() {
+        "scale"
+    } else {
+        "translate"
+    };
+    write!(
+        diagnostic.told(UPGRADE),
+        "The {name} of the transform isn't an array of three numbers."
+    )?;
+    tell_path(alloc, &[top, Step::Member(name)], diagnostic)
 }
 
 fn tell_objects(
@@ -125,30 +109,22 @@ fn tell_objects(
     objects: &Value,
     diagnostic: &mut Diagnostic,
 ) -> Result<(), OutOfMemory> {
+    let top = Step::Member("CityObjects");
     let Some(members) = objects.as_object() else {
-        let top = Step::Member("CityObjects");
-        return tell_at(
-            alloc,
-            &[top],
-            "CityObjects isn't an object.",
-            &[],
-            diagnostic,
-        );
+        diagnostic.tell("CityObjects isn't an object.", UPGRADE)?;
+        return tell_path(alloc, &[top], diagnostic);
     };
     match first_other(members) {
         None => Ok(()),
-        Some(id) => tell_object(alloc, id, diagnostic),
+        Some(id) => {
+            let shown = Quoted(id);
+            write!(
+                diagnostic.told(UPGRADE),
+                "The city object {shown} isn't an object."
+            )?;
+            tell_path(alloc, &[top, Step::Member(id)], diagnostic)
+        }
     }
-}
-
-fn tell_object(alloc: Global, id: &str, diagnostic: &mut Diagnostic) -> Result<(), OutOfMemory> {
-    tell_at(
-        alloc,
-        &[Step::Member("CityObjects"), Step::Member(id)],
-        "The city object % isn't an object.",
-        &[Fact::Text(id)],
-        diagnostic,
-    )
 }
 
 /// The name of the first member other than an object.
@@ -168,22 +144,17 @@ fn tell_vertices(
 ) -> Result<(), OutOfMemory> {
     let top = Step::Member("vertices");
     let Some(items) = vertices.as_array() else {
-        return tell_at(
-            alloc,
-            &[top],
-            "The vertices aren't an array.",
-            &[],
-            diagnostic,
-        );
+        diagnostic.tell("The vertices aren't an array.", UPGRADE)?;
+        return tell_path(alloc, &[top], diagnostic);
     };
-    match first_no_triple(items.as_slice()) {
+    match items.iter().position(|item| triple_of(item).is_none()) {
         None => Ok(()),
-        Some(number) => tell_at(
-            alloc,
-            &[top, Step::Item(number)],
-            "Vertex % isn't an array of three whole numbers.",
-            &[Fact::Count(number)],
-            diagnostic,
-        ),
+        Some(number) => {
+            write!(
+                diagnostic.told(UPGRADE),
+                "Vertex {number} isn't an array of three whole numbers."
+            )?;
+            tell_path(alloc, &[top, Step::Item(number)], diagnostic)
+        }
     }
 }

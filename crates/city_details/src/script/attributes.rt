@@ -1,33 +1,43 @@
 //! Wrong attributes in commands.
 use crate::diagnostic::Diagnostic;
-use crate::sentence::Fact;
-use crate::tree::first_no_text;
 use city_model::OutOfMemory;
 use serde_json::Value;
+use std::fmt::Write;
 
 const WRITE_NAMES: &str = "Write the names of the attributes as texts, in an array.";
 
-const RULE: (&str, Fact<'static>) = ("rule", Fact::Word("attributes"));
-
 /// Says that attributes are no object of values.
 pub fn tell_no_values(diagnostic: &mut Diagnostic) -> Result<(), OutOfMemory> {
+    diagnostic.details.text("rule", "attributes")?;
     diagnostic.tell(
-        &[RULE],
-        "Give an object that has each attribute with its value.",
         "Its attributes aren't an object.",
-        &[],
+        "Give an object that has each attribute with its value.",
     )
 }
 
 /// Says that the attributes of an unset aren't an array, or tells the first item other than a text.
 pub fn tell_no_names(attributes: &Value, diagnostic: &mut Diagnostic) -> Result<(), OutOfMemory> {
+    diagnostic.details.text("rule", "attributes")?;
     match attributes.as_array() {
-        None => diagnostic.tell(&[RULE], WRITE_NAMES, "Its attributes aren't an array.", &[]),
+        None => diagnostic.tell("Its attributes aren't an array.", WRITE_NAMES),
         Some(items) => {
-            let item = first_no_text(items.as_slice()).unwrap_or(items.len());
-            let item = Fact::Count(item);
-            let message = "Item % of its attributes isn't a text.";
-            diagnostic.tell(&[RULE, ("item", item)], WRITE_NAMES, message, &[item])
+            let item = first_other(items.as_slice());
+            diagnostic.details.number("item", item)?;
+            write!(
+                diagnostic.told(WRITE_NAMES),
+                "Item {item} of its attributes isn't a text."
+            )?;
+            Ok(())
         }
     }
+}
+
+/// The first item other than a text.
+fn first_other(items: &[Value]) -> usize {
+    for number in 0..items.len() {
+        if !items[number].is_string() {
+            return number;
+        }
+    }
+    items.len()
 }

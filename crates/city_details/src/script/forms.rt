@@ -1,11 +1,10 @@
 //! The forms of commands: the words, and the objects with their members.
 //!
 //! A new command is a line in one of the two tables; no other diagnostic changes.
-use crate::tree::is_among;
 use serde_json::{Map, Value};
 
 /// The kind of a command's member.
-#[derive(Clone, Copy)]
+#[derive(Clone, Copy, PartialEq, Eq)]
 pub enum Kind {
     Text,
     /// A city object.
@@ -16,12 +15,6 @@ pub enum Kind {
     Names,
     /// The geometry of a city object.
     Geometry,
-}
-
-impl Kind {
-    fn is_text(&self) -> bool {
-        matches!(self, Kind::Text)
-    }
 }
 
 /// A command in the form of an object. The member of the command's name is a text.
@@ -88,7 +81,7 @@ pub const WORDS: &[&str] = &["commit", "abort"];
 
 /// Whether a word is a command by itself.
 pub fn is_word(word: &str) -> bool {
-    is_among(WORDS, word)
+    WORDS.iter().any(|name| *name == word)
 }
 
 /// The object command of this name.
@@ -134,12 +127,7 @@ impl Form {
 
     /// Whether it has a member of this name.
     fn has(&self, name: &str) -> bool {
-        for (other, _) in self.others {
-            if *other == name {
-                return true;
-            }
-        }
-        self.name == name
+        self.name == name || self.others.iter().any(|(other, _)| *other == name)
     }
 
     /// The first member that has to be a text but isn't.
@@ -148,7 +136,7 @@ impl Form {
             return Some(self.name);
         }
         for (name, kind) in self.others {
-            if kind.is_text() && !is_text(members, *name) {
+            if *kind == Kind::Text && !is_text(members, *name) {
                 return Some(*name);
             }
         }
@@ -158,7 +146,7 @@ impl Form {
     /// The name and the kind of its member other than a text, which it gives to an object.
     pub fn given(&self) -> Option<(&'static str, Kind)> {
         for (name, kind) in self.others {
-            if !kind.is_text() {
+            if *kind != Kind::Text {
                 return Some((*name, *kind));
             }
         }
@@ -168,8 +156,5 @@ impl Form {
 
 /// Whether the member of a name is a text.
 fn is_text(members: &Map<String, Value>, name: &str) -> bool {
-    match members.get(name) {
-        None => false,
-        Some(member) => member.is_string(),
-    }
+    members.get(name).and_then(Value::as_str).is_some()
 }

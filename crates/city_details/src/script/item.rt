@@ -1,151 +1,91 @@
 //! Items other than scripts.
 use crate::diagnostic::Diagnostic;
-use crate::script::forms::is_word;
-use crate::sentence::{Fact, NOTHING};
-use crate::tree::{first_no_triple, is_among};
+use crate::quoted::Quoted;
 use city_model::OutOfMemory;
+use city_tokens::triple_of;
 use serde_json::{Map, Value};
-
-/// The members of a script.
-const MEMBERS: &[&str] = &["name", "commands", "vertices"];
-
-const NO_OBJECT: BrokenRule<'static> = BrokenRule {
-    rule: "no object",
-    cure: "Write each script as an object with a name and commands.",
-    message: "It isn't an object.",
-    fact: NOTHING,
-    detail: "",
-};
+use std::fmt::{self, Display, Formatter, Write};
 
 /// A rule for scripts, broken by an item.
 #[derive(Clone, Copy)]
-pub struct BrokenRule<'t> {
-    rule: &'static str,
-    cure: &'static str,
-    message: &'static str,
-    /// It fills the gap of the message.
-    fact: Fact<'t>,
-    /// The name of this fact as a detail; empty if it is none.
-    detail: &'static str,
-}
-
-/// A rule told without a fact.
-fn broken(
-    rule: &'static str,
-    cure: &'static str,
-    message: &'static str,
-) -> Option<BrokenRule<'static>> {
-    Some(BrokenRule {
-        rule,
-        cure,
-        message,
-        fact: NOTHING,
-        detail: "",
-    })
+pub enum BrokenRule<'t> {
+    NoObject,
+    NoName,
+    NameNoText,
+    NoCommands,
+    CommandsNoArray,
+    /// No command ends the script.
+    NoEnd,
+    /// This first end isn't the last command.
+    EndNotLast(usize),
+    VerticesNoArray,
+    /// This vertex, the first such, isn't three whole numbers.
+    NoVertex(usize),
+    /// An unknown member.
+    OtherMember(&'t str),
 }
 
 /// The first rule broken by an item; none if it is a script.
 pub fn broken_rule(item: &Value) -> Option<BrokenRule<'_>> {
     let Some(members) = item.as_object() else {
-        return Some(NO_OBJECT);
+        return Some(BrokenRule::NoObject);
     };
-    if let Some(broken) = broken_name(members.get("name")) {
-        return Some(broken);
-    }
-    if let Some(broken) = broken_commands(members.get("commands")) {
-        return Some(broken);
-    }
-    if let Some(broken) = broken_vertices(members.get("vertices")) {
-        return Some(broken);
-    }
-    other_member(members)
+    broken_name(members)
+        .or_else(|| broken_commands(members))
+        .or_else(|| broken_vertices(members))
+        .or_else(|| other_member(members))
 }
 
-fn broken_name(name: Option<&Value>) -> Option<BrokenRule<'static>> {
-    let cure = "Give the script a name, which is a text.";
-    match name {
-        None => broken("name", cure, "It has no name."),
-        Some(name) => {
-            if name.is_string() {
-                None
-            } else {
-                broken("name", cure, "Its name isn't a text.")
-            }
-        }
+fn broken_name(members: &Map<String, Value>) -> Option<BrokenRule<'static>> {
+    match members.get("name") {
+        None => Some(BrokenRule::NoName),
+        Some(Value::String(_)) => None,
+        Some(_) => Some(BrokenRule::NameNoText),
     }
 }
 
-fn broken_commands(commands: Option<&Value>) -> Option<BrokenRule<'static>> {
-    let cure = "Give the script an array of commands.";
-    match commands {
-        None => broken("commands", cure, "It has no commands."),
-        Some(commands) => match commands.as_array() {
-            None => broken("commands", cure, "Its commands aren't an array."),
-            Some(commands) => broken_end(commands.as_slice()),
-        },
+fn broken_commands(members: &Map<String, Value>) -> Option<BrokenRule<'static>> {
+    match members.get("commands") {
+        None => Some(BrokenRule::NoCommands),
+        Some(Value::Array(commands)) => broken_end(commands.as_slice()),
+        Some(_) => Some(BrokenRule::CommandsNoArray),
     }
 }
 
 /// The fault of commands unless exactly the last one ends the script.
 fn broken_end(commands: &[Value]) -> Option<BrokenRule<'static>> {
-    for command in 0..commands.len() {
-        if is_end(&commands[command]) {
-            if command + 1 == commands.len() {
-                return None;
-            }
-            return Some(BrokenRule {
-                rule: "end not last",
-                cure: "Write \"commit\" or \"abort\" once, as the last command.",
-                message: "Its command % ends it, and isn't the last one.",
-                fact: Fact::Count(command),
-                detail: "command",
-            });
-        }
+    match commands.iter().position(is_end) {
+        None => Some(BrokenRule::NoEnd),
+        Some(end) if end + 1 < commands.len() => Some(BrokenRule::EndNotLast(end)),
+        Some(_) => None,
     }
-    broken(
-        "no end",
-        "Make \"commit\" or \"abort\" the last command.",
-        "None of its commands is \"commit\" or \"abort\".",
-    )
 }
 
 /// Whether a command ends a script.
 fn is_end(command: &Value) -> bool {
-    match command.as_str() {
-        None => false,
-        Some(word) => is_word(word),
+    matches!(command.as_str(), Some("commit" | "abort"))
+}
+
+fn broken_vertices(members: &Map<String, Value>) -> Option<BrokenRule<'static>> {
+    match members.get("vertices") {
+        None => None,
+        Some(Value::Array(vertices)) => broken_vertex(vertices.as_slice()),
+        Some(_) => Some(BrokenRule::VerticesNoArray),
     }
 }
 
-fn broken_vertices(vertices: Option<&Value>) -> Option<BrokenRule<'static>> {
-    let rule = "vertices";
-    let cure = "Write each vertex as three whole numbers, a position in the model's grid.";
-    match vertices?.as_array() {
-        None => broken(rule, cure, "Its vertices aren't an array."),
-        Some(vertices) => {
-            let vertex = first_no_triple(vertices.as_slice())?;
-            Some(BrokenRule {
-                rule,
-                cure,
-                message: "Its vertex % isn't an array of three whole numbers.",
-                fact: Fact::Count(vertex),
-                detail: "",
-            })
-        }
-    }
+fn broken_vertex(vertices: &[Value]) -> Option<BrokenRule<'static>> {
+    let vertex = vertices
+        .iter()
+        .position(|vertex| triple_of(vertex).is_none())?;
+    Some(BrokenRule::NoVertex(vertex))
 }
 
 /// The first unknown member, in byte order.
 fn other_member(members: &Map<String, Value>) -> Option<BrokenRule<'_>> {
     for (name, _) in members.iter() {
-        if !is_among(MEMBERS, name.as_str()) {
-            return Some(BrokenRule {
-                rule: "member",
-                cure: "Drop the member, or correct its name.",
-                message: "It has the member %, which no script has.",
-                fact: Fact::Text(name.as_str()),
-                detail: "member",
-            });
+        if !matches!(name.as_str(), "name" | "commands" | "vertices") {
+            return Some(BrokenRule::OtherMember(name.as_str()));
         }
     }
     None
@@ -157,16 +97,71 @@ pub fn tell_bad_script(
     diagnostic: &mut Diagnostic,
 ) -> Result<(), OutOfMemory> {
     // (the item breaks some rule)
-    match item {
-        None => tell(NO_OBJECT, diagnostic),
-        Some(item) => tell(broken_rule(item).unwrap_or(NO_OBJECT), diagnostic),
+    let rule = item.and_then(broken_rule).unwrap_or(BrokenRule::NoObject);
+    diagnostic.details.text("rule", rule.name())?;
+    match rule {
+        BrokenRule::EndNotLast(command) => diagnostic.details.number("command", command)?,
+        BrokenRule::OtherMember(member) => diagnostic.details.text("member", member)?,
+        _ => {}
+    }
+    write!(diagnostic.told(rule.cure()), "{rule}")?;
+    Ok(())
+}
+
+impl BrokenRule<'_> {
+    fn name(&self) -> &'static str {
+        match self {
+            BrokenRule::NoObject => "no object",
+            BrokenRule::NoName | BrokenRule::NameNoText => "name",
+            BrokenRule::NoCommands | BrokenRule::CommandsNoArray => "commands",
+            BrokenRule::NoEnd => "no end",
+            BrokenRule::EndNotLast(_) => "end not last",
+            BrokenRule::VerticesNoArray | BrokenRule::NoVertex(_) => "vertices",
+            BrokenRule::OtherMember(_) => "member",
+        }
+    }
+
+    fn cure(&self) -> &'static str {
+        match self {
+            BrokenRule::NoObject => "Write each script as an object with a name and commands.",
+            BrokenRule::NoName | BrokenRule::NameNoText =>
+                "Give the script a name, which is a text.",
+            BrokenRule::NoCommands | BrokenRule::CommandsNoArray =>
+                "Give the script an array of commands.",
+            BrokenRule::NoEnd => "Make \"commit\" or \"abort\" the last command.",
+            BrokenRule::EndNotLast(_) => "Write \"commit\" or \"abort\" once, as the last command.",
+            BrokenRule::VerticesNoArray | BrokenRule::NoVertex(_) => {
+                "Write each vertex as three whole numbers, a position in the model's grid."
+            }
+            BrokenRule::OtherMember(_) => "Drop the member, or correct its name.",
+        }
     }
 }
 
-fn tell(broken: BrokenRule<'_>, diagnostic: &mut Diagnostic) -> Result<(), OutOfMemory> {
-    if !broken.detail.is_empty() {
-        diagnostic.details.add(broken.detail, broken.fact)?;
+impl Display for BrokenRule<'_> {
+    fn fmt<W: Write>(&self, f: &mut Formatter<W>) -> fmt::Result {
+        let message = match *self {
+            BrokenRule::NoObject => "It isn't an object.",
+            BrokenRule::NoName => "It has no name.",
+            BrokenRule::NameNoText => "Its name isn't a text.",
+            BrokenRule::NoCommands => "It has no commands.",
+            BrokenRule::CommandsNoArray => "Its commands aren't an array.",
+            BrokenRule::NoEnd => "None of its commands is \"commit\" or \"abort\".",
+            BrokenRule::VerticesNoArray => "Its vertices aren't an array.",
+            BrokenRule::EndNotLast(command) => {
+                return write!(f, "Its command {command} ends it, and isn't the last one.");
+            }
+            BrokenRule::NoVertex(vertex) => {
+                return write!(
+                    f,
+                    "Its vertex {vertex} isn't an array of three whole numbers."
+                );
+            }
+            BrokenRule::OtherMember(member) => {
+                let member = Quoted(member);
+                return write!(f, "It has the member {member}, which no script has.");
+            }
+        };
+        f.write_str(message)
     }
-    let details = [("rule", Fact::Word(broken.rule))];
-    diagnostic.tell(&details, broken.cure, broken.message, &[broken.fact])
 }

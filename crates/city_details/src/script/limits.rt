@@ -2,11 +2,10 @@
 use crate::diagnostic::Diagnostic;
 use crate::script::item::broken_rule;
 use crate::script::place::narrow_to_script;
-use crate::sentence::Fact;
-use crate::tree::items_at;
 use city_model::OutOfMemory;
 use city_tokens::{MAX_COMMANDS, MAX_SCRIPTS};
 use serde_json::Value;
+use std::fmt::Write;
 
 /// Tells the number of scripts if it is too large, else the first script with too many commands.
 pub fn tell_too_many(tree: &Value, diagnostic: &mut Diagnostic) -> Result<(), OutOfMemory> {
@@ -24,9 +23,8 @@ pub fn tell_too_many(tree: &Value, diagnostic: &mut Diagnostic) -> Result<(), Ou
 
 /// The first script with too many commands, and their number.
 fn first_too_long(items: &[Value]) -> Option<(usize, usize)> {
-    for script in 0..items.len() {
-        let item = &items[script];
-        let commands = items_at(item, "commands").len();
+    for (script, item) in items.iter().enumerate() {
+        let commands = command_count(item);
         if commands > MAX_COMMANDS && broken_rule(item).is_none() {
             return Some((script, commands));
         }
@@ -34,14 +32,21 @@ fn first_too_long(items: &[Value]) -> Option<(usize, usize)> {
     None
 }
 
+/// The number of an item's commands.
+fn command_count(item: &Value) -> usize {
+    match item.get("commands").and_then(Value::as_array) {
+        Some(commands) => commands.len(),
+        None => 0,
+    }
+}
+
 fn tell_scripts(scripts: usize, diagnostic: &mut Diagnostic) -> Result<(), OutOfMemory> {
-    let scripts = Fact::Count(scripts);
-    diagnostic.tell(
-        &[("scripts", scripts)],
-        "Split the text, and run its parts one after the other.",
-        "There are % scripts, and a text may have %.",
-        &[scripts, Fact::Count(MAX_SCRIPTS)],
-    )
+    diagnostic.details.number("scripts", scripts)?;
+    write!(
+        diagnostic.told("Split the text, and run its parts one after the other."),
+        "There are {scripts} scripts, and a text may have {MAX_SCRIPTS}."
+    )?;
+    Ok(())
 }
 
 fn tell_commands(
@@ -49,11 +54,11 @@ fn tell_commands(
     commands: usize,
     diagnostic: &mut Diagnostic,
 ) -> Result<(), OutOfMemory> {
-    let commands = Fact::Count(commands);
-    diagnostic.tell(
-        &[("script", Fact::Count(script)), ("commands", commands)],
-        "Split the script into several.",
-        "It has % commands, and a script may have %.",
-        &[commands, Fact::Count(MAX_COMMANDS)],
-    )
+    diagnostic.details.number("script", script)?;
+    diagnostic.details.number("commands", commands)?;
+    write!(
+        diagnostic.told("Split the script into several."),
+        "It has {commands} commands, and a script may have {MAX_COMMANDS}."
+    )?;
+    Ok(())
 }

@@ -1,9 +1,9 @@
 //! The place of a script or a command: found in the tree, and in words.
 use crate::diagnostic::Diagnostic;
-use crate::sentence::Fact;
-use crate::tree::text_at;
+use crate::quoted::Quoted;
 use city_model::OutOfMemory;
 use serde_json::Value;
+use std::fmt::Write;
 
 /// Most bytes of a name shown. A longer one would be copied for each fault of its script.
 const LONGEST_NAME: usize = 100;
@@ -15,7 +15,7 @@ pub fn command_at(tree: &Value, script: usize, command: usize) -> Option<&Value>
 
 /// The name of a script, if it is a text short enough to be shown.
 fn short_name(tree: &Value, script: usize) -> Option<&str> {
-    let name = text_at(tree.get(script)?, "name")?;
+    let name = tree.get(script)?.get("name")?.as_str()?;
     if name.len() > LONGEST_NAME {
         return None;
     }
@@ -28,10 +28,13 @@ pub fn narrow_to_script(
     script: usize,
     diagnostic: &mut Diagnostic,
 ) -> Result<(), OutOfMemory> {
-    match short_name(tree, script) {
-        None => diagnostic.narrow("script %", &[Fact::Count(script)]),
-        Some(name) => { diagnostic.narrow("script % %", &[Fact::Count(script), Fact::Text(name)]) }
+    let place = diagnostic.narrowed()?;
+    write!(place, "script {script}")?;
+    if let Some(name) = short_name(tree, script) {
+        let name = Quoted(name);
+        write!(place, " {name}")?;
     }
+    Ok(())
 }
 
 /// Narrows the place to a command of a script.
@@ -42,5 +45,6 @@ pub fn narrow_to_command(
     diagnostic: &mut Diagnostic,
 ) -> Result<(), OutOfMemory> {
     narrow_to_script(tree, script, diagnostic)?;
-    diagnostic.narrow("command %", &[Fact::Count(command)])
+    write!(diagnostic.narrowed()?, "command {command}")?;
+    Ok(())
 }

@@ -1,51 +1,81 @@
 //! Diagnostics of unreadable geometries.
 use crate::diagnostic::Diagnostic;
-use crate::sentence::{Fact, NOTHING};
-use crate::shape::nesting::{depth_of, is_nested};
-use crate::shape::place::narrow_to_geometry;
+use crate::quoted::Quoted;
+use crate::shape::nesting::Nesting;
 use city_model::OutOfMemory;
 use city_model::shape_type::ShapeType;
 use serde_json::Value;
+use std::fmt::{self, Display, Formatter, Write};
 
 const CURE: &str = "Repair the geometry; a lod is a text.";
 
 /// A fault of a geometry.
 #[derive(Clone, Copy)]
-struct Wrong<'v> {
-    /// The wrong part of the geometry.
-    part: &'static str,
-    /// Its first gap is for the geometry's number.
-    message: &'static str,
-    /// The facts for the other gaps.
-    kind: Fact<'v>,
-    depth: usize,
+enum Wrong<'v> {
+    NoObject,
+    NoLod,
+    LodNoText,
+    NoType,
+    TypeNoText,
+    UnknownType(&'v str),
+    NoBoundaries,
+    /// The boundaries don't have the nesting of this type.
+    Nested(ShapeType),
 }
 
-/// A fault told by the geometry's number alone.
-fn wrong_part(part: &'static str, message: &'static str) -> Option<Wrong<'static>> {
-    Some(Wrong {
-        part,
-        message,
-        kind: NOTHING,
-        depth: 0,
-    })
+impl Wrong<'_> {
+    /// The wrong part of the geometry.
+    fn part(&self) -> &'static str {
+        match self {
+            Wrong::NoObject => "geometry",
+            Wrong::NoLod | Wrong::LodNoText => "lod",
+            Wrong::NoType | Wrong::TypeNoText | Wrong::UnknownType(_) => "type",
+            Wrong::NoBoundaries | Wrong::Nested(_) => "boundaries",
+        }
+    }
+}
+
+/// Shows a geometry's number and its fault.
+#[derive(Clone, Copy)]
+struct Message<'v>(usize, Wrong<'v>);
+
+impl Display for Message<'_> {
+    fn fmt<W: Write>(&self, f: &mut Formatter<W>) -> fmt::Result {
+        let n = self.0;
+        match self.1 {
+            Wrong::NoObject => write!(f, "Geometry {n} isn't an object."),
+            Wrong::NoLod | Wrong::NoType | Wrong::NoBoundaries => {
+                let part = self.1.part();
+                write!(f, "Geometry {n} has no {part}.")
+            }
+            Wrong::LodNoText | Wrong::TypeNoText => {
+                let part = self.1.part();
+                write!(f, "The {part} of geometry {n} isn't a text.")
+            }
+            Wrong::UnknownType(kind) => {
+                let kind = Quoted(kind);
+                write!(f, "Geometry {n} is of type {kind}, which isn't read.")
+            }
+            Wrong::Nested(kind) => {
+                let (kind, depth) = (kind.name(), Nesting::of(kind).depth());
+                write!(
+                    f,
+                    "The boundaries of geometry {n}, a {kind}, aren't positions in {depth} arrays."
+                )
+            }
+        }
+    }
 }
 
 /// Tells the first unreadable geometry, and its wrong part.
 pub fn tell_bad_geometry(object: &Value, diagnostic: &mut Diagnostic) -> Result<(), OutOfMemory> {
-    match object.get("geometry") {
-        None => Ok(()),
-        Some(geometry) => match geometry.as_array() {
-            Some(geometries) => tell_first(geometries.as_slice(), diagnostic),
-            None => {
-                let details = [("part", Fact::Word("geometry"))];
-                diagnostic.tell(&details, CURE, "Its geometry isn't an array.", &[])
-            }
-        },
-    }
-}
-
-fn tell_first(geometries: &[Value], diagnostic: &mut Diagnostic) -> Result<(), OutOfMemory> {
+    let Some(geometry) = object.get("geometry") else {
+        return Ok(());
+    };
+    let Some(geometries) = geometry.as_array() else {
+        diagnostic.details.text("part", "geometry")?;
+        return diagnostic.tell("Its geometry isn't an array.", CURE);
+    };
     for number in 0..geometries.len() {
         if let Some(wrong) = wrong_with(&geometries[number]) {
             return tell(number, wrong, diagnostic);
@@ -55,67 +85,43 @@ fn tell_first(geometries: &[Value], diagnostic: &mut Diagnostic) -> Result<(), O
 }
 
 fn tell(number: usize, wrong: Wrong<'_>, diagnostic: &mut Diagnostic) -> Result<(), OutOfMemory> {
-    narrow_to_geometry(number, diagnostic)?;
-    if let Fact::Text(kind) = wrong.kind {
+    write!(diagnostic.narrowed()?, "geometry {number}")?;
+    diagnostic.details.number("geometry", number)?;
+    diagnostic.details.text("part", wrong.part())?;
+    if let Wrong::UnknownType(kind) = wrong {
         diagnostic.details.text("given", kind)?;
     }
-    diagnostic.tell(
-        &[("part", Fact::Word(wrong.part))],
-        CURE,
-        wrong.message,
-        &[Fact::Count(number), wrong.kind, Fact::Count(wrong.depth)],
-    )
+    let message = Message(number, wrong);
+    write!(diagnostic.told(CURE), "{message}")?;
+    Ok(())
 }
 
 /// The first fault of a geometry, if any.
 fn wrong_with(geometry: &Value) -> Option<Wrong<'_>> {
     if !geometry.is_object() {
-        return wrong_part("geometry", "Geometry % isn't an object.");
+        return Some(Wrong::NoObject);
     }
     match geometry.get("lod") {
-        None => wrong_part("lod", "Geometry % has no lod."),
-        Some(lod) => {
-            if lod.is_string() {
-                wrong_with_type(geometry)
-            } else {
-                wrong_part("lod", "The lod of geometry % isn't a text.")
-            }
-        }
+        None => Some(Wrong::NoLod),
+        Some(lod) if !lod.is_string() => Some(Wrong::LodNoText),
+        Some(_) => wrong_with_type(geometry),
     }
 }
 
 /// The first fault of a geometry with a valid lod, if any.
 fn wrong_with_type(geometry: &Value) -> Option<Wrong<'_>> {
     let Some(kind) = geometry.get("type") else {
-        return wrong_part("type", "Geometry % has no type.");
+        return Some(Wrong::NoType);
     };
     let Some(name) = kind.as_str() else {
-        return wrong_part("type", "The type of geometry % isn't a text.");
+        return Some(Wrong::TypeNoText);
     };
-    match ShapeType::of_name(name) {
-        Some(kind) => wrong_boundaries(kind, geometry.get("boundaries")),
-        None => Some(Wrong {
-            part: "type",
-            message: "Geometry % is of type %, which isn't read.",
-            kind: Fact::Text(name),
-            depth: 0,
-        }),
-    }
-}
-
-/// The fault of the boundaries of a geometry of this type, if any.
-fn wrong_boundaries(kind: ShapeType, boundaries: Option<&Value>) -> Option<Wrong<'static>> {
-    let Some(boundaries) = boundaries else {
-        return wrong_part("boundaries", "Geometry % has no boundaries.");
+    let Some(kind) = ShapeType::of_name(name) else {
+        return Some(Wrong::UnknownType(name));
     };
-    let depth = depth_of(kind);
-    if is_nested(boundaries, depth) {
-        return None;
+    match geometry.get("boundaries") {
+        None => Some(Wrong::NoBoundaries),
+        Some(boundaries) if !Nesting::of(kind).has(boundaries) => Some(Wrong::Nested(kind)),
+        Some(_) => None,
     }
-    Some(Wrong {
-        part: "boundaries",
-        message: "The boundaries of geometry %, a %, aren't positions in % arrays.",
-        kind: Fact::Word(kind.name()),
-        depth,
-    })
 }

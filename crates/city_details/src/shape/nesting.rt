@@ -2,25 +2,42 @@
 use city_model::shape_type::ShapeType;
 use serde_json::Value;
 
-/// The number of arrays around a position in a list of surfaces, of shells, and of solids.
-pub const SURFACES: usize = 3;
+/// The items of the outermost array of boundaries.
+#[derive(Clone, Copy)]
+pub enum Nesting {
+    Surfaces,
+    Shells,
+    Solids,
+}
 
-pub const SHELLS: usize = 4;
+impl Nesting {
+    /// The nesting of a type of geometry.
+    pub fn of(kind: ShapeType) -> Nesting {
+        match kind {
+            ShapeType::MultiSurface | ShapeType::CompositeSurface => Nesting::Surfaces,
+            ShapeType::Solid => Nesting::Shells,
+            ShapeType::MultiSolid | ShapeType::CompositeSolid => Nesting::Solids,
+        }
+    }
 
-pub const SOLIDS: usize = 5;
+    /// The number of arrays around a position.
+    pub fn depth(self) -> usize {
+        match self {
+            Nesting::Surfaces => 3,
+            Nesting::Shells => 4,
+            Nesting::Solids => 5,
+        }
+    }
 
-/// The number of arrays around a position in the boundaries of a geometry of this type.
-pub fn depth_of(kind: ShapeType) -> usize {
-    match kind {
-        ShapeType::MultiSurface | ShapeType::CompositeSurface => SURFACES,
-        ShapeType::Solid => SHELLS,
-        ShapeType::MultiSolid | ShapeType::CompositeSolid => SOLIDS,
+    /// Whether boundaries are numbers, nested like this.
+    pub fn has(self, boundaries: &Value) -> bool {
+        is_nested(boundaries, self.depth())
     }
 }
 
 /// Whether a value is numbers within `depth` arrays.
 #[cycle(nested)]
-pub fn is_nested(value: &Value, depth: usize) -> bool {
+fn is_nested(value: &Value, depth: usize) -> bool {
     if depth == 0 {
         return value.is_number();
     }

@@ -1,15 +1,10 @@
 //! The place of a shell or a ring in an object's geometries.
 use crate::diagnostic::Diagnostic;
-use crate::sentence::Fact;
+use crate::quoted::Quoted;
 use crate::shape::walk::{Ring, Surfaces};
-use crate::tree::text_at;
 use city_model::OutOfMemory;
-
-/// Narrows the place of a diagnostic to the geometry of this number, and adds the number.
-pub fn narrow_to_geometry(number: usize, diagnostic: &mut Diagnostic) -> Result<(), OutOfMemory> {
-    diagnostic.narrow("geometry %", &[Fact::Count(number)])?;
-    diagnostic.details.number("geometry", number)
-}
+use serde_json::Value;
+use std::fmt::Write;
 
 /// Narrows the place of a diagnostic to surfaces, and adds their numbers.
 pub fn narrow_to_surfaces(
@@ -17,13 +12,12 @@ pub fn narrow_to_surfaces(
     diagnostic: &mut Diagnostic,
 ) -> Result<(), OutOfMemory> {
     let number = surfaces.geometry.number;
-    let lod = text_at(surfaces.geometry.value, "lod").unwrap_or("");
+    let lod = surfaces.geometry.value.get("lod").and_then(Value::as_str);
+    let lod = lod.unwrap_or("");
     diagnostic.details.number("geometry", number)?;
     diagnostic.details.text("lod", lod)?;
-    diagnostic.narrow(
-        "geometry % (lod %)",
-        &[Fact::Count(number), Fact::Text(lod)],
-    )?;
+    let lod = Quoted(lod);
+    write!(diagnostic.narrowed()?, "geometry {number} (lod {lod})")?;
     narrow_to_part("solid", surfaces.solid, diagnostic)?;
     narrow_to_part("shell", surfaces.shell, diagnostic)
 }
@@ -48,6 +42,6 @@ fn narrow_to_part(
     let Some(number) = number else {
         return Ok(());
     };
-    diagnostic.narrow("% %", &[Fact::Word(part), Fact::Count(number)])?;
+    write!(diagnostic.narrowed()?, "{part} {number}")?;
     diagnostic.details.number(part, number)
 }

@@ -1,8 +1,20 @@
-//! Points of rings.
+//! Points of rings, and in messages.
 use city_model::OutOfMemory;
 use city_model::object::Point;
 use serde_json::Value;
 use std::alloc::Global;
+use std::fmt::{self, Display, Formatter, Write};
+
+/// Shows a point as an array of its coordinates.
+#[derive(Clone, Copy)]
+pub struct Coordinates(pub Point);
+
+impl Display for Coordinates {
+    fn fmt<W: Write>(&self, f: &mut Formatter<W>) -> fmt::Result {
+        let Point { x, y, z } = self.0;
+        write!(f, "[{x},{y},{z}]")
+    }
+}
 
 /// The points at a ring's positions, without positions out of range.
 pub fn points_of(

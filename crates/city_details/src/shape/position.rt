@@ -1,11 +1,13 @@
 //! Diagnostics of positions without a vertex.
 use crate::diagnostic::Diagnostic;
-use crate::sentence::Fact;
 use crate::shape::place::narrow_to_ring;
 use crate::shape::walk::{Surfaces, rings_of, surfaces_of};
 use city_model::OutOfMemory;
 use serde_json::Value;
 use std::alloc::Global;
+use std::fmt::Write;
+
+const CURE: &str = "Repair the positions.";
 
 /// A position of a ring, and its place in it.
 #[derive(Clone, Copy)]
@@ -49,26 +51,28 @@ fn is_told(
 }
 
 fn tell(found: Found, count: usize, diagnostic: &mut Diagnostic) -> Result<(), OutOfMemory> {
-    let message = if found.position < 0 {
-        "Item % of the ring is %, but no position is negative."
-    } else {
-        "Item % of the ring is %, but there are % vertices, from 0 on."
-    };
-    let item = Fact::Count(found.item);
-    let position = Fact::Integer(found.position);
-    let count = Fact::Count(count);
-    diagnostic.tell(
-        &[("item", item), ("position", position), ("vertices", count)],
-        "Repair the positions.",
-        message,
-        &[item, position, count],
-    )
+    let Found { item, position } = found;
+    diagnostic.details.number("item", item)?;
+    diagnostic.details.integer("position", position)?;
+    diagnostic.details.number("vertices", count)?;
+    if position < 0 {
+        write!(
+            diagnostic.told(CURE),
+            "Item {item} of the ring is {position}, but no position is negative."
+        )?;
+        return Ok(());
+    }
+    write!(
+        diagnostic.told(CURE),
+        "Item {item} of the ring is {position}, but there are {count} vertices, from 0 on."
+    )?;
+    Ok(())
 }
 
 /// The first position out of the range of `count` vertices.
 fn in_ring(positions: &[Value], count: usize) -> Option<Found> {
-    for item in 0..positions.len() {
-        if let Some(position) = positions[item].as_i64() {
+    for (item, position) in positions.iter().enumerate() {
+        if let Some(position) = position.as_i64() {
             if !is_below(position, count) {
                 return Some(Found { item, position });
             }

@@ -1,23 +1,54 @@
 //! Diagnostics of short rings, of rings with equal neighbours, and of surfaces without rings.
 use crate::diagnostic::Diagnostic;
-use crate::sentence::{Fact, NOTHING};
 use crate::shape::place::narrow_to_ring;
-use crate::shape::points::points_of;
+use crate::shape::points::{Coordinates, points_of};
 use crate::shape::walk::{Ring, Surfaces, rings_of, surfaces_of};
 use city_model::OutOfMemory;
 use city_model::object::Point;
 use serde_json::Value;
 use std::alloc::Global;
+use std::fmt::{self, Display, Formatter, Write};
 
 /// A fault of a ring.
 #[derive(Clone, Copy)]
-struct Wrong {
-    rule: &'static str,
-    /// A detail beside the rule.
-    detail: Option<(&'static str, Fact<'static>)>,
-    message: &'static str,
-    /// They fill the gaps of the message.
-    facts: [Fact<'static>; 3],
+enum Wrong {
+    /// This surface has no ring.
+    NoRing(usize),
+    /// It has only so many points.
+    Short(usize),
+    /// These two, by their places in the ring, are this point.
+    Equal(usize, usize, Point),
+}
+
+impl Wrong {
+    fn rule(&self) -> &'static str {
+        match self {
+            Wrong::NoRing(_) => "no ring",
+            Wrong::Short(_) => "short ring",
+            Wrong::Equal(_, _, _) => "equal neighbours",
+        }
+    }
+}
+
+impl Display for Wrong {
+    fn fmt<W: Write>(&self, f: &mut Formatter<W>) -> fmt::Result {
+        match *self {
+            Wrong::NoRing(surface) => write!(f, "Surface {surface} has no ring."),
+            Wrong::Short(points) => {
+                write!(
+                    f,
+                    "The ring has {points} of the three points that it needs."
+                )
+            }
+            Wrong::Equal(one, next, point) => {
+                let point = Coordinates(point);
+                write!(
+                    f,
+                    "The neighbours {one} and {next} of the ring are equal: {point}."
+                )
+            }
+        }
+    }
 }
 
 /// Tells the first ring that is too short or has equal neighbours, or the first surface without rings.
@@ -55,15 +86,17 @@ fn is_told(
 }
 
 fn tell(wrong: Wrong, diagnostic: &mut Diagnostic) -> Result<(), OutOfMemory> {
-    if let Some((name, fact)) = wrong.detail {
-        diagnostic.details.add(name, fact)?;
+    diagnostic.details.text("rule", wrong.rule())?;
+    match wrong {
+        Wrong::NoRing(_) => {}
+        Wrong::Short(points) => diagnostic.details.number("points", points)?,
+        Wrong::Equal(_, _, point) => diagnostic.details.point("point", point)?,
     }
-    diagnostic.tell(
-        &[("rule", Fact::Word(wrong.rule))],
-        "Drop repeated points, and rings that are too short.",
-        wrong.message,
-        &wrong.facts,
-    )
+    write!(
+        diagnostic.told("Drop repeated points, and rings that are too short."),
+        "{wrong}"
+    )?;
+    Ok(())
 }
 
 fn wrong_with(
@@ -72,56 +105,24 @@ fn wrong_with(
     vertices: &[Point],
 ) -> Result<Option<Wrong>, OutOfMemory> {
     if ring.ring.is_none() {
-        return Ok(Some(no_ring(ring.surface)));
+        return Ok(Some(Wrong::NoRing(ring.surface)));
     }
     let points = points_of(alloc, ring.positions, vertices)?;
-    Ok(wrong_points(points.as_slice()))
+    if points.len() < 3 {
+        return Ok(Some(Wrong::Short(points.len())));
+    }
+    Ok(equal_neighbours(points.as_slice()))
 }
 
-/// This surface has no ring.
-fn no_ring(surface: usize) -> Wrong {
-    Wrong {
-        rule: "no ring",
-        detail: None,
-        message: "Surface % has no ring.",
-        facts: [Fact::Count(surface), NOTHING, NOTHING],
-    }
-}
-
-fn wrong_points(points: &[Point]) -> Option<Wrong> {
-    let count = points.len();
-    if count < 3 {
-        return Some(short(Fact::Count(count)));
-    }
-    for next in 1..count {
+/// The first point equal to the next one; the last point is followed by the first.
+fn equal_neighbours(points: &[Point]) -> Option<Wrong> {
+    for next in 1..points.len() {
         if points[next - 1] == points[next] {
-            return Some(equal(next - 1, next, points[next]));
+            return Some(Wrong::Equal(next - 1, next, points[next]));
         }
     }
-    // (the last point is followed by the first)
-    if points[count - 1] == points[0] {
-        return Some(equal(count - 1, 0, points[0]));
-    }
-    None
-}
-
-/// It has only so many points.
-fn short(points: Fact<'static>) -> Wrong {
-    Wrong {
-        rule: "short ring",
-        detail: Some(("points", points)),
-        message: "The ring has % of the three points that it needs.",
-        facts: [points, NOTHING, NOTHING],
-    }
-}
-
-/// These two, by their places in the ring, are this point.
-fn equal(one: usize, next: usize, point: Point) -> Wrong {
-    let point = Fact::Point(point);
-    Wrong {
-        rule: "equal neighbours",
-        detail: Some(("point", point)),
-        message: "The neighbours % and % of the ring are equal: %.",
-        facts: [Fact::Count(one), Fact::Count(next), point],
+    match points {
+        [first, .., last] if first == last => Some(Wrong::Equal(points.len() - 1, 0, *first)),
+        _ => None,
     }
 }

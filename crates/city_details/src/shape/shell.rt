@@ -3,14 +3,14 @@ ghost use Rattle.std.specs.Prelude.{◌<◌, length};
 
 use crate::details::Details;
 use crate::diagnostic::Diagnostic;
-use crate::sentence::Fact;
 use crate::shape::place::narrow_to_surfaces;
-use crate::shape::points::points_of;
+use crate::shape::points::{Coordinates, points_of};
 use crate::shape::walk::{Ring, Surfaces, rings_of, surfaces_of};
 use city_model::OutOfMemory;
 use city_model::object::Point;
 use serde_json::Value;
 use std::alloc::Global;
+use std::fmt::Write;
 
 /// Most open edges told one by one; the others are counted.
 const MOST_TOLD: usize = 100;
@@ -50,28 +50,20 @@ pub fn tell_open_shell(
 fn tell(edges: OpenEdges, diagnostic: &mut Diagnostic) -> Result<(), OutOfMemory> {
     let OpenEdges { first, count, told } = edges;
     diagnostic.details.list("edges", told)?;
-    match first {
-        None => Ok(()),
-        Some((from, to)) => tell_first(from, to, count, diagnostic),
-    }
-}
-
-/// Tells the first of so many open edges, and counts those that aren't told.
-fn tell_first(
-    from: Point,
-    to: Point,
-    count: usize,
-    diagnostic: &mut Diagnostic,
-) -> Result<(), OutOfMemory> {
     if count > MOST_TOLD {
         diagnostic.details.number("more", count - MOST_TOLD)?;
     }
-    diagnostic.tell(
-        &[],
-        "Close it, turn the face that is the wrong way round, or make it a MultiSurface.",
-        "The shell has % open edges, the first from % to %.",
-        &[Fact::Count(count), Fact::Point(from), Fact::Point(to)],
-    )
+    let Some((from, to)) = first else {
+        return Ok(());
+    };
+    let (from, to) = (Coordinates(from), Coordinates(to));
+    write!(
+        diagnostic.told(
+            "Close it, turn the face that is the wrong way round, or make it a MultiSurface."
+        ),
+        "The shell has {count} open edges, the first from {from} to {to}."
+    )?;
+    Ok(())
 }
 
 /// Returns the open edges of a shell. An edge is closed if it and its reverse occur once each.
@@ -82,37 +74,16 @@ fn open_edges(
 ) -> Result<OpenEdges, OutOfMemory> {
     let rings = rings_of(alloc, surfaces)?;
     let edges = sorted_edges(alloc, rings.as_slice(), vertices)?;
-    open_among(alloc, rings.as_slice(), vertices, edges.as_slice())
-}
-
-/// The open edges of these rings, by their sorted edges.
-fn open_among(
-    alloc: Global,
-    rings: &[Ring<'_>],
-    vertices: &[Point],
-    edges: &[Edge],
-) -> Result<OpenEdges, OutOfMemory> {
     let mut found = OpenEdges {
         first: None,
         count: 0,
         told: Vec::new(alloc),
     };
-    push_all_open(alloc, rings, vertices, edges, &mut found)?;
-    Ok(found)
-}
-
-fn push_all_open(
-    alloc: Global,
-    rings: &[Ring<'_>],
-    vertices: &[Point],
-    edges: &[Edge],
-    found: &mut OpenEdges,
-) -> Result<(), OutOfMemory> {
-    for ring in rings {
+    for ring in &rings {
         let points = points_of(alloc, ring.positions, vertices)?;
-        push_open(alloc, ring, points.as_slice(), edges, found)?;
+        push_open(alloc, ring, points.as_slice(), edges.as_slice(), &mut found)?;
     }
-    Ok(())
+    Ok(found)
 }
 
 /// All edges of these rings, in order.
@@ -177,19 +148,15 @@ fn push_edge(
     }
     found.count = found.count.saturating_add(1);
     if found.count <= MOST_TOLD {
+        let (from, to) = edge;
         let mut details = Details::new(alloc);
-        add_edge(ring, edge, &mut details)?;
+        details.point("from", from)?;
+        details.point("to", to)?;
+        details.number("surface", ring.surface)?;
+        details.number("ring", ring.ring.unwrap_or(0))?;
         found.told.push(details)?;
     }
     Ok(())
-}
-
-fn add_edge(ring: &Ring<'_>, edge: Edge, details: &mut Details) -> Result<(), OutOfMemory> {
-    let (from, to) = edge;
-    details.point("from", from)?;
-    details.point("to", to)?;
-    details.number("surface", ring.surface)?;
-    details.number("ring", ring.ring.unwrap_or(0))
 }
 
 fn is_open(edges: &[Edge], edge: Edge) -> bool {

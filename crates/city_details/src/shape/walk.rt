@@ -1,10 +1,25 @@
 //! The walk through boundaries: the lists of surfaces of an object, and the rings of such a list.
-use crate::shape::nesting::{SHELLS, SURFACES, depth_of};
-use crate::tree::{items_at, items_of, text_at};
+use crate::shape::nesting::Nesting;
 use city_model::OutOfMemory;
 use city_model::shape_type::ShapeType;
 use serde_json::Value;
 use std::alloc::Global;
+
+/// The items of a value; none if it isn't an array.
+pub fn items_of(value: &Value) -> &[Value] {
+    match value.as_array() {
+        None => &[],
+        Some(items) => items.as_slice(),
+    }
+}
+
+/// The items of a member; none if it isn't an array.
+fn items_at<'v>(object: &'v Value, name: &str) -> &'v [Value] {
+    match object.get(name) {
+        None => &[],
+        Some(value) => items_of(value),
+    }
+}
 
 /// The geometries of an object.
 pub fn geometries_of(object: &Value) -> &[Value] {
@@ -32,9 +47,7 @@ pub struct Surfaces<'v> {
 /// The lists of surfaces of an object's geometries: one for each shell, and one for a geometry without shells.
 pub fn surfaces_of<'v>(alloc: Global, object: &'v Value) -> Result<Vec<Surfaces<'v>>, OutOfMemory> {
     let mut lists = Vec::new(alloc);
-    let geometries = geometries_of(object);
-    for number in 0..geometries.len() {
-        let value = &geometries[number];
+    for (number, value) in geometries_of(object).iter().enumerate() {
         push_geometry(Geometry { number, value }, &mut lists)?;
     }
     Ok(lists)
@@ -44,31 +57,22 @@ fn push_geometry<'v>(
     geometry: Geometry<'v>,
     lists: &mut Vec<Surfaces<'v>>,
 ) -> Result<(), OutOfMemory> {
-    let Some(kind) = kind_of(geometry.value) else {
-        return Ok(());
-    };
+    let kind = geometry.value.get("type").and_then(Value::as_str);
     let items = items_at(geometry.value, "boundaries");
-    let depth = depth_of(kind);
-    if depth == SURFACES {
-        push_surfaces(geometry, None, None, items, lists)
-    } else if depth == SHELLS {
-        push_shells(geometry, None, items, lists)
-    } else {
-        push_solids(geometry, items, lists)
-    }
-}
-
-fn kind_of(geometry: &Value) -> Option<ShapeType> {
-    ShapeType::of_name(text_at(geometry, "type")?)
-}
-
-fn push_solids<'v>(
-    geometry: Geometry<'v>,
-    solids: &'v [Value],
-    lists: &mut Vec<Surfaces<'v>>,
-) -> Result<(), OutOfMemory> {
-    for solid in 0..solids.len() {
-        push_shells(geometry, Some(solid), items_of(&solids[solid]), lists)?;
+    match kind.and_then(ShapeType::of_name).map(Nesting::of) {
+        None => {}
+        Some(Nesting::Surfaces) => lists.push(Surfaces {
+            geometry,
+            solid: None,
+            shell: None,
+            items,
+        })?,
+        Some(Nesting::Shells) => push_shells(geometry, None, items, lists)?,
+        Some(Nesting::Solids) => {
+            for (solid, shells) in items.iter().enumerate() {
+                push_shells(geometry, Some(solid), items_of(shells), lists)?;
+            }
+        }
     }
     Ok(())
 }
@@ -79,31 +83,14 @@ fn push_shells<'v>(
     shells: &'v [Value],
     lists: &mut Vec<Surfaces<'v>>,
 ) -> Result<(), OutOfMemory> {
-    for shell in 0..shells.len() {
-        push_surfaces(
+    for (shell, surfaces) in shells.iter().enumerate() {
+        lists.push(Surfaces {
             geometry,
             solid,
-            Some(shell),
-            items_of(&shells[shell]),
-            lists,
-        )?;
+            shell: Some(shell),
+            items: items_of(surfaces),
+        })?;
     }
-    Ok(())
-}
-
-fn push_surfaces<'v>(
-    geometry: Geometry<'v>,
-    solid: Option<usize>,
-    shell: Option<usize>,
-    items: &'v [Value],
-    lists: &mut Vec<Surfaces<'v>>,
-) -> Result<(), OutOfMemory> {
-    lists.push(Surfaces {
-        geometry,
-        solid,
-        shell,
-        items,
-    })?;
     Ok(())
 }
 
@@ -120,9 +107,8 @@ pub struct Ring<'v> {
 /// The rings of surfaces, in order.
 pub fn rings_of<'v>(alloc: Global, surfaces: &Surfaces<'v>) -> Result<Vec<Ring<'v>>, OutOfMemory> {
     let mut rings = Vec::new(alloc);
-    let items = surfaces.items;
-    for surface in 0..items.len() {
-        push_rings(surface, items_of(&items[surface]), &mut rings)?;
+    for (surface, value) in surfaces.items.iter().enumerate() {
+        push_rings(surface, items_of(value), &mut rings)?;
     }
     Ok(rings)
 }
@@ -133,24 +119,18 @@ fn push_rings<'v>(
     rings: &mut Vec<Ring<'v>>,
 ) -> Result<(), OutOfMemory> {
     if items.is_empty() {
-        return push_ring(surface, None, items, rings);
+        rings.push(Ring {
+            surface,
+            ring: None,
+            positions: items,
+        })?;
     }
-    for ring in 0..items.len() {
-        push_ring(surface, Some(ring), items_of(&items[ring]), rings)?;
+    for (number, ring) in items.iter().enumerate() {
+        rings.push(Ring {
+            surface,
+            ring: Some(number),
+            positions: items_of(ring),
+        })?;
     }
-    Ok(())
-}
-
-fn push_ring<'v>(
-    surface: usize,
-    ring: Option<usize>,
-    positions: &'v [Value],
-    rings: &mut Vec<Ring<'v>>,
-) -> Result<(), OutOfMemory> {
-    rings.push(Ring {
-        surface,
-        ring,
-        positions,
-    })?;
     Ok(())
 }

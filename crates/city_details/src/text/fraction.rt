@@ -29,8 +29,8 @@ fn add_item_steps<'t>(
     items: &'t Vec<Value>,
     steps: &mut Vec<Step<'t>>,
 ) -> Result<bool, OutOfMemory> {
-    for number in 0..items.len() {
-        if add_steps(&items[number], steps)? {
+    for (number, item) in items.iter().enumerate() {
+        if add_steps(item, steps)? {
             steps.push(Step::Item(number))?;
             return Ok(true);
         }
