@@ -1,7 +1,7 @@
 //! The answers of a lock table.
 
 /// The answer to an asker. A smaller stamp is older.
-#[derive(Clone, Copy, PartialEq, Eq)]
+#[derive(Clone, Copy, Debug, PartialEq, Eq)]
 pub enum Answer {
     /// No other holder is in conflict: the asker holds the lock.
     Granted,
