@@ -7,14 +7,21 @@ PROGRAM is a built cityed. Needs a C compiler named cc, for count.c. The texts a
 as long. Four times the text may take 4.5 times the allocations and 4.5 times the bytes that they ask for; a road
 without members may take two allocations, for its id and its body, and a tenth, since the nodes of a city's map are
 full. Each script has to commit, the two kinds that have a fault have to be refused, and of the kinds with many faults
---check has to tell each. Scripts that lock ids of their
-own may have 1.05 times as much allocated at once as scripts that lock the same ids, and an object that is put may take
-4 allocations for each attribute: its name, its text, its share and its copy in the map that is written. Sets on an
-object of 10,000 points may ask for twice the bytes of sets on one of 10, since they share its geometry. Where scripts meet, sixteen workers may take 1.5 times the processor time of one.
-Four workers may leave their cores to wait 200 times in a run of many scripts, long ones or short.
-Where valgrind is installed, the instructions of texts whose points would collide are counted too, and may grow six
-times. Prints one line for each kind, and ends with status 1 where one took more or ended otherwise.
-So are those of files that end in a newline, with `--decimals`: they may take 1.05 times those of files without one.
+--check has to tell each.
+
+- Scripts that lock ids of their own may have 1.05 times as much allocated at once as scripts that lock the same ids.
+- An object that is put may take 4 allocations for each attribute: its name, its text, its share and its copy in the
+  map that is written.
+- Sets on an object of 10,000 points may ask for twice the bytes of sets on one of 10, since they share its geometry.
+- A text of one long attribute may ask for 4.6 times its bytes: it is read into memory that doubles, the attribute is
+  one more copy, and the model is written where the text was.
+- Where scripts meet, sixteen workers may take 1.5 times the processor time of one.
+- Four workers may leave their cores to wait 200 times in a run of many scripts, long ones or short.
+- Where valgrind is installed, the instructions of texts whose points would collide are counted too, and may grow six
+  times. So are those of files that end in a newline, with `--decimals`: they may take 1.05 times those of files
+  without one.
+
+Prints one line for each kind, and ends with status 1 where one took more or ended otherwise.
 """
 
 import json
@@ -41,6 +48,7 @@ EACH_ATTRIBUTE = 4
 MOST_OF_POINTS = 2
 OF_AN_EMPTY_RUN = 100
 MOST_OF_A_NEWLINE = 1.05
+MOST_OF_A_TEXT = 4.6
 REFUSED = (growth.repeated_child, growth.open_solid)
 COLLIDING = {growth.colliding_points: 2_000, growth.colliding_replies: 500}
 FIRST_STATES = {"without a seed": growth.FIRST_STATE, "by the fixed seed": growth.FIXED_STATE}
@@ -149,6 +157,14 @@ def bodies_are_shared(program, count, *options):
     return say(right, told)
 
 
+def model_takes_the_text(program, length, *options):
+    """Whether the model is written into the memory of the text that it was read from."""
+    road = {"type": "Road", "attributes": {"remark": "x" * length}}
+    ran, (_, asked, _) = program.counts((growth.model({"r": road}), []), *options)
+    told = f"a text of one attribute of {length:,} bytes{' by ' + ' '.join(options) if options else ''}: {asked:,} bytes"
+    return say(asked <= MOST_OF_A_TEXT * length and committed(ran, []), f"{told}, {asked / length:.2f} times")
+
+
 def geometries_are_shared(program, sets, edit, *options):
     """Whether edits of an object's attributes share its geometry: so many, on an object of many points and of few."""
 
@@ -222,6 +238,8 @@ def main():
             lambda number: {"expect": "a", "attributes": {}},
         ):
             kept += [geometries_are_shared(program, 1_000, edit, *options) for options in ((), ("--watch", "1"))]
+        for options in ((), ("--workers", "4"), ("--watch", "1")):
+            kept += [model_takes_the_text(program, length, *options) for length in (1_000_000, 8_000_000)]
         kept += [workers_sleep(program, count, scripts) for count, scripts in ((300, 200), (900, 60))]
         kept += [workers_seldom_switch(program, count, scripts) for count, scripts in ((1_000, 100), (8, 4_000))]
         if shutil.which("valgrind") is None:

@@ -86,22 +86,22 @@ pub fn run_seeded<R: Threads + Wait + Sync, G: Gate + Sync>(
 {
     let pieces = pieces_for(workers + viewers);
     let (city, list) = read_texts_by(rt, alloc, document, scripts, pieces)?;
-    let room = document.len();
+    let mut room = Vec::new(alloc);
+    let _ = room.reserve_exact(document.len());
     let (output, _) = run_crew_read(rt, alloc, seed, city, list, room, workers, viewers, gate)?;
     Ok(output)
 }
 
 /// Runs scripts already read on a city already read, like `run_seeded`, and gives the final city
-/// beside the output. The texts may be freed before.
-///
-/// `room` is the likely length of the model's text in bytes. Points are hashed by the seed.
+/// beside the output. The output takes the memory of `room`, such as that of the document's text.
+/// Points are hashed by the seed.
 pub fn run_crew_read<R: Threads + Wait + Sync, G: Gate + Sync>(
     rt: &R,
     alloc: Global,
     seed: u64,
     city: City,
     scripts: Sequence<Script>,
-    room: usize,
+    room: Vec<u8>,
     workers: usize,
     viewers: usize,
     gate: &G,
@@ -127,7 +127,7 @@ fn run<R: Threads + Wait + Sync, G: Gate + Sync, O: Origin + Send>(
     seed: u64,
     city: City,
     scripts: Sequence<Script>,
-    room: usize,
+    room: Vec<u8>,
     workers: usize,
     viewers: usize,
     gate: &G,
@@ -162,7 +162,7 @@ fn gather<S: Shelf, Q: Threads + Wait + Sync>(
     finished: Finished<S>,
     watchers: Vec<Watcher>,
     viewers: usize,
-    room: usize,
+    room: Vec<u8>,
     pieces: Pieces,
 ) -> Result<(Output, City), CrewFault>
     ensures ends { IfOk result (λ r. r.0.ends ≡ finished.ends) }

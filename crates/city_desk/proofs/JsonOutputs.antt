@@ -1,9 +1,12 @@
 -- A run's output is lines of JSON.
-use Rattle.city_desk.proofs.Prelude.{◌≡◌, ℕ, List, [], ◌∷◌, ◌++◌, sym, length, append-nil}
+use Rattle.city_desk.proofs.Prelude.{◌≡◌, ℕ, List, [], ◌∷◌, ◌++◌, refl, sym, length, append-nil}
 use Rattle.std.proofs.Common.{append_assoc}
 use Rattle.std.proofs.Math.Seq.{take-append_seam, drop-append_seam}
 use Rattle.city_writer.specs.Outputs.{IsJsonOutput}
 use Rattle.city_writer.specs.report.JsonLines.{IsCompactJson, AreJsonLines}
+
+pub no_lines : AreJsonLines []
+no_lines = record { lines = []; json = tt; text_is = refl }
 
 one_line : (line : List ℕ) → IsCompactJson line → AreJsonLines (line ++ 10 ∷ [])
 one_line line json = record { lines = line ∷ []; json = (json, tt); text_is = sym (append-nil (line ++ 10 ∷ [])) }

@@ -53,19 +53,20 @@ pub fn run_serial_to_city(
     ensures fault { IfErr result (λ f. IsSerialFault document.now scripts.now f) }
 {
     let (city, list) = read_texts(alloc, document, scripts)?;
-    Ok(run_read(alloc, FIXED_SEED, city, list, document.len())?)
+    let mut room = Vec::new(alloc);
+    let _ = room.reserve_exact(document.len());
+    Ok(run_read(alloc, FIXED_SEED, city, list, room)?)
 }
 
 /// Runs scripts already read on a city already read, one after the other, and gives the final city
-/// beside the output. The texts may be freed before.
-///
-/// `room` is the likely length of the model's text in bytes. Points are hashed by the seed.
+/// beside the output. The output takes the memory of `room`, such as that of the document's text.
+/// Points are hashed by the seed.
 pub fn run_read(
     alloc: Global,
     seed: u64,
     city: City,
     scripts: Sequence<Script>,
-    room: usize,
+    room: Vec<u8>,
 ) -> Result<(Output, City), OutOfMemory>
     requires { IsLawful (object_at city.1) }
     ensures ran { IfOk result (λ r. (document text : List ℕ) → IsReadFrom document text city scripts

@@ -23,12 +23,12 @@ mod shape;
 mod tree;
 
 pub use city_tokens::{MAX_TEXT, Pieces};
-pub use city_writer::{FIXED_SEED, VertexPool, seeded_report, write_report};
+pub use city_writer::{FIXED_SEED, VertexPool, append_report, write_report};
 pub use document::all_faults::faults_of;
 pub use document::read::{read_city, read_city_by};
 pub use document::write::{append_city, append_city_by, write_city};
 pub use fault::{ReadFault, ScriptFault};
 pub use pieces::{LEAST_PIECE, pieces_for};
-pub use report::seeded_report_by;
+pub use report::append_report_by;
 pub use script::all_faults::script_faults_of;
 pub use script::read::{read_scripts, read_scripts_by};

@@ -247,7 +247,7 @@ fn replay_scripts(
         }
         again.push(end_again(alloc, city, scripts, end)?).ok()?;
     }
-    let (bytes, _) = output_bytes(alloc, FIXED_SEED, city, again.as_slice(), 0).ok()?;
+    let (bytes, _) = output_bytes(alloc, FIXED_SEED, city, again.as_slice(), Vec::new(alloc)).ok()?;
     Some(bytes)
 }
 

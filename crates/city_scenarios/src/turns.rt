@@ -63,7 +63,7 @@ fn add_closed(alloc: Global, desk: Desk<ListShelf>, answer: &mut Written) {
 
 /// Adds a report, a model, and the ids of each change.
 fn add_left(alloc: Global, city: &City, ends: &[End], shelf: &ListShelf, answer: &mut Written) {
-    match output_bytes(alloc, FIXED_SEED, city, ends, 0) {
+    match output_bytes(alloc, FIXED_SEED, city, ends, Vec::new(alloc)) {
         Ok((bytes, _)) => answer.add_bytes(bytes.as_slice()),
         Err(OutOfMemory) => answer.run_out(),
     }

@@ -57,8 +57,9 @@ pub(crate) fn run<R: Threads + Wait + Sync, G: Gate + Sync>(
 }
 
 /// Runs scripts on a document's city, both of whole numbers, and lets the texts go once they are
-/// read. A large document is read by as many threads as run and look. One worker without viewers
-/// needs no thread beside its own, and passes no gate.
+/// read: the output is written into the memory of the document. A large document is read by as
+/// many threads as run and look. One worker without viewers needs no thread beside its own, and
+/// passes no gate.
 pub(crate) fn run_whole<R: Threads + Wait + Sync, G: Gate + Sync>(
     rt: &R,
     alloc: Global,
@@ -84,8 +85,7 @@ pub(crate) fn run_whole<R: Threads + Wait + Sync, G: Gate + Sync>(
     );
     let pieces = pieces_for(options.workers + options.viewers);
     let (city, list) = read_texts_by(rt, alloc, model, commands, pieces)?;
-    let room = model.len();
-    texts.let_go(alloc);
+    let room = texts.take_memory(alloc);
     let (output, city) = run_read_texts(rt, alloc, gate, seed, city, list, room, options)?;
     // The process ends after its output, and its memory goes with it. To drop the city object by
     // object would take time.
@@ -101,7 +101,7 @@ fn run_read_texts<R: Threads + Wait + Sync, G: Gate + Sync>(
     seed: u64,
     city: City,
     scripts: Sequence<Script>,
-    room: usize,
+    room: Vec<u8>,
     options: Options,
 ) -> Result<(Output, City), RunFault>
     requires lawful { IsLawful (object_at city.1) }

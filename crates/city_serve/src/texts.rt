@@ -2,6 +2,7 @@
 ghost use Rattle.std.specs.Prelude.{◌≡◌};
 
 use std::alloc::Global;
+use std::mem::replace;
 
 /// How far a text has come.
 #[derive(Clone, Copy)]
@@ -84,9 +85,9 @@ impl Texts {
         }
     }
 
-    /// Gives the memory of both back.
-    pub(crate) fn let_go(&mut self, alloc: Global) {
-        self.document.let_go(alloc);
+    /// Gives back the memory of the scripts, and hands over that of the document.
+    pub(crate) fn take_memory(&mut self, alloc: Global) -> Vec<u8> {
         self.scripts.let_go(alloc);
+        replace(&mut self.document.bytes, Vec::new(alloc))
     }
 }

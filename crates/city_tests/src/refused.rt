@@ -119,8 +119,12 @@ pub fn end_all<S: Shelf>(desk: &mut Desk<S>) {
 
 /// Whether ends and their city are a serial history.
 fn are_replayed(alloc: Global, run: &Run, city: &City, ends: &[End]) -> bool {
-    let bytes = output_bytes(alloc, FIXED_SEED, city, ends, 0).or(output_bytes(
-        alloc, FIXED_SEED, city, ends, 0,
+    let bytes = output_bytes(alloc, FIXED_SEED, city, ends, Vec::new(alloc)).or(output_bytes(
+        alloc,
+        FIXED_SEED,
+        city,
+        ends,
+        Vec::new(alloc),
     ));
     bytes.is_ok_and(|(bytes, _)| is_replayed(alloc, run, ends, bytes.as_slice()))
 }

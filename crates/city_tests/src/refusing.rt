@@ -64,7 +64,7 @@ fn written(alloc: Global, run: &Run) -> Option<Vec<u8>> {
     let mut desk = Desk::open(alloc, city, scripts, Refusing::new(alloc)).ok()?;
     end_all(&mut desk);
     let (city, ends, _shelf) = desk.close();
-    let (bytes, _) = output_bytes(alloc, FIXED_SEED, &city, ends.as_slice(), 0).ok()?;
+    let (bytes, _) = output_bytes(alloc, FIXED_SEED, &city, ends.as_slice(), Vec::new(alloc)).ok()?;
     Some(bytes)
 }
 

@@ -34,7 +34,7 @@ fn written_again(alloc: Global, run: &Run, ends: &[End]) -> Option<Vec<u8>> {
             return None;
         }
     }
-    let (bytes, _) = output_bytes(alloc, FIXED_SEED, &city, ends.as_slice(), 0).ok()?;
+    let (bytes, _) = output_bytes(alloc, FIXED_SEED, &city, ends.as_slice(), Vec::new(alloc)).ok()?;
     Some(bytes)
 }
 

@@ -22,5 +22,5 @@ mod tree;
 pub use document::in_pieces::append_in_pieces;
 pub use document::write::append_text;
 pub use pool::{FIXED_SEED, VertexPool};
-pub use report::in_pieces::report_in_pieces;
-pub use report::write::{seeded_report, write_report};
+pub use report::in_pieces::append_report_in_pieces;
+pub use report::write::{append_report, write_report};

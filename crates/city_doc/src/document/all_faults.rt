@@ -6,7 +6,7 @@ ghost use Rattle.city_model.specs.Integral.{is_integral};
 ghost use Rattle.city_doc.specs.declared.fault.ReadFault as fault;
 ghost use Rattle.city_doc.specs.document.Accepted.{IsAccepted};
 ghost use Rattle.city_doc.specs.document.AllFaults.{AreFaultsOf, AreThose, IsFaultOfTree, StandsAt};
-ghost use Rattle.city_doc.specs.document.CityFaults.{lenient_map_of, lenient_object_of};
+ghost use Rattle.city_doc.specs.document.CityFaults.{lenient_map_of};
 ghost use Rattle.city_doc.specs.document.Faults.{DocumentFault, vertices_in, objects_in};
 ghost use Rattle.city_doc.specs.document.Top.{wrong_member};
 ghost use Rattle.city_doc.specs.internal.tree.TextFaults.{IsRefused};
@@ -121,24 +121,11 @@ fn readable_objects(
 {
     let mut listed = Vec::with_capacity(alloc, objects.len())?;
     for (id, object) in objects.iter() {
-        if let Some(indexed) = readable_object(alloc, points, object)? {
+        if let Some(object) = lenient_object_of(alloc, points, object.clone()?)? {
+            let indexed = IndexedObject::new(alloc, object)?;
             listed.push((to_text(alloc, id.as_str())?, indexed))?;
         }
     }
     let readable = listed.into_iter().collect(alloc)?;
     Ok(readable)
-}
-
-/// The object of a tree, unless it can't be built.
-fn readable_object(
-    alloc: Global,
-    points: &[Point],
-    object: &Value,
-) -> Result<Option<IndexedObject>, OutOfMemory>
-    ensures { IfOk result (λ o. o ≡ lenient_object_of points.now (view object.now)) }
-{
-    match lenient_object_of(alloc, points, object.clone()?)? {
-        None => Ok(None),
-        Some(object) => Ok(Some(IndexedObject::new(alloc, object)?)),
-    }
 }

@@ -34,18 +34,8 @@ const FEW: usize = 64;
 /// Whether the ids are searched quickly: they are few, or each is above the one before it. Only the
 /// time depends on it.
 fn is_quick(ids: Ids<'_>) -> bool {
-    are_few(ids) || are_increasing(ids)
-}
-
-fn are_few(ids: Ids<'_>) -> bool {
-    let mut left = FEW;
-    for _ in ids {
-        if left == 0 {
-            return false;
-        }
-        left -= 1;
-    }
-    true
+    let mut left = ids;
+    left.nth(FEW).is_none() || are_increasing(ids)
 }
 
 /// Whether all lists of ids are searched quickly. Only the time depends on it.
@@ -58,26 +48,16 @@ fn are_quick(city: &City) -> bool {
     true
 }
 
-/// The index of an id equal to the next one.
+/// The index of an id equal to the one before it.
 fn repeated_at(ids: &[Id]) -> Option<usize>
     ensures { IfSome result (λ i. i < length ids.now) }
 {
-    for i in 0..ids.len() {
-        if are_same(ids.get(i), ids.get(i + 1)) {
+    for i in 1..ids.len() {
+        if is_same_id(&ids[i - 1], &ids[i]) {
             return Some(i);
         }
     }
     None
-}
-
-fn are_same(id: Option<&Id>, next: Option<&Id>) -> bool {
-    match id {
-        None => false,
-        Some(id) => match next {
-            None => false,
-            Some(next) => is_same_id(id, next),
-        },
-    }
 }
 
 /// A copy of the ids in byte order, but a repeated one stands first, to be found soon.

@@ -1,26 +1,21 @@
 //! The top of a document: its first wrong member.
 ghost use Rattle.std.specs.Prelude.{◌≡◌, option_map};
 ghost use Rattle.serde_json.specs.View.{view, members_view};
-ghost use Rattle.city_doc.specs.document.Top.{has_triple, is_transform};
+ghost use Rattle.city_doc.specs.document.Top.{is_transform};
 ghost use Rattle.city_doc.specs.document.Top.{all_objects, are_all_objects, are_objects, are_vertices, wrong_member};
 
 use city_model::kept::site::is_empty_object_or_absent;
 use city_tokens::{are_triples, is_text, triple_at};
 use serde_json::{Map, Value};
 
-/// Whether a member is an array of three numbers.
-fn has_triple(value: &Value, name: &str) -> bool
-    ensures { result ≡ has_triple name.now (view value.now) }
-{
-    triple_at(value, name).is_some()
-}
-
 fn is_transform(member: Option<&Value>) -> bool
     ensures { result ≡ is_transform (option_map (λ v. view v.now) member.entry) }
 {
     match member {
         None => false,
-        Some(value) => has_triple(value, "scale") && has_triple(value, "translate"),
+        Some(value) => {
+            triple_at(value, "scale").is_some() && triple_at(value, "translate").is_some()
+        }
     }
 }
 

@@ -1,6 +1,5 @@
 //! Recognises the forms of commands.
 ghost use Rattle.std.specs.Prelude.{◌≡◌, option_map};
-ghost use Rattle.std.specs.Str.{bytes_eq};
 ghost use Rattle.serde_json.specs.View.{view, members_view};
 ghost use Rattle.city_tokens.specs.script.CommandForms.{text_in, word_form, first_named, of_one_text, object_form};
 ghost use Rattle.city_tokens.specs.script.CommandForms.{relation_form, values_form, names_form, reshape_form};
@@ -47,18 +46,12 @@ fn text_in<'v>(members: &'v Map<String, Value>, name: &str) -> Option<&'v str>
     member(members, name)?.as_str()
 }
 
-fn is_same(word: &str, name: &str) -> bool
-    ensures { result ≡ bytes_eq word.now name.now }
-{
-    word == name
-}
-
 fn word_form(word: &str) -> Option<Form<'_>>
     ensures { option_map form_view result ≡ word_form word.now }
 {
-    if is_same(word, "commit") {
+    if word == "commit" {
         Some(Form::Commit)
-    } else if is_same(word, "abort") {
+    } else if word == "abort" {
         Some(Form::Abort)
     } else {
         None

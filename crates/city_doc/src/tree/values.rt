@@ -32,12 +32,6 @@ pub fn into_array(value: Value) -> Option<Vec<Value>>
     ensures items { option_map (λ v. items_view v.items) result ≡ as_array (view value) }
     ensures list { option_map (λ v. map view v.items) result ≡ array_of (view value) }
 {
-    array_items(value)
-}
-
-fn array_items(value: Value) -> Option<Vec<Value>>
-    ensures { option_map (λ v. items_view v.items) result ≡ as_array (view value) }
-{
     match value {
         Value::Array(items) => Some(items),
         _ => None,

@@ -22,16 +22,19 @@ all-append : (ls ms : List (List ℕ)) → AllByRecursion IsCompactJson ls → A
 all-append [] ms h k = k
 all-append (l ∷ ls) ms h k = (h.0, all-append ls ms h.1 k)
 
-lines-append : (a b : List ℕ) → AreJsonLines a → AreJsonLines b → AreJsonLines (a ++ b)
+pub lines-append : (a b : List ℕ) → AreJsonLines a → AreJsonLines b → AreJsonLines (a ++ b)
 lines-append a b h k = record {
   lines = h.lines ++ k.lines;
   json = all-append h.lines k.lines h.json k.json;
   text_is = rw (h.text_is, k.text_is) (sym (flat_map-append _ h.lines k.lines));
 }
 
+pub no_lines : AreJsonLines []
+no_lines = record { lines = []; json = tt; text_is = refl }
+
 no_report : IsReport [] []
 unfolding report_text
-no_report = record { text_is = refl; lines = record { lines = []; json = tt; text_is = refl } }
+no_report = record { text_is = refl; lines = no_lines }
 
 pub reports_joined : {A : Type 0} (f : A → List ℕ) (len : ℕ) (ends : List End) (os : List (Option A))
     → EachMade len ends os (λ es a. IsReport es (f a)) → IsReport ends (joined os f)

@@ -1,5 +1,5 @@
 //! Writes a report in pieces, by several workers.
-ghost use Rattle.std.specs.Prelude.{◌≡◌, ◌<◌, IfOk, IfSome, OnOk, is_some, true};
+ghost use Rattle.std.specs.Prelude.{◌≡◌, ◌++◌, ◌<◌, IfOk, IfSome, OnOk, is_some, true};
 ghost use Rattle.std.specs.List.{list_all};
 ghost use Rattle.city_writer.specs.internal.Pieces.{EachPiece, joined};
 ghost use Rattle.city_writer.specs.internal.Reports.{IsReport};
@@ -30,12 +30,12 @@ fn reports_of_pieces<R: Threads + Sync>(
     Ok(reports)
 }
 
-/// The reports, one after the other. A missing one means that memory ran out.
-fn joined(alloc: Global, reports: Vec<Option<Vec<u8>>>) -> Result<Vec<u8>, OutOfMemory>
-    ensures text { IfOk result (λ b. b.items ≡ joined reports.items (λ report. report.items)) }
+/// The bytes, and after them the reports one after the other. A missing report means that memory ran out.
+fn append_joined(bytes: Vec<u8>, reports: Vec<Option<Vec<u8>>>) -> Result<Vec<u8>, OutOfMemory>
+    ensures text { IfOk result (λ b. b.items ≡ bytes.items ++ joined reports.items (λ report. report.items)) }
     ensures all { OnOk result (list_all is_some reports.items ≡ true) }
 {
-    let mut all = Vec::new(alloc);
+    let mut all = bytes;
     for report in reports {
         let Some(mut report) = report else {
             return Err(OutOfMemory);
@@ -45,19 +45,20 @@ fn joined(alloc: Global, reports: Vec<Option<Vec<u8>>>) -> Result<Vec<u8>, OutOf
     Ok(all)
 }
 
-/// The report of `seeded_report`. Each thread writes `len` ends.
-pub fn report_in_pieces<R: Threads + Sync>(
+/// The bytes, and after them the report, as by `append_report`. Each thread writes `len` ends.
+pub fn append_report_in_pieces<R: Threads + Sync>(
     rt: &R,
     alloc: Global,
     seed: u64,
+    bytes: Vec<u8>,
     ends: &[End],
     len: usize,
 ) -> Result<Vec<u8>, OutOfMemory>
     requires { 0 < len }
-    ensures text { IfOk result (λ b. b.items ≡ report_text ends.now) }
-    ensures lines { IfOk result (λ b. AreJsonLines b.items) }
+    ensures text { IfOk result (λ b. b.items ≡ bytes.items ++ report_text ends.now) }
+    ensures lines { AreJsonLines bytes.items → IfOk result (λ b. AreJsonLines b.items) }
 {
     let reports = reports_of_pieces(rt, alloc, seed, ends, len)?;
-    let report = joined(alloc, reports)?;
+    let report = append_joined(bytes, reports)?;
     Ok(report)
 }

@@ -31,12 +31,27 @@ pub fn write_report(alloc: Global, ends: &[End]) -> Result<Vec<u8>, OutOfMemory>
 }
 
 /// The report of `write_report`. The points of objects read are hashed by the seed.
-#[tactic(auto, unfolding(crate::specs::report::Reports::report_text))]
-pub fn seeded_report(alloc: Global, seed: u64, ends: &[End]) -> Result<Vec<u8>, OutOfMemory>
+pub(crate) fn seeded_report(alloc: Global, seed: u64, ends: &[End]) -> Result<Vec<u8>, OutOfMemory>
     ensures text { IfOk result (λ b. b.items ≡ report_text ends.now) }
     ensures lines { IfOk result (λ b. AreJsonLines b.items) }
 {
-    let mut report = Vec::new(alloc);
+    let report = append_report(alloc, seed, Vec::new(alloc), ends)?;
+    Ok(report)
+}
+
+/// The bytes, and after them the report of `write_report`. If the bytes are lines of JSON, so are all.
+/// The points of objects read are hashed by the seed.
+#[tactic(auto, unfolding(crate::specs::report::Reports::report_text))]
+pub fn append_report(
+    alloc: Global,
+    seed: u64,
+    bytes: Vec<u8>,
+    ends: &[End],
+) -> Result<Vec<u8>, OutOfMemory>
+    ensures text { IfOk result (λ b. b.items ≡ bytes.items ++ report_text ends.now) }
+    ensures lines { AreJsonLines bytes.items → IfOk result (λ b. AreJsonLines b.items) }
+{
+    let mut report = bytes;
     for end in ends {
         report = with_line(alloc, seed, report, end)?;
     }

@@ -1,12 +1,13 @@
 use Rattle.city_desk.proofs.Prelude.{subst, city_text, report_text}
 use Rattle.std.proofs.Common.{rules}
 use Rattle.city_writer.specs.report.JsonLines.{AreJsonLines}
-use Rattle.city_desk.proofs.JsonOutputs.{json_output}
+use Rattle.city_desk.proofs.JsonOutputs.{json_output, no_lines}
 use Rattle.city_desk.proofs.output.output_bytes.Goals as goal
 
 pub returns-clause-lines : goal.returns-clause-lines
 returns-clause-lines c =
     let made = c.in_ok-report.ensures in
-    let report = subst AreJsonLines made.text made.lines in
-    json_output (report_text c.args.ends.now) (city_text c.args.city.now) _ _ (search rules) (search rules) report
+    let text = rw c.emptied.ensures at made.text in
+    let lines = subst AreJsonLines text (made.lines (rw c.emptied.ensures no_lines)) in
+    json_output (report_text c.args.ends.now) (city_text c.args.city.now) _ _ (search rules) (search rules) lines
     c.in_ok-bytes.ensures.json
