@@ -46,7 +46,8 @@ pub fn board<R: Wait + Drop>(
     requires seats { seats ≤ max_viewers }
     ensures poster { IfOk result (λ board. board.0 ≡ new_poster board.0.name city) }
     ensures count { IfOk result (λ board. vec_len board.1 ≡ seats) }
-    ensures viewers { IfOk result (λ board. All (λ v. (v.name ≡ board.0.name) × (v.opening ≡ city) × (v.seen ≡ [])) board.1.items) }
+    ensures viewers { IfOk result
+        (λ board. All (λ v. (v.name ≡ board.0.name) × (v.opening ≡ city) × (v.seen ≡ [])) board.1.items) }
 {
     let (history, head) = History::new();
     let opening = OpeningCity::of(&city);
@@ -104,7 +105,8 @@ fn new_viewers(
     requires met { view writer.old.desk.place ≡ known_from writer.old.desk.shown.value }
     requires history { history.now ≡ writer.old.desk.shown.value.history }
     ensures count { IfOk result (λ viewers. vec_len viewers ≡ seats) }
-    ensures viewers { IfOk result (λ viewers. All (λ v. v ≡ viewer_of history.now writer.old.desk.shown.value.opening) viewers.items) }
+    ensures viewers { IfOk result
+        (λ viewers. All (λ v. v ≡ viewer_of history.now writer.old.desk.shown.value.opening) viewers.items) }
     ensures shown { writer.new.desk.shown ≡ writer.old.desk.shown }
     ensures log { writer.new.log ≡ writer.old.log }
     ensures behind { writer.new.behind ≡ writer.old.behind }

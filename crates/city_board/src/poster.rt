@@ -53,8 +53,10 @@ impl<R: Wait + Drop> Model for Poster<R> {
 
     ghost view = { λ p. record { name = p.published.name; opening = p.opening; published = p.published.changes; taken = p.taken.changes } };
 
-    ghost invariant = { λ p. (p.head ≡ p.published.name) × (p.taken.name ≡ p.published.name) × IsPrefix p.published.changes p.taken.changes
-        × IfSome p.writer (λ w. HoldsEdits w.writer.desk.shown.value (view_of w.writer.desk.place) (drop w.writer.behind w.writer.log.items ++ p.waiting.items) p.opening p.published p.taken) };
+    ghost invariant = { λ p. (p.head ≡ p.published.name) × (p.taken.name ≡ p.published.name)
+        × IsPrefix p.published.changes p.taken.changes
+        × IfSome p.writer (λ w. HoldsEdits w.writer.desk.shown.value (view_of w.writer.desk.place)
+            (drop w.writer.behind w.writer.log.items ++ p.waiting.items) p.opening p.published p.taken) };
 }
 
 impl<R: Wait + Drop> Poster<R> {
@@ -67,7 +69,8 @@ impl<R: Wait + Drop> Poster<R> {
         history: History,
     ) -> Poster<R>
         requires name { head ≡ history.name }
-        requires edits { HoldsEdits writer.writer.desk.shown.value (view writer.writer.desk.place) (drop writer.writer.behind writer.writer.log.items) opening history history }
+        requires edits { HoldsEdits writer.writer.desk.shown.value (view writer.writer.desk.place)
+            (drop writer.writer.behind writer.writer.log.items) opening history history }
         ensures name { result.name ≡ history.name }
         ensures opening { result.opening ≡ opening }
         ensures published { result.published ≡ history.changes }

@@ -37,7 +37,8 @@ impl<R: Wait + Drop> Drop for OwnWriter<R> {
 /// Hands the edits to the writer. Returns false if memory runs out; the remaining edits stay.
 pub fn append_all(writer: &mut BoardWriter, waiting: &mut VecDeque<Edit>) -> bool
     ensures desk { writer.new.desk ≡ writer.old.desk }
-    ensures edits { drop writer.new.behind writer.new.log.items ++ waiting.new.items ≡ drop writer.old.behind writer.old.log.items ++ waiting.old.items }
+    ensures edits { drop writer.new.behind writer.new.log.items
+        ++ waiting.new.items ≡ drop writer.old.behind writer.old.log.items ++ waiting.old.items }
     ensures all { IsTrue result → waiting.new.items ≡ [] }
 {
     while let Some(edit) = waiting.pop_front() {

@@ -1,5 +1,6 @@
 -- The words that proofs of this crate share.
-pub use Rattle.std.proofs.Common.{List, [], ap, arith, false, length, map, refl, rules, subst, sym, ℕ, ℤ, ◌++◌, ◌+◌, ◌∙◌, ◌∷◌}
+pub use Rattle.std.proofs.Common.{List, [], ap, arith, false, length, map, refl, rules, subst, sym, ℕ, ℤ, ◌++◌, ◌+◌}
+pub use Rattle.std.proofs.Common.{◌∙◌, ◌∷◌}
 pub use Rattle.std.proofs.Common.{◌≡◌, ◌≤◌, negsuc, pos, Equal, Greater, Less, Ordering, nat_cmp, string_bytes}
 pub use Rattle.std.specs.Cmp.Lexicographic.{slice_cmp}
 pub use Rattle.std.specs.Ordering.{match_ordering}

@@ -21,7 +21,8 @@ without_absent [] s h = refl
 without_absent (x ∷ xs) s h = grind (arith, without_absent xs s)
 
 -- if no other is among them, none is left
-pub without_others : (hs : List Holder) (s : ℕ) → ((t : ℕ) → is_some (mode_among hs t) ≡ true → t ≡ s) → without hs s ≡ []
+pub without_others : (hs : List Holder) (s : ℕ) → ((t : ℕ) → is_some (mode_among hs t) ≡ true → t ≡ s)
+    → without hs s ≡ []
 without_others [] s h = refl
 without_others (x ∷ xs) s h =
     grind (arith, h x.stamp, without_others xs s (λ t k. let there = h t in grind arith))

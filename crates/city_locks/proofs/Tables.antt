@@ -58,7 +58,8 @@ module _ {v w : Locks} {s : ℕ} (h : Frees v w s) where
   mode_freed t q = grind (arith, h.holders q, mode_without)
 
   pub lawful_freed : Lawful v → Lawful w
-  lawful_freed l r t i ne x = let lw = lawful_without (holders_of v i) s (λ a b. l a b i) in grind (arith, h.holders i, lw)
+  lawful_freed l r t i ne x = let lw =
+      lawful_without (holders_of v i) s (λ a b. l a b i) in grind (arith, h.holders i, lw)
 
   pub once_freed : HoldOnce v → HoldOnce w
   once_freed o q = grind (arith, h.holders q, once_without)

@@ -47,7 +47,8 @@ pub fn grant(
     is_held: bool,
 ) -> Result<(), OutOfMemory>
     requires { is_held ≡ is_some (get (slice_cmp nat_cmp) held.old id.now) }
-    ensures ok { OnOk result ((q : List ℕ) → holders_of held.new.entries q ≡ cond (same_id id.now q) (with_holder (holders_of held.old.entries id.now) stamp mode) (holders_of held.old.entries q)) }
+    ensures ok { OnOk result ((q : List ℕ) → holders_of held.new.entries q ≡ cond (same_id id.now q)
+        (with_holder (holders_of held.old.entries id.now) stamp mode) (holders_of held.old.entries q)) }
     ensures err { OnErr result (held.new.entries ≡ held.old.entries) }
     ensures absent { OnErr result (mode_of held.old.entries stamp id.now ≡ None) }
 {
@@ -66,7 +67,8 @@ fn grant_beside(
     mode: Mode,
 ) -> Result<(), OutOfMemory>
     requires { is_some (get (slice_cmp nat_cmp) held.old id.now) ≡ true }
-    ensures ok { OnOk result ((q : List ℕ) → get (slice_cmp nat_cmp) held.new q ≡ cond (same_id id.now q) (Some (with_holder (holders_of held.old.entries id.now) stamp mode)) (get (slice_cmp nat_cmp) held.old q)) }
+    ensures ok { OnOk result ((q : List ℕ) → get (slice_cmp nat_cmp) held.new q ≡ cond (same_id id.now q)
+        (Some (with_holder (holders_of held.old.entries id.now) stamp mode)) (get (slice_cmp nat_cmp) held.old q)) }
     ensures err { OnErr result (held.new.entries ≡ held.old.entries) }
     ensures absent { OnErr result (mode_of held.old.entries stamp id.now ≡ None) }
 {
@@ -85,7 +87,8 @@ fn grant_first(
     mode: Mode,
 ) -> Result<(), OutOfMemory>
     requires { get (slice_cmp nat_cmp) held.old id.now ≡ None }
-    ensures ok { OnOk result ((q : List ℕ) → get (slice_cmp nat_cmp) held.new q ≡ cond (same_id id.now q) (Some (with_holder [] stamp mode)) (get (slice_cmp nat_cmp) held.old q)) }
+    ensures ok { OnOk result ((q : List ℕ) → get (slice_cmp nat_cmp) held.new q
+        ≡ cond (same_id id.now q) (Some (with_holder [] stamp mode)) (get (slice_cmp nat_cmp) held.old q)) }
     ensures err { OnErr result (held.new.entries ≡ held.old.entries) }
 {
     let key = id.copy(alloc)?;
@@ -111,7 +114,8 @@ pub fn release_all(held: &mut BTreeMap<Id, Holders>, stamp: u64, ids: &[Id], alo
 
 /// Removes the stamp from the holders of each of the ids.
 fn release_each(held: &mut BTreeMap<Id, Holders>, stamp: u64, ids: &[Id])
-    ensures { (q : List ℕ) → holders_of held.new.entries q ≡ cond (has_id ids.now q) (without (holders_of held.old.entries q) stamp) (holders_of held.old.entries q) }
+    ensures { (q : List ℕ) → holders_of held.new.entries q
+        ≡ cond (has_id ids.now q) (without (holders_of held.old.entries q) stamp) (holders_of held.old.entries q) }
 {
     for id in ids {
         release(held, stamp, id);
@@ -120,7 +124,8 @@ fn release_each(held: &mut BTreeMap<Id, Holders>, stamp: u64, ids: &[Id])
 
 /// Removes the stamp from the holders of the id, and the id if no holder is left.
 fn release(held: &mut BTreeMap<Id, Holders>, stamp: u64, id: &Id)
-    ensures { (q : List ℕ) → holders_of held.new.entries q ≡ cond (same_id id.now q) (without (holders_of held.old.entries id.now) stamp) (holders_of held.old.entries q) }
+    ensures { (q : List ℕ) → holders_of held.new.entries q ≡ cond (same_id id.now q)
+        (without (holders_of held.old.entries id.now) stamp) (holders_of held.old.entries q) }
 {
     if remove_holder(held, stamp, id) {
         let _ = held.remove(id);
@@ -131,7 +136,8 @@ fn release(held: &mut BTreeMap<Id, Holders>, stamp: u64, id: &Id)
 /// holder left.
 fn remove_holder(held: &mut BTreeMap<Id, Holders>, stamp: u64, id: &Id) -> bool
     ensures empty { result ≡ true → holders_of held.new.entries id.now ≡ [] }
-    ensures after { (q : List ℕ) → holders_of held.new.entries q ≡ cond (same_id id.now q) (without (holders_of held.old.entries id.now) stamp) (holders_of held.old.entries q) }
+    ensures after { (q : List ℕ) → holders_of held.new.entries q ≡ cond (same_id id.now q)
+        (without (holders_of held.old.entries id.now) stamp) (holders_of held.old.entries q) }
 {
     match held.get_mut(id) {
         Some(holders) => {

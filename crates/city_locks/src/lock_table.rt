@@ -1,5 +1,6 @@
 //! The lock table.
-ghost use Rattle.std.specs.Prelude.{◌≡◌, ◌≢◌, ℕ, List, ◌==◌, ◌&&◌, cond, OnOk, OnErr, IfOk, None, Some, [], ◌∷◌, true, is_some};
+ghost use Rattle.std.specs.Prelude.{◌≡◌, ◌≢◌, ℕ, List, ◌==◌, ◌&&◌, cond, OnOk, OnErr, IfOk, None, Some, [], ◌∷◌};
+ghost use Rattle.std.specs.Prelude.{true, is_some};
 ghost use Rattle.std.specs.Ordering.{nat_cmp};
 ghost use Rattle.std.specs.Cmp.Lexicographic.{slice_cmp};
 ghost use Rattle.std.specs.BTreeMap.{get};
@@ -76,13 +77,16 @@ impl LockTable {
         ensures answer { IfOk result (λ a. a ≡ answer_of self.old stamp id.now mode) }
         ensures wait_die { IfOk result (IsWaitDie (IsInConflict self.old stamp id.now mode) stamp) }
         ensures granted { OnOk result (answer_of self.old stamp id.now mode ≡ Answer.Granted → (t : ℕ) (q : List ℕ) →
-            mode_of self.new t q ≡ cond ((stamp == t) && same_id id.now q) (Some (stronger mode (mode_of self.old stamp id.now))) (mode_of self.old t q)) }
+            mode_of self.new t q ≡ cond ((stamp == t) && same_id id.now q)
+                (Some (stronger mode (mode_of self.old stamp id.now))) (mode_of self.old t q)) }
         ensures holders { OnOk result (answer_of self.old stamp id.now mode ≡ Answer.Granted → (q : List ℕ) →
-            holders_of self.new q ≡ cond (same_id id.now q) (with_holder (holders_of self.old id.now) stamp mode) (holders_of self.old q)) }
+            holders_of self.new q ≡ cond (same_id id.now q) (with_holder (holders_of self.old id.now) stamp mode)
+                (holders_of self.old q)) }
         ensures own { (q : List ℕ) (n : Mode) → answer_of self.new stamp q n ≡ answer_of self.old stamp q n }
         ensures refused { OnOk result (answer_of self.old stamp id.now mode ≢ Answer.Granted → self.new ≡ self.old) }
         ensures err { OnErr result (self.new ≡ self.old) }
-        ensures memory { OnErr result ((answer_of self.old stamp id.now mode ≡ Answer.Granted) × (mode_of self.old stamp id.now ≡ None)) }
+        ensures memory { OnErr result
+            ((answer_of self.old stamp id.now mode ≡ Answer.Granted) × (mode_of self.old stamp id.now ≡ None)) }
         ensures lawful { Lawful self.new }
         ensures once { HoldOnce self.new }
     {
@@ -206,7 +210,8 @@ fn acquire(
     requires own { there.own ≡ mode_of holders.old.entries stamp id.now }
     requires is_held { there.is_held ≡ is_some (get (slice_cmp nat_cmp) holders.old id.now) }
     ensures ok { OnOk result ((q : List ℕ) → holders_of holders.new.entries q
-        ≡ cond (same_id id.now q) (with_holder (holders_of holders.old.entries id.now) stamp mode) (holders_of holders.old.entries q)) }
+        ≡ cond (same_id id.now q) (with_holder (holders_of holders.old.entries id.now) stamp mode)
+            (holders_of holders.old.entries q)) }
     ensures err { OnErr result (holders.new.entries ≡ holders.old.entries) }
     ensures absent { OnErr result (mode_of holders.old.entries stamp id.now ≡ None) }
     ensures listed { IsListed holders.new.entries locked.new }
@@ -249,7 +254,8 @@ fn release(
     stamp: u64,
 )
     requires { IsListed holders.old.entries locked.old }
-    ensures holders { (q : List ℕ) → holders_of holders.new.entries q ≡ without (holders_of holders.old.entries q) stamp }
+    ensures holders { (q : List ℕ) → holders_of holders.new.entries q
+        ≡ without (holders_of holders.old.entries q) stamp }
     ensures listed { IsListed holders.new.entries locked.new }
 {
     if let Some(ids) = locked.remove(&stamp) {

@@ -1,8 +1,10 @@
 -- A history under locks holds from each other map with the same objects at all held ids, marks too.
-use Rattle.city_model.proofs.Prelude.{arith, ◌≡◌, ℕ, List, [], ◌∷◌, Bool, true, false, ap, sym, subst, ◌∙◌, if◌then◌else◌}
+use Rattle.city_model.proofs.Prelude.{arith, ◌≡◌, ℕ, List, [], ◌∷◌, Bool, true, false, ap, sym, subst, ◌∙◌}
+use Rattle.city_model.proofs.Prelude.{if◌then◌else◌}
 use Rattle.city_model.proofs.Prelude.{length, Option, refl, is_some, Command, Reply, Exclusive, CityMap, has_id, Action}
 use Rattle.city_model.proofs.Prelude.{Refuses, Edits, Marks, GoesBack, action, Effect, Answers, applied, effect}
-use Rattle.city_model.proofs.Prelude.{left, step, locks_of, Marked, Snapshot, unmarked, marks_from, IsSoundView, IsSound, Held}
+use Rattle.city_model.proofs.Prelude.{left, step, locks_of, Marked, Snapshot, unmarked, marks_from, IsSoundView}
+use Rattle.city_model.proofs.Prelude.{IsSound, Held}
 use Rattle.city_model.proofs.Prelude.{covers, AllHeld, Answered, IsTraceUnderLocks, locks_id_exclusively, Lock}
 use Rattle.city_model.proofs.Prelude.{answered, locks_id, AgreeOn, Mode, Trace}
 use Rattle.city_model.specs.Actions as actions
@@ -59,7 +61,8 @@ module _ (held : Held) (other : CityMap) where
   back_carried name v [] = refl
   back_carried name v (k ∷ ks) = refl
 
-  applied_carried : (v : Snapshot) (a : Action) → applied (carried held other v) (carried_action a) ≡ carried_effect (applied v a)
+  applied_carried : (v : Snapshot) (a : Action)
+      → applied (carried held other v) (carried_action a) ≡ carried_effect (applied v a)
   applied_carried v (Refuses cause) = refl
   applied_carried v (Edits reply ids k) = refl
   applied_carried v (Marks name) = refl
@@ -84,7 +87,8 @@ module _ (held : Held) (other : CityMap) where
 
   -- ---- one command
 
-  module _ (v : Snapshot) (c : Command) (s : IsSoundView v) (t : IsSoundView (carried held other v)) (is : IsCarriedView v)
+  module _ (v : Snapshot) (c : Command) (s : IsSoundView v) (t : IsSoundView (carried held other v))
+      (is : IsCarriedView v)
       (all : AllHeld held (locks_of v.map c)) where
     on : AgreeOn (locks_of v.map c) v.map (carried_map held other v.map)
     on q h = grind (arith, is.0 q, held_named held (locks_of v.map c) q all h)
@@ -124,7 +128,8 @@ module _ (held : Held) (other : CityMap) where
           rw (answered_next v c reply u answers) (is_carried_left (action v.map c) is_carried_after)
 
   -- a history under locks holds from the carried view, and leads to the carried one
-  pub history_carried : (v : Snapshot) (ds : List Answered) (w : Snapshot) → IsSoundView v → IsSoundView (carried held other v)
+  pub history_carried : (v : Snapshot) (ds : List Answered) (w : Snapshot) → IsSoundView v
+      → IsSoundView (carried held other v)
       → IsCarriedView v
       → IsTraceUnderLocks held v ds w → IsTraceUnderLocks held (carried held other v) ds (carried held other w)
   history_carried v [] w s t is f = ap (carried held other) f
@@ -171,7 +176,8 @@ named_held ls = all_held (named_in ls) ls (λ q h. grind arith) (λ q h. grind a
 
 -- ---- the commands with their replies
 
-trace_long : (v : Snapshot) (cs : List Command) (rs : List Reply) (w : Snapshot) → Trace v cs rs w → length cs ≡ length rs
+trace_long : (v : Snapshot) (cs : List Command) (rs : List Reply) (w : Snapshot) → Trace v cs rs w
+    → length cs ≡ length rs
 trace_long v [] [] w f = refl
 trace_long v (c ∷ cs) (r ∷ rs) w f =
     goes_on_case _ (effect v c) (λ reply u is g. let rest = trace_long u cs rs w g.1 in omega arith) f

@@ -1,7 +1,8 @@
 -- The effect of add, set, unset, reshape and expect on a small city.
 use Rattle.city_model.proofs.Prelude.{arith, ◌≡◌, refl, ap, inl, codes, List, [], ◌∷◌, ℕ, true, false, Option, Some}
 use Rattle.city_model.proofs.Prelude.{if◌then◌else◌, LandUse, Building, Command, Put, Commit, Mark, Back, Cause, Reply}
-use Rattle.city_model.proofs.Prelude.{Added, WentBack, Outcome, Object, CityMap, found_in, changed, is_orphan, is_orphan_there}
+use Rattle.city_model.proofs.Prelude.{Added, WentBack, Outcome, Object, CityMap, found_in, changed, is_orphan}
+use Rattle.city_model.proofs.Prelude.{is_orphan_there}
 use Rattle.city_model.proofs.Prelude.{IsScriptResult, map_left, Scripted, Trace, End, IsSerialHistory}
 use Rattle.city_model.proofs.Prelude.{model_after, unmarked, no_members, member}
 use Rattle.serde_json.specs.Data.{Data, Members, number, unsigned, array, no_items}
@@ -85,7 +86,8 @@ NoneIsOrphan m = (q : List ℕ) → is_orphan_there (m q) ≡ false
 none_in_field : (o : Object) → is_orphan o ≡ false → NoneIsOrphan (field o)
 none_in_field o none q = no_orphan_at ((codes "x", o) ∷ []) q (ap (λ b. if b then true else false) none)
 
-none_then : (m : CityMap) (o : Object) → is_orphan o ≡ false → NoneIsOrphan m → NoneIsOrphan (changed m (codes "x") (Some o))
+none_then : (m : CityMap) (o : Object) → is_orphan o ≡ false → NoneIsOrphan m
+    → NoneIsOrphan (changed m (codes "x") (Some o))
 none_then m o none before q = no_orphan_put m (codes "x") (Some o) q none (before q)
 
 -- ---- set: the other attributes stay
@@ -120,8 +122,15 @@ set_then_put = set_m ∷ Mark (codes "k") ∷ Put (codes "x") (bare LandUse) ∷
 
 pub set_and_put_are_answered : IsScriptResult numbered_field set_then_put
     (AttributesSet ∷ Marked ∷ Replaced ∷ WentBack ∷ []) Outcome.Committed
-set_and_put_are_answered =
-    (refl, refl, (refl, refl, (refl, refl, (refl, refl, (inl (refl, no_orphan _ (none_then _ _ refl (none_in_field _ refl))), refl)))))
+set_and_put_are_answered = (
+  refl,
+  refl,
+  (
+    refl,
+    refl,
+    (refl, refl, (refl, refl, (inl (refl, no_orphan _ (none_then _ _ refl (none_in_field _ refl))), refl))),
+  ),
+)
 
 pub set_stays_beside_the_puts_undo : map_left numbered_field set_then_put Outcome.Committed (codes "x")
     ≡ Some (with both)
@@ -209,7 +218,15 @@ pub two_sets_are_committed : IsSerialHistory two_sets bare_field set_by_both
 two_sets_are_committed = (
   in_turn refl (omega arith) (refl, refl, (inl (refl, no_orphan _ (none_then _ _ refl (none_in_field _ refl))), refl)),
   (omega arith, tt),
-  (in_turn refl (omega arith) (refl, refl, (inl (refl, no_orphan _ (none_then _ _ refl (none_then _ _ refl (none_in_field _ refl)))), refl)), tt, tt),
+  (
+    in_turn refl (omega arith) (
+      refl,
+      refl,
+      (inl (refl, no_orphan _ (none_then _ _ refl (none_then _ _ refl (none_in_field _ refl)))), refl),
+    ),
+    tt,
+    tt,
+  ),
 )
 
 pub both_sets_are_kept : model_after two_sets bare_field set_by_both (codes "x") ≡ Some (with both)

@@ -52,7 +52,8 @@ same_after m n c q t a h =
 
 -- ---- without marks
 
-reply_taken : (m n : CityMap) (a : Action) → reply_of (applied (unmarked n) (taken_to n a)) ≡ reply_of (applied (unmarked m) a)
+reply_taken : (m n : CityMap) (a : Action) → reply_of (applied (unmarked n) (taken_to n a))
+    ≡ reply_of (applied (unmarked m) a)
 reply_taken m n a = grind arith
 
 same_answer : (m n : CityMap) (c : Command) → IsSound n → AgreeOn (locks_of m c) m n

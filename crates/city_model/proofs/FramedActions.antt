@@ -226,7 +226,8 @@ writes_locked m (Put id body) = at_unless _ (body_fault body) _ (at_put m id bod
 writes_locked m (Add id body) = at_unless _ (body_fault body) _ (at_add m id body (m id))
 writes_locked m (Set id named) = at_amend m id (Setting named) (m id)
 writes_locked m (Unset id names) = at_amend m id (Unsetting names) (m id)
-writes_locked m (Reshape id geometry) = at_unless _ (geometry_fault geometry) _ (at_amend m id (Reshaping geometry) (m id))
+writes_locked m (Reshape id geometry) =
+    at_unless _ (geometry_fault geometry) _ (at_amend m id (Reshaping geometry) (m id))
 writes_locked m (Delete id) = at_delete m id (m id)
 writes_locked m (Attach child parent) = at_attach m child parent (m child) (m parent)
 writes_locked m (Detach child parent) = at_detach m child parent (m child) (m parent)

@@ -1,5 +1,6 @@
 -- A command other than an end of its script is answered, and goes on.
-use Rattle.city_model.proofs.Prelude.{arith, ◌≡◌, Bool, true, false, Command, Reply, Committed, Aborted, Snapshot, Action}
+use Rattle.city_model.proofs.Prelude.{arith, ◌≡◌, Bool, true, false, Command, Reply, Committed, Aborted, Snapshot}
+use Rattle.city_model.proofs.Prelude.{Action}
 use Rattle.city_model.proofs.Prelude.{Effect, Answers, applied, effect, action, answer, left, step, GoesOn, is_end}
 use Rattle.city_model.specs.Meaning.{reply_of}
 use Rattle.city_model.proofs.ActionKinds.{IsKindOf, kind_of}
@@ -13,7 +14,8 @@ pub goes_on_to : (P Q : Reply → Snapshot → Type 0) (e : Effect)
     → ((reply : Reply) (u : Snapshot) → e ≡ Answers reply u → P reply u → Q reply u) → GoesOn e P → GoesOn e Q
 goes_on_to P Q e f g = grind arith
 
-pub answered_next : (v : Snapshot) (c : Command) (reply : Reply) (u : Snapshot) → effect v c ≡ Answers reply u → u ≡ step v c
+pub answered_next : (v : Snapshot) (c : Command) (reply : Reply) (u : Snapshot) → effect v c ≡ Answers reply u
+    → u ≡ step v c
 answered_next v c reply u is = grind arith
 
 -- ---- an action of the command

@@ -36,7 +36,8 @@ more_held held more (l ∷ ls) h a = (h l.0 l.1 a.0, more_held held more ls h a.
 abbrev pub Next : Held → Reply → List Answered → Snapshot → Reply → Snapshot → Type 0
 Next held r ds w reply u = (reply ≡ r) × IsTraceUnderLocks held u ds w
 
-pub follows_more : (held more : Held) (v : Snapshot) (ds : List Answered) (w : Snapshot) (c : Command) (r : Reply) (k : Snapshot)
+pub follows_more : (held more : Held) (v : Snapshot) (ds : List Answered) (w : Snapshot) (c : Command) (r : Reply)
+    (k : Snapshot)
     → HoldsMore held more → IsTraceUnderLocks held v ds w → AllHeld more (locks_of w.map c) → effect w c ≡ Answers r k
     → IsTraceUnderLocks more v (ds ++ (c, r) ∷ []) k
 follows_more held more v [] w c r k h f a e = grind arith

@@ -1,7 +1,7 @@
 -- Members put and taken out, over one of the name or without one.
 use Rattle.city_model.proofs.Prelude.{◌≡◌, ℕ, List, true, Option, None, Some, Ordering, Less, Equal, arith}
 use Rattle.city_model.proofs.Prelude.{refl, sym, ap, ◌∙◌, slice_cmp, nat_cmp, no_members, member}
-use Rattle.city_model.proofs.Prelude.{nat_list_cmp_total}
+use Rattle.city_model.proofs.Prelude.{exact_bytes, nat_list_cmp_total}
 use Rattle.std.proofs.Common.{Greater}
 use Rattle.serde_json.specs.Data.{Data, object, Members, put}
 use Rattle.serde_json.specs.Find.{get_member}
@@ -9,7 +9,7 @@ use Rattle.serde_json.proofs.Views.{get_member-put}
 use Rattle.city_model.specs.Attributes.{attributes, attributes_in, put_each, with_attributes, with_set, with_unset}
 use Rattle.city_model.specs.Attributes.{members_or_none}
 use Rattle.city_model.specs.Kept.{has_no_member}
-use Rattle.city_model.specs.Members.{without, without_each, AreOrdered}
+use Rattle.city_model.specs.Members.{without, without_each, members_count, AreOrdered}
 use Rattle.city_model.specs.internal.KeptIn.{with_own}
 use Rattle.std.proofs.lemmas.Cmp.{tied_itself}
 use Rattle.city_model.proofs.Ids.{same_id_itself}
@@ -74,6 +74,13 @@ put_there k d (member l f ms) h there = put_there_at _ k d l f ms refl h there (
 pub put_back : (k : List ℕ) (d : Data) (ms : Members) → AreOrdered ms → get_member k ms ≡ Some d
     → put k d (without k ms) ≡ ms
 put_back k d ms h there = put-without k d ms h ∙ put_there k d ms h there
+
+-- a member of the name that no other is beside
+pub alone : (k : List ℕ) (d : Data) (ms : Members) → members_count ms ≡ 1 → get_member k ms ≡ Some d
+    → member k d no_members ≡ ms
+alone k d no_members one there = absurd (grind (arith, one))
+alone k d (member l e no_members) one there = grind (arith, exact_bytes k l)
+alone k d (member l e (member m f ms)) one there = absurd (grind (arith, one))
 
 -- ---- none of the name is there
 

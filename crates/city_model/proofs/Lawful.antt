@@ -1,7 +1,8 @@
 -- The map after a script: sound after a sound one, and lawful after a lawful one.
 use Rattle.city_model.proofs.Prelude.{◌≡◌, ◌<◌, ℕ, suc, ◌+◌, List, [], ◌∷◌, length, take, true, false, refl, sym, subst}
 use Rattle.city_model.proofs.Prelude.{arith, false≢true, Command, Reply, End, Outcome, CityMap, Snapshot, unmarked}
-use Rattle.city_model.proofs.Prelude.{IsSoundView, Effect, Answers, GoesOn, effect, is_refusal, HasNoOrphan, IsSound, IsLawful}
+use Rattle.city_model.proofs.Prelude.{IsSoundView, Effect, Answers, GoesOn, effect, is_refusal, HasNoOrphan, IsSound}
+use Rattle.city_model.proofs.Prelude.{IsLawful}
 use Rattle.city_model.proofs.Prelude.{Scripted, Trace, EndsFrom, IsScriptResult, view_at_end, map_left, left_by}
 use Rattle.city_model.proofs.Prelude.{model_after, IsSerialHistoryFrom, IsSerialHistory, is_end, ends_once, step}
 use Rattle.city_model.proofs.Prelude.{answer}
@@ -29,7 +30,8 @@ traced_further : (v : Snapshot) (c : Command) (cs : List Command) → is_end c �
 traced_further v c cs on t = (answer v c ∷ t.0, t.1, grind (arith, effect_is))
 
 -- the commands of a script before its last are all answered
-pub trace_there : (v : Snapshot) (cs : List Command) (k : ℕ) → ends_once cs ≡ true → k < length cs → IsTraced v (take k cs)
+pub trace_there : (v : Snapshot) (cs : List Command) (k : ℕ) → ends_once cs ≡ true → k < length cs
+    → IsTraced v (take k cs)
 trace_there v [] k e less = absurd (false≢true e)
 trace_there v (c ∷ cs) zero e less = ([], v, refl)
 trace_there v (c ∷ cs) (suc k) e less =

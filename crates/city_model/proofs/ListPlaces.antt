@@ -18,7 +18,8 @@ pub all_joined-append : (xs ys : List (Arc Members Global))
     → all_joined (xs ++ ys) ≡ joined (all_joined xs) (all_joined ys)
 all_joined-append [] ys = refl
 all_joined-append (x ∷ xs) ys =
-    ap (joined (arc_value x)) (all_joined-append xs ys) ∙ sym (joined-assoc (arc_value x) (all_joined xs) (all_joined ys))
+    ap (joined (arc_value x)) (all_joined-append xs ys)
+    ∙ sym (joined-assoc (arc_value x) (all_joined xs) (all_joined ys))
 
 -- ---- lists in the place of others
 

@@ -1,7 +1,8 @@
 -- The maps of marks: each is sound, and is the map of the mark's time.
 use Rattle.city_model.proofs.Prelude.{arith, ◌≡◌, ℕ, List, [], ◌∷◌, ◌++◌, false, map, refl, ap, ◌∙◌, if◌then◌else◌}
 use Rattle.city_model.proofs.Prelude.{Command, Reply, Mark, Back, NoMark, WentBack, Refused, CityMap, Action, action}
-use Rattle.city_model.proofs.Prelude.{Refuses, Edits, Marks, GoesBack, same_id, Marked, Snapshot, marks_from, IsSoundView}
+use Rattle.city_model.proofs.Prelude.{Refuses, Edits, Marks, GoesBack, same_id, Marked, Snapshot, marks_from}
+use Rattle.city_model.proofs.Prelude.{IsSoundView}
 use Rattle.city_model.proofs.Prelude.{IsSound, Answers, applied, effect, left, step}
 use Rattle.city_model.specs.Marks.{AreSound}
 use Rattle.city_model.specs.Meaning.{back}
@@ -22,7 +23,8 @@ sound_back : (name : List ℕ) (v : Snapshot) (ks : List Marked) → IsSoundView
 sound_back name v [] s a = s
 sound_back name v (k ∷ ks) s a = (a.0, a)
 
-sound_applied : (v : Snapshot) (a : Action) → IsSoundView v → IsSound (map_after v.map a) → IsSoundView (left v (applied v a))
+sound_applied : (v : Snapshot) (a : Action) → IsSoundView v → IsSound (map_after v.map a)
+    → IsSoundView (left v (applied v a))
 sound_applied v (Refuses cause) s t = s
 sound_applied v (Edits reply ids n) s t = (t, s.1)
 sound_applied v (Marks name) s t = (s.0, (s.0, s.1))
@@ -33,7 +35,8 @@ pub sound_step : (v : Snapshot) (c : Command) → IsSoundView v → IsSoundView 
 sound_step v c s = sound_applied v (action v.map c) s (sound_after v.map c s.0)
 
 -- each answered command keeps the map and every mark's map sound
-pub sound_effect : (v : Snapshot) (c : Command) (reply : Reply) (u : Snapshot) → effect v c ≡ Answers reply u → IsSoundView v
+pub sound_effect : (v : Snapshot) (c : Command) (reply : Reply) (u : Snapshot) → effect v c ≡ Answers reply u
+    → IsSoundView v
     → IsSoundView u
 sound_effect v c reply u is s = rw (answered_next v c reply u is) (sound_step v c s)
 

@@ -1,5 +1,6 @@
 -- Lists of members one behind the other: finding, putting and taking out a name at the list that reaches it.
-use Rattle.city_model.proofs.Prelude.{◌≡◌, ℕ, ◌<◌, ◌==◌, ◌-◌, ◌+◌, List, [], ◌∷◌, ◌++◌, Bool, true, false, length, get_or}
+use Rattle.city_model.proofs.Prelude.{◌≡◌, ℕ, ◌<◌, ◌==◌, ◌-◌, ◌+◌, List, [], ◌∷◌, ◌++◌, Bool, true, false, length}
+use Rattle.city_model.proofs.Prelude.{get_or}
 use Rattle.city_model.proofs.Prelude.{take, drop, refl, sym, ap, ◌∙◌, arith, None, Ordering, Less, Equal}
 use Rattle.city_model.proofs.Prelude.{no_members, member, slice_cmp, nat_cmp, is_lt, nat_list_cmp_total, same_id}
 use Rattle.city_model.proofs.Prelude.{arc_value, string_bytes, not, ◌||◌, exact_bytes, subst}
@@ -29,12 +30,14 @@ pub entries_view-append : (xs ys : Entries) → entries_view (xs ++ ys) ≡ join
 entries_view-append [] ys = refl
 entries_view-append (x ∷ xs) ys = grind (arith, entries_view-append xs ys)
 
-pub split_entries : (es : Entries) (n : ℕ) → joined (entries_view (take n es)) (entries_view (drop n es)) ≡ entries_view es
+pub split_entries : (es : Entries) (n : ℕ) → joined (entries_view (take n es)) (entries_view (drop n es))
+    ≡ entries_view es
 split_entries es n = sym (entries_view-append (take n es) (drop n es)) ∙ ap entries_view (take-append-drop n es)
 
 -- an entry behind others
 pub entry_last : (es : Entries) (e : Arc (String Global × Value) Global) (ms : Members)
-    → joined (entries_view (es ++ e ∷ [])) ms ≡ joined (entries_view es) (member (string_bytes (arc_value e).0) (view (arc_value e).1) ms)
+    → joined (entries_view (es ++ e ∷ [])) ms
+    ≡ joined (entries_view es) (member (string_bytes (arc_value e).0) (view (arc_value e).1) ms)
 entry_last [] e ms = refl
 entry_last (x ∷ es) e ms = grind (arith, entry_last es e ms)
 
@@ -272,7 +275,8 @@ reaches_last name (x ∷ (y ∷ es)) e some is h =
     above_last (string_bytes (arc_value x).0) (y ∷ es) e (omega arith) same h.0 in
     reaches_more _ _ (string_bytes (arc_value x).0) (string_bytes (arc_value e).0) name _ refl
     (reaches_last name (y ∷ es) e (omega arith) same h.1)
-    (λ not_less. ap not (kept_reached name (string_bytes (arc_value x).0) (string_bytes (arc_value e).0) above not_less))
+    (λ not_less. ap not (kept_reached name (string_bytes (arc_value x).0)
+    (string_bytes (arc_value e).0) above not_less))
 
 pub ge_is : (o : Ordering) → is_ge o ≡ not (is_lt o)
 ge_is Less = refl

@@ -2,7 +2,8 @@
 use Rattle.city_model.proofs.Prelude.{arith, ◌≡◌, ℕ, List, [], ◌∷◌, map, length, true, false, None, Some, refl}
 use Rattle.city_model.proofs.Prelude.{sym, ◌∙◌, keys_of, false≢true, or_parts, Object, Body, Command}
 use Rattle.city_model.proofs.Prelude.{Delete, Attach, Detach, Reply, Added, Deleted, Attached, Detached, CityMap}
-use Rattle.city_model.proofs.Prelude.{Edits, action, Amendment, amended, new_object, same_id, has_id, changed, deleted, attached}
+use Rattle.city_model.proofs.Prelude.{Edits, action, Amendment, amended, new_object, same_id, has_id, changed}
+use Rattle.city_model.proofs.Prelude.{deleted, attached}
 use Rattle.city_model.proofs.Prelude.{detached, without_child, without_parent, with_child, with_parent, is_wrong_family}
 use Rattle.city_model.proofs.Prelude.{IsSound, Change, after_change, unlinked}
 use Rattle.std.proofs.Common.{◌==◌}
@@ -63,7 +64,8 @@ module _ (m : CityMap) (child parent : List ℕ) (c p below above : Object) (ws 
     (is_parent : m parent ≡ Some p) (written : ws ≡ (child, Some below) ∷ (parent, Some above) ∷ []) where
   two_writes : (c : Command) (r : Reply) (n : CityMap) → action m c ≡ Edits r (child ∷ parent ∷ []) n
       → n child ≡ Some below → n parent ≡ Some above → AreWritesOf m c r ws
-  two_writes c r n is lower upper = rw written (record { after = n; edits = is; objects = (sym lower, (sym upper, tt)) })
+  two_writes c r n is lower upper =
+      rw written (record { after = n; edits = is; objects = (sym lower, (sym upper, tt)) })
 
   apart_of : is_wrong_family child c parent p ≡ false → same_id child parent ≡ false
   apart_of family = search (arith, or_parts)

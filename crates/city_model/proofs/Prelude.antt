@@ -69,7 +69,8 @@ pub use Rattle.city_model.specs.declared.object_type.ObjectType.{ObjectType}
 pub use Rattle.city_model.specs.declared.object_type.ObjectType.TheVariants.{Bridge, Building, BuildingPart, LandUse}
 pub use Rattle.city_model.specs.declared.object_type.ObjectType.TheVariants.{Road}
 pub use Rattle.city_model.specs.internal.Plans.{unlinked}
-pub use Rattle.city_model.specs.internal.RelationTests.{are_distinct, are_increasing, are_increasing_from, is_misrelated}
+pub use Rattle.city_model.specs.internal.RelationTests.{are_distinct, are_increasing, are_increasing_from}
+pub use Rattle.city_model.specs.internal.RelationTests.{is_misrelated}
 pub use Rattle.city_model.specs.internal.RelationTests.{parent_fits}
 pub use Rattle.city_model.specs.internal.RingFaults.{is_faulty}
 pub use Rattle.city_model.specs.internal.RisingEdges.{rising}

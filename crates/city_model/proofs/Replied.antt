@@ -27,13 +27,15 @@ answered_more (d ∷ cs) [] c r h = grind arith
 answered_more (d ∷ cs) (s ∷ rs) c r h = grind (arith, answered_more cs rs c r)
 
 -- the result of a script, from its first commands and the next one, which ends it
-ends_more : (held : Held) (e : Effect) (w : Snapshot) (i : ℕ) (cs : List Command) (r : Reply) (rs : List Reply) (o : Outcome)
+ends_more : (held : Held) (e : Effect) (w : Snapshot) (i : ℕ) (cs : List Command) (r : Reply) (rs : List Reply)
+    (o : Outcome)
     → is_refusal r ≡ false
     → ((u : Snapshot) → IsTraceUnderLocks held u (answered cs rs) w → EndsFrom u (i + 1) cs rs o)
     → GoesOn e (Next held r (answered cs rs) w) → GoesOn e (EndsFurther r i cs rs o)
 ends_more held e w i cs r rs o h f g = grind arith
 
-pub result_from : (held : Held) (v w : Snapshot) (i : ℕ) (cs : List Command) (rs : List Reply) (c : Command) (o : Outcome)
+pub result_from : (held : Held) (v w : Snapshot) (i : ℕ) (cs : List Command) (rs : List Reply) (c : Command)
+    (o : Outcome)
     → IsTraceUnderLocks held v (answered cs rs) w → list_any is_refusal rs ≡ false → slice_get cs (length rs) ≡ Some c
     → EndsAt w c (i + length rs) o → EndsFrom v i cs rs o
 result_from held v w i [] rs c o f u h k = absurd (cc)

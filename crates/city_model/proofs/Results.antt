@@ -1,7 +1,9 @@
 -- A script has one result at a map, and scripts run in their order have one list of ends, but for want of memory.
 use Rattle.city_model.proofs.Prelude.{true, ◌≡◌, ℕ, ◌+◌, List, [], ◌∷◌, length, false, refl, sym, ◌∙◌, arith}
-use Rattle.city_model.proofs.Prelude.{nat_list_cmp_total, Command, Cause, Reply, Committed, Aborted, Refused, End, Outcome, CityMap}
-use Rattle.city_model.proofs.Prelude.{IsLeast, Snapshot, unmarked, Effect, effect, IsReply, GoesOn, IsOrphanAt, Scripted}
+use Rattle.city_model.proofs.Prelude.{nat_list_cmp_total, Command, Cause, Reply, Committed, Aborted, Refused, End}
+use Rattle.city_model.proofs.Prelude.{Outcome, CityMap}
+use Rattle.city_model.proofs.Prelude.{IsLeast, Snapshot, unmarked, Effect, effect, IsReply, GoesOn, IsOrphanAt}
+use Rattle.city_model.proofs.Prelude.{Scripted}
 use Rattle.city_model.proofs.Prelude.{EndsAt, EndsFrom, IsScriptResult, left_by, IsEndOf, IsSerialHistoryFrom}
 use Rattle.city_model.proofs.Prelude.{IsSerialHistory}
 use Rattle.city_model.proofs.Ids.{same_id_true}
@@ -34,11 +36,13 @@ reply_goes_on : (v : Snapshot) (c : Command) (q : Reply) (P : Reply → Snapshot
 reply_goes_on v c q P ending h g = goes_on_case P (effect v c) (λ reply u is f.
     let same : q ≡ reply = rw is at h in grind (arith, answered_no_ending v c reply u is, same, ending)) g
 
-refused_or_goes_on : (v : Snapshot) (e : Effect) (cause : Cause) (r : Reply) (j : ℕ) (cs : List Command) (rs : List Reply)
+refused_or_goes_on : (v : Snapshot) (e : Effect) (cause : Cause) (r : Reply) (j : ℕ) (cs : List Command)
+    (rs : List Reply)
     (p : Outcome) → IsReply v e (Refused cause) → GoesOn e (EndsFurther r j cs rs p) → ⊥
 refused_or_goes_on v e cause r j cs rs p h g = grind arith
 
-ends_or_goes_on : (v : Snapshot) (c : Command) (i j : ℕ) (o p : Outcome) (r : Reply) (cs : List Command) (rs : List Reply)
+ends_or_goes_on : (v : Snapshot) (c : Command) (i j : ℕ) (o p : Outcome) (r : Reply) (cs : List Command)
+    (rs : List Reply)
     → is_no_memory o ≡ false → EndsAt v c i o → GoesOn (effect v c) (EndsFurther r j cs rs p) → ⊥
 ends_or_goes_on v c i j Outcome.Committed p r cs rs n h g = reply_goes_on v c Committed _ refl h.0 g
 ends_or_goes_on v c i j Outcome.Aborted p r cs rs n h g = reply_goes_on v c Aborted _ refl h.0 g

@@ -1,6 +1,8 @@
 -- A sound map stays sound under each command, and a committed script leaves a lawful one.
-use Rattle.city_model.proofs.Prelude.{◌≡◌, ℕ, List, [], ◌∷◌, ◌++◌, Bool, true, false, Option, Some, None, refl, ap, subst}
-use Rattle.city_model.proofs.Prelude.{◌∙◌, arith, ◌==◌, length, option_map, or_parts, if◌then◌else◌, Object, Body, Cause}
+use Rattle.city_model.proofs.Prelude.{◌≡◌, ℕ, List, [], ◌∷◌, ◌++◌, Bool, true, false, Option, Some, None, refl, ap}
+use Rattle.city_model.proofs.Prelude.{subst}
+use Rattle.city_model.proofs.Prelude.{◌∙◌, arith, ◌==◌, length, option_map, or_parts, if◌then◌else◌, Object, Body}
+use Rattle.city_model.proofs.Prelude.{Cause}
 use Rattle.city_model.proofs.Prelude.{Command, Put, Delete, Attach, Detach, Reply, CityMap, Action, Edits, action}
 use Rattle.city_model.proofs.Prelude.{Amendment, amended, amendment_fault, new_object, same_id, has_id, changed}
 use Rattle.city_model.proofs.Prelude.{parents_of, children_of, is_wrong_family, without_id, without_child}

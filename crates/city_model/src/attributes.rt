@@ -1,10 +1,11 @@
 //! The attributes of an object (CityJSON 2.0, section 2): set, taken out, and compared.
-ghost use Rattle.std.specs.Prelude.{◌≡◌, option_map, string_bytes, if◌then◌else◌, IfOk, OnOk};
+ghost use Rattle.std.specs.Prelude.{◌≡◌, true, option_map, string_bytes, if◌then◌else◌, IfOk, OnOk};
 ghost use Rattle.serde_json.specs.Data.{object, put};
 ghost use Rattle.serde_json.specs.View.{view, members_view};
-ghost use Rattle.city_model.specs.Attributes.{attributes, attributes_in, put_each, with_set, with_unset, members_of, are_among, has_attributes};
-ghost use Rattle.city_model.specs.Kept.{has_no_member};
-ghost use Rattle.city_model.specs.Members.{without, without_each};
+ghost use Rattle.city_model.specs.Attributes.{attributes, attributes_in, put_each, with_set, with_unset, members_of};
+ghost use Rattle.city_model.specs.Attributes.{members_or_none, are_among};
+ghost use Rattle.city_model.specs.Kept.{has_no_member, kept_at_object};
+ghost use Rattle.city_model.specs.Members.{without, without_each, AreOrdered};
 
 use crate::OutOfMemory;
 use crate::command::Attributes;
@@ -20,12 +21,14 @@ use std::alloc::Global;
 /// object. Fails only when out of memory.
 pub(crate) fn with_set(
     alloc: Global,
-    extra: &Extra<AtObject>,
+    mut members: Map<String, Value>,
     named: &Attributes,
 ) -> Result<Option<Extra<AtObject>>, OutOfMemory>
-    ensures { IfOk result (λ made. made ≡ option_map (with_set extra.now named.now) (attributes_in extra.now)) }
+    requires kept { kept_at_object (members_view members.entries) ≡ true }
+    requires ordered { AreOrdered (members_view members.entries) }
+    ensures { IfOk result (λ made. made ≡ option_map (with_set (members_view members.entries) named.now)
+        (attributes_in (members_view members.entries))) }
 {
-    let mut members = extra.to_map()?;
     let Some(mut found) = take_attributes(alloc, &mut members) else {
         return Ok(None);
     };
@@ -38,12 +41,14 @@ pub(crate) fn with_set(
 /// `attributes` is no object. Fails only when out of memory.
 pub(crate) fn with_unset(
     alloc: Global,
-    extra: &Extra<AtObject>,
+    mut members: Map<String, Value>,
     names: &[Text],
 ) -> Result<Option<Extra<AtObject>>, OutOfMemory>
-    ensures { IfOk result (λ made. made ≡ option_map (with_unset extra.now names.now) (attributes_in extra.now)) }
+    requires kept { kept_at_object (members_view members.entries) ≡ true }
+    requires ordered { AreOrdered (members_view members.entries) }
+    ensures { IfOk result (λ made. made ≡ option_map (with_unset (members_view members.entries) names.now)
+        (attributes_in (members_view members.entries))) }
 {
-    let mut members = extra.to_map()?;
     let Some(mut left) = take_attributes(alloc, &mut members) else {
         return Ok(None);
     };
@@ -52,24 +57,19 @@ pub(crate) fn with_unset(
     Ok(Some(Extra::of_kept(members)))
 }
 
-/// Whether the kept members of an object have these attributes, with these values. Doesn't allocate.
-pub(crate) fn has_attributes(extra: &Map<String, Value>, named: &Map<String, Value>) -> bool
-    ensures { result ≡ has_attributes (members_view extra.now.entries) (members_view named.now.entries) }
+/// Whether the value of `attributes`, if there is one, has these members, with these values.
+/// Doesn't allocate.
+pub(crate) fn has_attributes(found: Option<&Value>, named: &Map<String, Value>) -> bool
+    ensures { result ≡ are_among (members_view named.now.entries)
+        (members_of (members_or_none (option_map (λ v. view v.now) found.entry))) }
 {
-    match attributes_of(extra) {
-        Some(found) => are_among(named, found),
-        None => has_no_member(named),
-    }
-}
-
-/// The attributes among the kept members of an object, if they are an object.
-fn attributes_of(extra: &Map<String, Value>) -> Option<&Map<String, Value>>
-    ensures { members_of (option_map (λ m. members_view m.now.entries) result)
-        ≡ members_of (attributes_in (members_view extra.now.entries)) }
-{
-    match member(extra, "attributes") {
+    let found = match found {
         None => None,
         Some(value) => value.as_object(),
+    };
+    match found {
+        Some(found) => are_among(named, found),
+        None => has_no_member(named),
     }
 }
 

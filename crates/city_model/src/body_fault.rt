@@ -1,7 +1,8 @@
 //! The faults of geometries and of bodies (CityJSON 2.0, section 3.2).
 ghost use Rattle.std.specs.Prelude.{◌≡◌, false, IfOk, OnErr};
 ghost use Rattle.std.specs.List.{list_any};
-ghost use Rattle.city_model.specs.Shells.{has_short_ring, has_same_twice, has_open_shell, any_shape, geometry_fault, some_shape, body_fault};
+ghost use Rattle.city_model.specs.Shells.{has_short_ring, has_same_twice, has_open_shell, any_shape, geometry_fault};
+ghost use Rattle.city_model.specs.Shells.{some_shape, body_fault};
 ghost use Rattle.city_model.specs.internal.RingFaults.{has_ring_fault};
 
 use crate::OutOfMemory;

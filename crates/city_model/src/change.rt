@@ -1,5 +1,6 @@
 //! The writes of a commit, as a finite map.
-ghost use Rattle.std.specs.Prelude.{◌≡◌, ◌++◌, ℕ, List, [], Some, length, option_to_list, IfNone, OnOk, OnErr, if◌then◌else◌};
+ghost use Rattle.std.specs.Prelude.{◌≡◌, ◌++◌, ℕ, List, [], Some, length, option_to_list, IfNone, OnOk, OnErr};
+ghost use Rattle.std.specs.Prelude.{if◌then◌else◌};
 ghost use Rattle.std.specs.List.Sorted.{IsStrictlySortedBy};
 ghost use Rattle.std.specs.Map.{keys_of};
 ghost use Rattle.std.specs.Option.{unwrap_or};
@@ -79,8 +80,10 @@ impl Change {
     ///
     /// If memory runs out, the change stays as it was, and the object is dropped.
     pub fn set(&mut self, id: Id, object: Option<Object>) -> Result<(), OutOfMemory>
-        ensures writes { OnOk result ((q : List ℕ) → write_in self.new q ≡ (if same_id id q then Some object else write_in self.old q)) }
-        ensures map { OnOk result ((m : CityMap) → after_change m self.new ≡ changed (after_change m self.old) id object) }
+        ensures writes { OnOk result
+            ((q : List ℕ) → write_in self.new q ≡ (if same_id id q then Some object else write_in self.old q)) }
+        ensures map { OnOk result
+            ((m : CityMap) → after_change m self.new ≡ changed (after_change m self.old) id object) }
         ensures in_byte_order { IsStrictlySortedBy (slice_cmp nat_cmp) (keys_of self.new) }
         ensures unchanged { OnErr result (self.new ≡ self.old) }
     {

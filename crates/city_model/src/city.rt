@@ -1,5 +1,6 @@
 //! The city: a frame and a map from ids to objects.
-ghost use Rattle.std.specs.Prelude.{◌≡◌, ◌==◌, true, Some, None, IfOk, IfErr, IsOk, IsSome, OnOk, OnErr, is_some, option_copied, option_map};
+ghost use Rattle.std.specs.Prelude.{◌≡◌, ◌==◌, true, Some, None, IfOk, IfErr, IsOk, IsSome, OnOk, OnErr, is_some};
+ghost use Rattle.std.specs.Prelude.{option_copied, option_map};
 ghost use Rattle.std.specs.FinMap.{empty, entries, insert, len, remove};
 ghost use Rattle.city_model.specs.CityMap.{object_at, changed};
 
@@ -29,7 +30,8 @@ impl Model for City {
     ghost use Rattle.std.specs.FinMap.{code, from_sorted};
     ghost use Rattle.city_model.specs.internal.DataCode.{coded_members};
 
-    ghost coded = { coded× (Prim.hlevel (codes, coded_members)) (code (coded_list coded_ℕ) (Prim.hlevel (codes, coded_members))) };
+    ghost coded = { coded× (Prim.hlevel (codes, coded_members))
+        (code (coded_list coded_ℕ) (Prim.hlevel (codes, coded_members))) };
 
     ghost view = { λ c. (c.frame, from_sorted c.objects.entries) };
 

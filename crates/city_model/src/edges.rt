@@ -40,7 +40,8 @@ impl Edges {
 
 fn push_ring(edges: &mut Edges, ring: &Ring) -> Result<(), OutOfMemory>
     ensures up { OnOk result (edges.new.up.items ≡ edges.old.up.items ++ rising (ring_edges ring.now)) }
-    ensures down { OnOk result (edges.new.down.items ≡ edges.old.down.items ++ rising (map flipped (ring_edges ring.now))) }
+    ensures down { OnOk result
+        (edges.new.down.items ≡ edges.old.down.items ++ rising (map flipped (ring_edges ring.now))) }
 {
     let [first, rest @ ..] = ring.as_slice() else {
         return Ok(());
@@ -55,7 +56,8 @@ fn push_ring(edges: &mut Edges, ring: &Ring) -> Result<(), OutOfMemory>
 
 fn push_surface(edges: &mut Edges, surface: &Surface) -> Result<(), OutOfMemory>
     ensures up { OnOk result (edges.new.up.items ≡ edges.old.up.items ++ rising (surface_edges surface.now)) }
-    ensures down { OnOk result (edges.new.down.items ≡ edges.old.down.items ++ rising (map flipped (surface_edges surface.now))) }
+    ensures down { OnOk result
+        (edges.new.down.items ≡ edges.old.down.items ++ rising (map flipped (surface_edges surface.now))) }
 {
     let rings = surface.as_slice();
     for ring in rings {

@@ -1,5 +1,6 @@
 //! The parents or the children of an object: a list of ids, shared by its copies.
-ghost use Rattle.std.specs.Prelude.{◌≡◌, [], ◌∷◌, ◌++◌, ◌==◌, ◌<◌, suc, take, drop, false, flat_map, length, IfOk, IfSome, IfNone, OnOk, OnErr};
+ghost use Rattle.std.specs.Prelude.{◌≡◌, [], ◌∷◌, ◌++◌, ◌==◌, ◌<◌, suc, take, drop, false, flat_map, length, IfOk};
+ghost use Rattle.std.specs.Prelude.{IfSome, IfNone, OnOk, OnErr};
 ghost use Rattle.std.specs.Arc.{arc_value};
 ghost use Rattle.city_model.specs.CityMap.{has_id};
 ghost use Rattle.city_model.specs.Actions.{without_id};
@@ -167,7 +168,8 @@ fn replace(
 ) -> Result<(), OutOfMemory>
     requires { at < length chunks.old.items }
     ensures { OnOk result (flat_map arc_value chunks.new.items
-        ≡ flat_map arc_value (take at chunks.old.items) ++ (ids ++ flat_map arc_value (drop (suc at) chunks.old.items))) }
+        ≡ flat_map arc_value (take at chunks.old.items)
+        ++ (ids ++ flat_map arc_value (drop (suc at) chunks.old.items))) }
 {
     if ids.len() == 0 {
         let _ = chunks.remove(at);

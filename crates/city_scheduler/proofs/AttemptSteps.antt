@@ -3,7 +3,8 @@ use Rattle.city_scheduler.proofs.Prelude.{◌≡◌, ℕ, true, false, List, [],
 use Rattle.city_scheduler.proofs.Prelude.{ap, sym, subst, ◌∙◌, arith, IfSome, false≢true, Command, Reply, Outcome}
 use Rattle.city_scheduler.proofs.Prelude.{object_at, CityValue, IsLawful, is_refusal, Change, after_changes, is_end}
 use Rattle.city_scheduler.proofs.Prelude.{is_commit, is_no_memory, Answer, TxnFault, CoreState, committed, snapshot}
-use Rattle.city_scheduler.proofs.Prelude.{is_open, StandsUnderLocks, KeepsOthers, IsRolledBack, answer_in, CommandOutcome}
+use Rattle.city_scheduler.proofs.Prelude.{is_open, StandsUnderLocks, KeepsOthers, IsRolledBack, answer_in}
+use Rattle.city_scheduler.proofs.Prelude.{CommandOutcome}
 use Rattle.city_scheduler.proofs.Prelude.{Progress, Idle, progress_to, AttemptEnded, HasStepped, shown_more}
 use Rattle.city_model.specs.declared.command.Command.TheVariants.{Abort}
 use Rattle.city_model.specs.declared.command.Cause.{Cause}

@@ -4,7 +4,8 @@ use Rattle.city_scheduler.proofs.Prelude.{Some, refl, ap, sym, subst, ◌∙◌,
 use Rattle.city_scheduler.proofs.Prelude.{slice_index_or, option_and_then, false≢true, slice_get_read, Command, End}
 use Rattle.city_scheduler.proofs.Prelude.{Outcome, CityValue, is_refusal, Scripted, map_left, Change, is_end, ends_once}
 use Rattle.city_scheduler.proofs.Prelude.{is_commit, answered, Answer, CoreState, committed, snapshot, is_open}
-use Rattle.city_scheduler.proofs.Prelude.{KeepsOthers, answer_in, CommandOutcome, Progress, Idle, Open, Turn, AttemptEnded}
+use Rattle.city_scheduler.proofs.Prelude.{KeepsOthers, answer_in, CommandOutcome, Progress, Idle, Open, Turn}
+use Rattle.city_scheduler.proofs.Prelude.{AttemptEnded}
 use Rattle.city_scheduler.proofs.Prelude.{HasStepped, DeskState, progress_to, ended_progress, phase_of, replies_of}
 use Rattle.city_scheduler.proofs.Prelude.{room_of, is_ended, stamp_of, HasRoom, StandsAs, IsSerial, IsDue, end_of}
 use Rattle.std.proofs.Common.{◌||◌}

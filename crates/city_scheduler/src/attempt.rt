@@ -46,7 +46,8 @@ fn run_command(
     requires place { length progress.old.replies.list < progress.old.replies.room }
     requires opened { is_open core.old stamp ≡ true }
     requires goes_on { is_end command.now ≡ false }
-    ensures { (changes : List Change) → HasStepped stamp command.now result progress.old progress.new core.old core.new changes changes }
+    ensures { (changes : List Change)
+        → HasStepped stamp command.now result progress.old progress.new core.old core.new changes changes }
 {
     let number = progress.replies.len();
     match core.act(stamp, command) {
@@ -78,8 +79,10 @@ fn run_command(
 fn commit<S: Shelf>(core: &mut Core, shelf: &mut S, stamp: u64, number: usize) -> Outcome
     requires opened { is_open core.old stamp ≡ true }
     requires room { length (S.list shelf.old) + 1 < 2 ^ 64 }
-    requires shows { IfSome (S.base shelf.old) (λ city. after_changes (object_at city.1) (S.list shelf.old) ≡ committed core.old) }
-    ensures ended { AttemptEnded stamp Command.Commit number result core.old core.new (S.list shelf.old) (S.list shelf.new) }
+    requires shows { IfSome (S.base shelf.old)
+        (λ city. after_changes (object_at city.1) (S.list shelf.old) ≡ committed core.old) }
+    ensures ended { AttemptEnded stamp Command.Commit number result core.old core.new (S.list shelf.old)
+        (S.list shelf.new) }
     ensures base { S.base shelf.new ≡ S.base shelf.old }
     ensures name { S.name shelf.new ≡ S.name shelf.old }
     ensures published { S.published shelf.new ≡ S.published shelf.old }
@@ -118,8 +121,10 @@ pub fn step<S: Shelf>(
     requires place { length progress.old.replies.list < progress.old.replies.room }
     requires opened { is_open core.old stamp ≡ true }
     requires room { length (S.list shelf.old) + 1 < 2 ^ 64 }
-    requires shows { IfSome (S.base shelf.old) (λ city. after_changes (object_at city.1) (S.list shelf.old) ≡ committed core.old) }
-    ensures stepped { HasStepped stamp command.now result progress.old progress.new core.old core.new (S.list shelf.old) (S.list shelf.new) }
+    requires shows { IfSome (S.base shelf.old)
+        (λ city. after_changes (object_at city.1) (S.list shelf.old) ≡ committed core.old) }
+    ensures stepped { HasStepped stamp command.now result progress.old progress.new core.old core.new
+        (S.list shelf.old) (S.list shelf.new) }
     ensures base { S.base shelf.new ≡ S.base shelf.old }
     ensures name { S.name shelf.new ≡ S.name shelf.old }
     ensures published { S.published shelf.new ≡ S.published shelf.old }

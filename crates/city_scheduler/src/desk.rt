@@ -1,5 +1,6 @@
 //! The desk.
-ghost use Rattle.std.specs.Prelude.{◌≡◌, ◌<◌, ◌+◌, ◌↔◌, ◌==◌, ℕ, [], length, true, false, None, Some, option_map, IfSome, IsOk, IfOk, IfErr, OnOk, OnErr, if◌then◌else◌, nat_lt};
+ghost use Rattle.std.specs.Prelude.{◌≡◌, ◌<◌, ◌+◌, ◌↔◌, ◌==◌, ℕ, [], length, true, false, None, Some, option_map};
+ghost use Rattle.std.specs.Prelude.{IfSome, IsOk, IfOk, IfErr, OnOk, OnErr, if◌then◌else◌, nat_lt};
 ghost use Rattle.city_model.specs.CityMap.{object_at};
 ghost use Rattle.city_model.specs.Relations.{IsLawful};
 ghost use Rattle.city_model.specs.Runs.{model_after, has_end};
@@ -132,8 +133,10 @@ impl<S: Shelf> Desk<S> {
 
     /// Hands out the next script to work on: 0, 1, .. each once. Doesn't allocate.
     pub fn take(&mut self) -> Option<usize>
-        ensures next { result ≡ (if nat_lt self.old.0.taken (length self.old.0.scripts) then Some self.old.0.taken else None) }
-        ensures taken { self.new.0 ≡ record self.old.0 { taken = if nat_lt self.old.0.taken (length self.old.0.scripts) then self.old.0.taken + 1 else self.old.0.taken } }
+        ensures next { result
+            ≡ (if nat_lt self.old.0.taken (length self.old.0.scripts) then Some self.old.0.taken else None) }
+        ensures taken { self.new.0 ≡ record self.old.0 { taken = if nat_lt self.old.0.taken
+            (length self.old.0.scripts) then self.old.0.taken + 1 else self.old.0.taken } }
         ensures shelf { self.new.1 ≡ self.old.1 }
     {
         if self.taken < self.scripts.len() {
@@ -149,7 +152,8 @@ impl<S: Shelf> Desk<S> {
     /// If every unended script has an open transaction, returns the youngest's: a transaction waits
     /// only for younger ones.
     pub fn ready(&self) -> Option<usize>
-        ensures some { IfSome result (λ n. (n < length self.now.0.scripts) × (has_end n self.now.0.ends ≡ false) × (IsWaiting self.now.0 n → ⊥)) }
+        ensures some { IfSome result (λ n. (n < length self.now.0.scripts) × (has_end n self.now.0.ends ≡ false)
+            × (IsWaiting self.now.0 n → ⊥)) }
         ensures none { result ≡ None ↔ ((n : ℕ) → n < length self.now.0.scripts → has_end n self.now.0.ends ≡ true) }
     {
         let progress = self.progress.as_slice();
@@ -166,7 +170,8 @@ impl<S: Shelf> Desk<S> {
         ensures list { S.list self.new.1 ≡ S.list self.old.1 }
         ensures base { S.base self.new.1 ≡ S.base self.old.1 }
         ensures name { S.name self.new.1 ≡ S.name self.old.1 }
-        ensures published { OnOk result (S.published self.new.1 ≡ option_map (λ seen. S.list self.old.1) (S.published self.old.1)) }
+        ensures published { OnOk result
+            (S.published self.new.1 ≡ option_map (λ seen. S.list self.old.1) (S.published self.old.1)) }
         ensures err { OnErr result (S.published self.new.1 ≡ S.published self.old.1) }
         ensures note { IfOk result (λ note. S.tells self.new.1 note) }
     {
@@ -259,7 +264,8 @@ impl<S: Shelf> Desk<S> {
         ensures ended { IsOk result ↔ ((n : ℕ) → n < length self.0.scripts → has_end n self.0.ends ≡ true) }
         ensures each_once { IfOk result (λ f. length f.ends ≡ length self.0.scripts) }
         ensures frame { IfOk result (λ f. f.city.0 ≡ self.0.start.0) }
-        ensures city { IfOk result (λ f. object_at f.city.1 ≡ model_after self.0.scripts (object_at self.0.start.1) self.0.ends) }
+        ensures city { IfOk result
+            (λ f. object_at f.city.1 ≡ model_after self.0.scripts (object_at self.0.start.1) self.0.ends) }
         ensures ends { IfOk result (λ f. f.ends ≡ self.0.ends) }
         ensures shelf { IfOk result (λ f. f.shelf ≡ self.1) }
         ensures serial { IsSerial self.0 (S.list self.1) (S.base self.1) }

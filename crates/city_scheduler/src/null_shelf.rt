@@ -64,7 +64,8 @@ impl Shelf for NullShelf {
     fn take_from(&mut self, core: &Core, stamp: u64) -> Result<(), OutOfMemory>
         requires allowed { IsChangeOf core.now stamp (change_in core.now.writes stamp) }
         ensures always { IsOk result }
-        ensures ok { OnOk result ((change : Change) × IsChangeOf core.now stamp change × (self.new ≡ self.old ++ change ∷ [])) }
+        ensures ok { OnOk result
+            ((change : Change) × IsChangeOf core.now stamp change × (self.new ≡ self.old ++ change ∷ [])) }
     {
         self.taken = self.taken.with_writes(core, stamp);
         Ok(())

@@ -90,7 +90,8 @@ pub fn unbegun_each(alloc: Global, scripts: &[Script]) -> Result<Vec<Progress>, 
 
 /// A script neither ended nor with an open transaction, if there is one.
 pub fn unopened(progress: &[Progress]) -> Option<usize>
-    ensures { MatchOption result ((k : ℕ) → is_unopened (phase_in progress.now k) ≡ false) (λ n. (n < length progress.now) × (is_unopened (phase_in progress.now n) ≡ true)) }
+    ensures { MatchOption result ((k : ℕ) → is_unopened (phase_in progress.now k) ≡ false)
+        (λ n. (n < length progress.now) × (is_unopened (phase_in progress.now n) ≡ true)) }
 {
     for (n, script) in progress.iter().enumerate() {
         match script.phase {
@@ -103,7 +104,8 @@ pub fn unopened(progress: &[Progress]) -> Option<usize>
 
 /// The script with the youngest open transaction, if any is open.
 pub fn youngest(progress: &[Progress]) -> Option<usize>
-    ensures { MatchOption result ((k : ℕ) → is_open_phase (phase_in progress.now k) ≡ false) (λ n. (n < length progress.now) × IsYoungest progress.now n) }
+    ensures { MatchOption result ((k : ℕ) → is_open_phase (phase_in progress.now k) ≡ false)
+        (λ n. (n < length progress.now) × IsYoungest progress.now n) }
 {
     let mut found = None;
     let mut youngest = 0;

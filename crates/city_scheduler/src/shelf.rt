@@ -1,5 +1,6 @@
 //! Takes the changes of a desk's commits.
-ghost use Rattle.std.specs.Prelude.{◌≡◌, ◌+◌, ◌<◌, ◌^◌, ℕ, List, [], ◌∷◌, ◌++◌, length, Option, option_map, IfSome, IfOk, OnOk, OnErr};
+ghost use Rattle.std.specs.Prelude.{◌≡◌, ◌+◌, ◌<◌, ◌^◌, ℕ, List, [], ◌∷◌, ◌++◌, length, Option, option_map, IfSome};
+ghost use Rattle.std.specs.Prelude.{IfOk, OnOk, OnErr};
 ghost use Rattle.city_model.specs.CityMap.{object_at, CityValue};
 ghost use Rattle.city_model.specs.Relations.{IsLawful};
 ghost use Rattle.city_model.specs.Runs.{Change, after_changes};
@@ -33,7 +34,8 @@ pub trait Shelf: Drop {
     /// Takes a change, still unseen by viewers. If memory runs out, the list stays.
     fn take(&mut self, change: Change) -> Result<(), OutOfMemory>
         requires room { length (list self.old) + 1 < 2 ^ 64 }
-        requires lawful { IfSome (base self.old) (λ city. IsLawful (after_changes (object_at city.1) (list self.old ++ change ∷ []))) }
+        requires lawful { IfSome (base self.old)
+            (λ city. IsLawful (after_changes (object_at city.1) (list self.old ++ change ∷ []))) }
         ensures ok { OnOk result (list self.new ≡ list self.old ++ change ∷ []) }
         ensures err { OnErr result (list self.new ≡ list self.old) }
         ensures base { base self.new ≡ base self.old }
@@ -47,8 +49,10 @@ pub trait Shelf: Drop {
     fn take_from(&mut self, core: &Core, stamp: u64) -> Result<(), OutOfMemory>
         requires room { length (list self.old) + 1 < 2 ^ 64 }
         requires allowed { IsChangeOf core.now stamp (change_in core.now.writes stamp) }
-        requires shows { IfSome (base self.old) (λ city. after_changes (object_at city.1) (list self.old) ≡ committed core.now) }
-        ensures ok { OnOk result ((change : Change) × IsChangeOf core.now stamp change × (list self.new ≡ list self.old ++ change ∷ [])) }
+        requires shows { IfSome (base self.old)
+            (λ city. after_changes (object_at city.1) (list self.old) ≡ committed core.now) }
+        ensures ok { OnOk result ((change : Change) × IsChangeOf core.now stamp change
+            × (list self.new ≡ list self.old ++ change ∷ [])) }
         ensures err { OnErr result (list self.new ≡ list self.old) }
         ensures base { base self.new ≡ base self.old }
         ensures name { name self.new ≡ name self.old }

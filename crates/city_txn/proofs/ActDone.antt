@@ -9,7 +9,8 @@ use Rattle.std.proofs.Common.{◌≢◌, Err}
 use Rattle.std.specs.Prelude.{if◌then◌else◌, IfOk, IfErr, OnOk, IsOk}
 use Rattle.std.proofs.lemmas.Result.{on_ok_weaker}
 use Rattle.city_txn.specs.internal.Prelude.{Answers, effect, is_end, AllHeld, Answer, Granted, held_in, granted_before}
-use Rattle.city_txn.specs.internal.Prelude.{GainsFirst, IsBlocked, HoldsLock, Asked, Step, TxnFault, NotOpen, OutOfMemory}
+use Rattle.city_txn.specs.internal.Prelude.{GainsFirst, IsBlocked, HoldsLock, Asked, Step, TxnFault, NotOpen}
+use Rattle.city_txn.specs.internal.Prelude.{OutOfMemory}
 use Rattle.city_txn.specs.internal.Prelude.{Inside, write_of, answer_in, granted_in, step_of, is_done, with_step, IsAct}
 use Rattle.city_txn.specs.internal.Prelude.{State, store_written, Touches}
 use Rattle.city_model.proofs.GoingOn.{effect_is}

@@ -1,7 +1,9 @@
 -- A command done on the store, by its action.
 use Rattle.city_txn.proofs.Prelude.{arith, ◌≡◌, ℕ, List, [], Bool, true, false, Some, Result, Ok, refl, ap, sym}
-use Rattle.city_txn.proofs.Prelude.{◌∙◌, subst, false≢true, Command, Reply, WentBack, CityMap, Snapshot, marks_from, locks_of}
-use Rattle.city_txn.proofs.Prelude.{locks_id_exclusively, action, answer, written_at_mark, written_by, own_with, map_with}
+use Rattle.city_txn.proofs.Prelude.{◌∙◌, subst, false≢true, Command, Reply, WentBack, CityMap, Snapshot, marks_from}
+use Rattle.city_txn.proofs.Prelude.{locks_of}
+use Rattle.city_txn.proofs.Prelude.{locks_id_exclusively, action, answer, written_at_mark, written_by, own_with}
+use Rattle.city_txn.proofs.Prelude.{map_with}
 use Rattle.city_txn.proofs.Prelude.{marks_with, from_mapped, keys_of, IsPerform, written_with, write_in}
 use Rattle.std.proofs.Common.{IsErr, if◌then◌else◌}
 use Rattle.city_txn.specs.internal.Prelude.{Refused, NoMark, Change, Action, Refuses, Edits, applied, reply_of}

@@ -36,7 +36,8 @@ pub use Rattle.city_txn.specs.internal.LogTests.{has_mark, is_noted}
 pub use Rattle.city_txn.specs.internal.Performing.{IsPerform, plans}
 pub use Rattle.city_txn.specs.internal.Prelude.{Answered, CityMap, Command, CoreState, Exclusive, IsChangeOf, IsLawful}
 pub use Rattle.city_txn.specs.internal.Prelude.{IsSound, IsTraceUnderLocks, Lock, Locks, OwnWrites, Reply}
-pub use Rattle.city_txn.specs.internal.Prelude.{StandsUnderLocks, Snapshot, WentBack, Written, action, answer, committed, covers}
+pub use Rattle.city_txn.specs.internal.Prelude.{StandsUnderLocks, Snapshot, WentBack, Written, action, answer}
+pub use Rattle.city_txn.specs.internal.Prelude.{committed, covers}
 pub use Rattle.city_txn.specs.internal.Prelude.{held, is_open, locks_id_exclusively, locks_of, map_with}
 pub use Rattle.city_txn.specs.internal.Prelude.{marks_from, marks_with, mode_of, own_with, snapshot, step, unmarked}
 pub use Rattle.city_txn.specs.internal.Prelude.{view, view_with, written, written_at_mark, written_by}

@@ -1,7 +1,8 @@
 -- A transaction's snapshot, from its current writes and its writes at each mark.
 use Rattle.city_txn.proofs.Prelude.{arith, ◌≡◌, ◌==◌, ℕ, List, [], ◌∷◌, true, false, Option, None, Some, is_some}
 use Rattle.city_txn.proofs.Prelude.{refl, ap, sym, ◌∙◌, subst, if◌then◌else◌, unwrap_or, Command, Reply, Exclusive}
-use Rattle.city_txn.proofs.Prelude.{CityMap, Snapshot, has_id, marks_from, locks_of, IsSound, covers, locks_id_exclusively}
+use Rattle.city_txn.proofs.Prelude.{CityMap, Snapshot, has_id, marks_from, locks_of, IsSound, covers}
+use Rattle.city_txn.proofs.Prelude.{locks_id_exclusively}
 use Rattle.city_txn.proofs.Prelude.{action, step, OwnWrites, Written, own_with, written_at_mark, written_by, map_with}
 use Rattle.city_txn.proofs.Prelude.{marks_with, CoreState, committed, view, written, snapshot, view_with, Object}
 use Rattle.city_txn.proofs.Prelude.{same_id, bool_cases, from_mapped, IsWrittenUnder}

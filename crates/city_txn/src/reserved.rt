@@ -67,7 +67,8 @@ pub fn put(
     object: Object,
 ) -> Result<Option<Object>, OutOfMemory>
     ensures old { IfOk result (λ old. old ≡ object_at city.old.1 id.now) }
-    ensures after { OnOk result ((q : List ℕ) → object_at city.new.1 q ≡ changed (object_at city.old.1) id.now (Some object) q) }
+    ensures after { OnOk result
+        ((q : List ℕ) → object_at city.new.1 q ≡ changed (object_at city.old.1) id.now (Some object) q) }
     ensures frame { city.new.0 ≡ city.old.0 }
     ensures err { OnErr result (city.new ≡ city.old) }
 {

@@ -1,6 +1,8 @@
 //! The city as the open transactions have written it, and the way back.
-ghost use Rattle.std.specs.Prelude.{◌≡◌, ◌↔◌, IsTrue, ℕ, List, [], None, Some, OnOk, OnErr, IfOk, IfSome, IfNone, true, false};
-ghost use Rattle.std.specs.Prelude.{◌==◌, ◌&&◌, ◌||◌, is_ok, is_some, not, drop, option_copied, option_map, if◌then◌else◌};
+ghost use Rattle.std.specs.Prelude.{◌≡◌, ◌↔◌, IsTrue, ℕ, List, [], None, Some, OnOk, OnErr, IfOk, IfSome, IfNone};
+ghost use Rattle.std.specs.Prelude.{true, false};
+ghost use Rattle.std.specs.Prelude.{◌==◌, ◌&&◌, ◌||◌, is_ok, is_some, not, drop, option_copied, option_map};
+ghost use Rattle.std.specs.Prelude.{if◌then◌else◌};
 ghost use Rattle.std.specs.Map.{keys_of};
 ghost use Rattle.std.specs.Option.{option_or};
 ghost use Rattle.std.specs.Ordering.{nat_cmp};
@@ -17,7 +19,8 @@ ghost use Rattle.city_txn.specs.internal.Ending.{map_at_end};
 ghost use Rattle.city_txn.specs.internal.LeastAmong.{lesser, IsLeastAmong};
 ghost use Rattle.city_txn.specs.internal.LogTests.{is_noted, newest_undone};
 ghost use Rattle.city_txn.specs.internal.Performing.{IsPerform};
-ghost use Rattle.city_txn.specs.internal.State.{State, is_reserved, is_begun, store_committed, store_own, store_view, MayReserve};
+ghost use Rattle.city_txn.specs.internal.State.{State, is_reserved, is_begun, store_committed, store_own, store_view};
+ghost use Rattle.city_txn.specs.internal.State.{MayReserve};
 ghost use Rattle.city_txn.specs.internal.State.{store_written, Touches, WritesOne, OthersWritesStay, Begins, Forgets};
 
 use crate::end::End;
@@ -100,7 +103,8 @@ impl Store {
     /// Whether the stamp is open. Doesn't allocate.
     pub fn is_open(&self, stamp: u64) -> bool
         ensures opened { result ≡ is_begun self.now stamp }
-        ensures noted { (t : ℕ) (id : List ℕ) → has_before (log_of self.now.logs t) id ≡ true → is_reserved self.now t id ≡ true }
+        ensures noted { (t : ℕ) (id : List ℕ) → has_before (log_of self.now.logs t) id ≡ true
+            → is_reserved self.now t id ≡ true }
     {
         self.transactions.is_open(stamp)
     }
@@ -264,7 +268,8 @@ impl Store {
 
     /// The writes of the stamp, as a change with copies of the objects.
     pub fn change(&self, stamp: u64) -> Result<Change, OutOfMemory>
-        ensures lists { IfOk result (λ change. (q : List ℕ) → write_in change q ≡ own_write stamp (write_of self.now.writes q)) }
+        ensures lists { IfOk result
+            (λ change. (q : List ℕ) → write_in change q ≡ own_write stamp (write_of self.now.writes q)) }
         ensures ordered { IfOk result (λ change. IsStrictlySortedBy (slice_cmp nat_cmp) (keys_of change)) }
     {
         let mut change = Change::new(self.alloc());
@@ -278,8 +283,10 @@ impl Store {
     /// Adds the stamp's write at the id, if there is one, to the change.
     fn add_written(&self, change: &mut Change, stamp: u64, id: &Id) -> Result<(), OutOfMemory>
         ensures added { OnOk result ((q : List ℕ) → write_in change.new q
-            ≡ (if same_id id.now q then option_or (store_own self.now stamp id.now) (write_in change.old q) else write_in change.old q)) }
-        ensures ordered { IsStrictlySortedBy (slice_cmp nat_cmp) (keys_of change.old) → IsStrictlySortedBy (slice_cmp nat_cmp) (keys_of change.new) }
+            ≡ (if same_id id.now q then option_or (store_own self.now stamp id.now)
+                (write_in change.old q) else write_in change.old q)) }
+        ensures ordered { IsStrictlySortedBy (slice_cmp nat_cmp) (keys_of change.old)
+            → IsStrictlySortedBy (slice_cmp nat_cmp) (keys_of change.new) }
     {
         if let Some(object) = self.written(stamp, id)? {
             change.set(id.copy(self.alloc())?, object)?;
@@ -308,7 +315,8 @@ impl Store {
         requires { HasNoOrphan (store_committed self.now) }
         ensures least { IfSome result (λ id. IsLeastOrphan (store_view self.now stamp) id.now) }
         ensures none { IfNone result (HasNoOrphan (store_view self.now stamp)) }
-        ensures lists { (q : List ℕ) → write_in (change_in self.now.writes stamp) q ≡ own_write stamp (write_of self.now.writes q) }
+        ensures lists { (q : List ℕ) → write_in (change_in self.now.writes stamp) q
+            ≡ own_write stamp (write_of self.now.writes q) }
         ensures ordered { IsStrictlySortedBy (slice_cmp nat_cmp) (keys_of (change_in self.now.writes stamp)) }
     {
         if !self.may_have_orphan {

@@ -1,5 +1,7 @@
 //! The open transactions: their reserved ids, and an undo image of each.
-ghost use Rattle.std.specs.Prelude.{◌≡◌, ◌↔◌, ◌==◌, IsTrue, ℕ, List, [], ◌∷◌, ◌++◌, None, Some, IfOk, OnOk, OnErr, is_none, is_ok, is_some, true, ◌&&◌, option_copied, option_map, unwrap_or, if◌then◌else◌};
+ghost use Rattle.std.specs.Prelude.{◌≡◌, ◌↔◌, ◌==◌, IsTrue, ℕ, List, [], ◌∷◌, ◌++◌, None, Some, IfOk, OnOk, OnErr};
+ghost use Rattle.std.specs.Prelude.{is_none, is_ok, is_some, true, ◌&&◌, option_copied, option_map, unwrap_or};
+ghost use Rattle.std.specs.Prelude.{if◌then◌else◌};
 ghost use Rattle.std.specs.BTreeMap.{IsOrdered};
 ghost use Rattle.std.specs.Cmp.Lexicographic.{slice_cmp};
 ghost use Rattle.std.specs.Option.{option_or};
@@ -8,7 +10,8 @@ ghost use Rattle.city_model.specs.CityMap.{changed, has_id, object_at, same_id};
 ghost use Rattle.city_txn.specs.Placeholder.{placeholder};
 ghost use Rattle.city_txn.specs.declared.end.End.{End};
 ghost use Rattle.city_txn.specs.internal.Ending.{left_at_end};
-ghost use Rattle.city_txn.specs.internal.Images.{unwritten_image, written_over, image_unwritten, put_back, put_back_at, image_put};
+ghost use Rattle.city_txn.specs.internal.Images.{unwritten_image, written_over, image_unwritten, put_back};
+ghost use Rattle.city_txn.specs.internal.Images.{put_back_at, image_put};
 ghost use Rattle.city_txn.specs.internal.Reserved.{Became, HasRoom};
 ghost use Rattle.city_txn.specs.internal.Transactions.{image_at, listed_by, reservations_of};
 
@@ -152,7 +155,8 @@ impl Transactions {
             ≡ (if (is_ok result && is_none (image_at self.old.images id)) && (stamp == t)
             then Some (reservations_of self.old.reservations.entries stamp ++ id ∷ [])
             else listed_by self.old.reservations.entries t) }
-        ensures reservations { is_some (image_at self.old.images id) ≡ true → self.new.reservations ≡ self.old.reservations }
+        ensures reservations { is_some (image_at self.old.images id) ≡ true
+            → self.new.reservations ≡ self.old.reservations }
     {
         let is_first = self.place(city, stamp, &id, object)?;
         if !is_first {
@@ -178,7 +182,8 @@ impl Transactions {
         requires { is_some (image_at self.old.images id.now) ≡ true → HasRoom city.old id.now }
         ensures became { Became (λ q. is_ok result && same_id id.now q)
             (λ q. Some (unwrap_or object placeholder))
-            (λ q. Some (image_put stamp (object_at city.old.1 id.now) (is_none object) (image_at self.old.images id.now)))
+            (λ q. Some (image_put stamp (object_at city.old.1 id.now) (is_none object)
+                (image_at self.old.images id.now)))
             city.old city.new self.old.images self.new.images }
         ensures first { IfOk result (λ is_first. is_first ≡ is_none (image_at self.old.images id.now)) }
         ensures reservations { self.new.reservations ≡ self.old.reservations }
@@ -209,7 +214,8 @@ impl Transactions {
         requires { HasRoom city.old key }
         ensures objects { (q : List ℕ) → object_at city.new.1 q
             ≡ (if is_ok result then object_at city.old.1 q
-            else changed (object_at city.old.1) key (left_at_end End.RollBack (object_at city.old.1 key) (Some image)) q) }
+            else changed (object_at city.old.1) key
+                (left_at_end End.RollBack (object_at city.old.1 key) (Some image)) q) }
         ensures frame { city.new.0 ≡ city.old.0 }
         ensures old { IfOk result (λ old. old ≡ image_at self.old.images key) }
         ensures images { (q : List ℕ) → image_at self.new.images q
@@ -315,7 +321,8 @@ impl Transactions {
     /// and none is looked up. Doesn't allocate.
     pub fn end_at(&mut self, city: &mut City, end: End, ids: &[Id], alone: bool)
         requires room { (q : List ℕ) → is_some (image_at self.old.images q) ≡ true → HasRoom city.old q }
-        requires alone { alone ≡ true → (q : List ℕ) → is_some (image_at self.old.images q) ≡ true → has_id ids.now q ≡ true }
+        requires alone { alone ≡ true → (q : List ℕ) → is_some (image_at self.old.images q) ≡ true
+            → has_id ids.now q ≡ true }
         ensures became { Became (has_id ids.now)
             (λ q. left_at_end end (object_at city.old.1 q) (image_at self.old.images q)) (λ q. None)
             city.old city.new self.old.images self.new.images }

@@ -1,5 +1,6 @@
 //! The transaction core: strict two-phase locking over one city.
-ghost use Rattle.std.specs.Prelude.{◌≡◌, ◌&&◌, ℕ, List, [], None, true, false, Some, is_some, OnOk, OnErr, IfOk, IfErr, IfSome, IfNone, IsErr, IsOk, ◌↔◌, if◌then◌else◌};
+ghost use Rattle.std.specs.Prelude.{◌≡◌, ◌&&◌, ℕ, List, [], None, true, false, Some, is_some, OnOk, OnErr, IfOk};
+ghost use Rattle.std.specs.Prelude.{IfErr, IfSome, IfNone, IsErr, IsOk, ◌↔◌, if◌then◌else◌};
 ghost use Rattle.city_model.specs.CityMap.{object_at};
 ghost use Rattle.city_model.specs.Scripts.{is_end};
 ghost use Rattle.city_model.specs.Marks.{AreSound};
@@ -7,7 +8,8 @@ ghost use Rattle.city_model.specs.Relations.{IsLawful, HasNoOrphan, IsSound};
 ghost use Rattle.city_model.specs.declared.mode.Mode.{Mode};
 ghost use Rattle.city_locks.specs.Locks.{mode_of};
 ghost use Rattle.city_txn.specs.Writes.{write_of, is_by};
-ghost use Rattle.city_txn.specs.CoreState.{committed, view, snapshot, is_open, StandsUnderLocks, KeepsOthers, IsTransactionEnd, IsRolledBack};
+ghost use Rattle.city_txn.specs.CoreState.{committed, view, snapshot, is_open, StandsUnderLocks, KeepsOthers};
+ghost use Rattle.city_txn.specs.CoreState.{IsTransactionEnd, IsRolledBack};
 ghost use Rattle.city_txn.specs.UndoLog.{log_of, has_before};
 ghost use Rattle.city_txn.specs.Acting.{answer_in, IsAct, RefusesCommit};
 ghost use Rattle.city_txn.specs.Changing.{IsPrepared, IsChangeOf, change_in};
@@ -116,7 +118,8 @@ impl Core {
         ensures unwritten { OnOk result ((id : List ℕ) → is_by stamp (write_of self.new.writes id) ≡ false) }
         ensures unmarked { OnOk result (log_of self.new.logs stamp ≡ []) }
         ensures err { OnErr result (self.new ≡ self.old) }
-        ensures fault { IfErr result (λ fault. fault ≡ (if is_open self.old stamp then TxnFault.StampOpen stamp else TxnFault.OutOfMemory)) }
+        ensures fault { IfErr result
+            (λ fault. fault ≡ (if is_open self.old stamp then TxnFault.StampOpen stamp else TxnFault.OutOfMemory)) }
         ensures stamp_open { is_open self.old stamp ≡ true → IsErr result }
     {
         if self.is_open(stamp) {
@@ -179,7 +182,8 @@ impl Core {
     /// `NotOpen` is returned exactly if the stamp isn't open.
     pub fn prepare(&self, stamp: u64) -> Result<Prepared, TxnFault>
         ensures prepared { IfOk result (IsPrepared self.now stamp) }
-        ensures fault { IfErr result (λ fault. fault ≡ (if is_open self.now stamp then TxnFault.OutOfMemory else TxnFault.NotOpen stamp)) }
+        ensures fault { IfErr result
+            (λ fault. fault ≡ (if is_open self.now stamp then TxnFault.OutOfMemory else TxnFault.NotOpen stamp)) }
         ensures not_open { is_open self.now stamp ≡ false → IsErr result }
     {
         if let Some(cause) = self.refusal(stamp)? {
@@ -196,9 +200,11 @@ impl Core {
     /// It finds what `prepare` finds, but copies no object. `NotOpen` is returned exactly if the stamp
     /// isn't open.
     pub fn refusal(&self, stamp: u64) -> Result<Option<Cause>, TxnFault>
-        ensures allowed { IfOk result (λ cause. IfNone cause (IsChangeOf self.now stamp (change_in self.now.writes stamp))) }
+        ensures allowed { IfOk result
+            (λ cause. IfNone cause (IsChangeOf self.now stamp (change_in self.now.writes stamp))) }
         ensures refused { IfOk result (λ cause. IfSome cause (RefusesCommit self.now stamp)) }
-        ensures fault { IfErr result (λ fault. fault ≡ (if is_open self.now stamp then TxnFault.OutOfMemory else TxnFault.NotOpen stamp)) }
+        ensures fault { IfErr result
+            (λ fault. fault ≡ (if is_open self.now stamp then TxnFault.OutOfMemory else TxnFault.NotOpen stamp)) }
         ensures not_open { is_open self.now stamp ≡ false → IsErr result }
     {
         if !self.is_open(stamp) {
@@ -272,9 +278,12 @@ impl Core {
         ensures committed { IsLawful (committed self.now) }
         ensures views { (t : ℕ) → IsSound (view self.now t) }
         ensures marks { (t : ℕ) → AreSound (snapshot self.now t).marks }
-        ensures locked { (t : ℕ) (id : List ℕ) → is_by t (write_of self.now.writes id) ≡ true → mode_of self.now.locks t id ≡ Some Mode.Exclusive }
-        ensures marks_locked { (t : ℕ) (id : List ℕ) → has_before (log_of self.now.logs t) id ≡ true → mode_of self.now.locks t id ≡ Some Mode.Exclusive }
-        ensures open_only { (t : ℕ) (id : List ℕ) → is_some (mode_of self.now.locks t id) ≡ true → is_open self.now t ≡ true }
+        ensures locked { (t : ℕ) (id : List ℕ) → is_by t (write_of self.now.writes id) ≡ true
+            → mode_of self.now.locks t id ≡ Some Mode.Exclusive }
+        ensures marks_locked { (t : ℕ) (id : List ℕ) → has_before (log_of self.now.logs t) id ≡ true
+            → mode_of self.now.locks t id ≡ Some Mode.Exclusive }
+        ensures open_only { (t : ℕ) (id : List ℕ) → is_some (mode_of self.now.locks t id) ≡ true
+            → is_open self.now t ≡ true }
     {
         self.store.is_open(stamp)
     }

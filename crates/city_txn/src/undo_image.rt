@@ -4,7 +4,8 @@ ghost use Rattle.city_model.specs.CityMap.{object_at, changed};
 ghost use Rattle.city_model.specs.declared.object.Object.{Object};
 ghost use Rattle.city_txn.specs.Writes.{is_by, own_or};
 ghost use Rattle.city_txn.specs.internal.Ending.{left_at_end};
-ghost use Rattle.city_txn.specs.internal.Images.{before_image, write_at, first_image, unwritten_image, written_over, image_unwritten, put_back};
+ghost use Rattle.city_txn.specs.internal.Images.{before_image, write_at, first_image, unwritten_image, written_over};
+ghost use Rattle.city_txn.specs.internal.Images.{image_unwritten, put_back};
 ghost use Rattle.city_txn.specs.internal.Reserved.{HasRoom};
 
 use crate::end::End;
@@ -50,7 +51,8 @@ impl UndoImage {
 
     /// The object that the stamp sees at the image's id, if the city has `here`.
     pub fn seen_by<'a>(&'a self, stamp: u64, here: Option<&'a Object>) -> Option<&'a Object>
-        ensures { option_copied result ≡ own_or stamp (write_at (option_copied here.entry) (Some self.now)) (before_image (option_copied here.entry) self.now) }
+        ensures { option_copied result ≡ own_or stamp (write_at (option_copied here.entry) (Some self.now))
+            (before_image (option_copied here.entry) self.now) }
     {
         if self.by != stamp {
             if let Some(before) = &self.before {

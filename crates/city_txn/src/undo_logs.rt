@@ -1,5 +1,6 @@
 //! Undo logs: the way back of an open transaction to its marks.
-ghost use Rattle.std.specs.Prelude.{◌≡◌, ◌==◌, ℕ, [], ◌∷◌, ◌++◌, length, reverse, OnOk, OnErr, option_to_list, IfNone, if◌then◌else◌};
+ghost use Rattle.std.specs.Prelude.{◌≡◌, ◌==◌, ℕ, [], ◌∷◌, ◌++◌, length, reverse, OnOk, OnErr, option_to_list};
+ghost use Rattle.std.specs.Prelude.{IfNone, if◌then◌else◌};
 ghost use Rattle.std.specs.List.{list_any};
 ghost use Rattle.city_txn.specs.UndoLog.{log_of};
 ghost use Rattle.city_txn.specs.internal.LogTests.{has_mark, is_at_mark, is_mark};
@@ -86,7 +87,8 @@ impl UndoLogs {
 
     /// Adds an entry to the transaction's log. If memory runs out, the logs stay as they were.
     pub fn push(&mut self, stamp: u64, entry: Entry) -> Result<(), OutOfMemory>
-        ensures ok { OnOk result ((t : ℕ) → log_of self.new t ≡ (if stamp == t then entry ∷ log_of self.old t else log_of self.old t)) }
+        ensures ok { OnOk result
+            ((t : ℕ) → log_of self.new t ≡ (if stamp == t then entry ∷ log_of self.old t else log_of self.old t)) }
         ensures err { OnErr result ((t : ℕ) → log_of self.new t ≡ log_of self.old t) }
     {
         push(&mut self.by_stamp, self.alloc, stamp, entry)
@@ -95,7 +97,8 @@ impl UndoLogs {
     /// Removes the newest entry of the transaction's log, if there is one, and
     /// returns it. Doesn't allocate.
     pub fn pop(&mut self, stamp: u64) -> Option<Entry>
-        ensures entries { (t : ℕ) → log_of self.old t ≡ (if stamp == t then option_to_list result ++ log_of self.new t else log_of self.new t) }
+        ensures entries { (t : ℕ) → log_of self.old t
+            ≡ (if stamp == t then option_to_list result ++ log_of self.new t else log_of self.new t) }
         ensures none { IfNone result (log_of self.old stamp ≡ []) }
     {
         match self.by_stamp.get_mut(&stamp) {

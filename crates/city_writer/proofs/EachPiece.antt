@@ -45,7 +45,8 @@ each_piece P len xs (o ∷ os) small each = (
       (each (suc i) d (omega (arith, less)))),
 )
 
-pub each_made : {X A : Type 0} (P : List X → A → Type 0) (len n count : ℕ) (xs : List X) (os : List (Option A)) → 0 < len
+pub each_made : {X A : Type 0} (P : List X → A → Type 0) (len n count : ℕ) (xs : List X) (os : List (Option A))
+    → 0 < len
     → n ≡ length xs → count ≡ n / len + min 1 (n % len) → length os ≡ count
     → ((i : ℕ) (d : Option A) → i < count → IfSome (get_or os i d) (P (slice_chunk xs len i))) → EachPiece len xs os P
 each_made P len n count xs os some whole is all each =

@@ -68,7 +68,8 @@ module _ (find : List ℕ → Data → Option ReadFault) where
           let other = shape at.0 at.1 f at.3 in
           inr (one.0 ∙ sym other.0, rw (one.1, other.1) (found_above k at.0 ms at.1 o.0 at.2))
 
-      by : (r : Option ReadFault) → AreOrderedBy IsBefore (told find ms) → find k d ≡ r → AreOrderedBy IsBefore (with_found r (told find ms))
+      by : (r : Option ReadFault) → AreOrderedBy IsBefore (told find ms) → find k d ≡ r
+          → AreOrderedBy IsBefore (with_found r (told find ms))
       by None rest is = rest
       by (Some g) rest is = (all_listed (IsBefore g) (told find ms) (above g is), rest)
 

@@ -7,7 +7,8 @@ use Rattle.city_doc.specs.declared.fault.ScriptFault.{ScriptFault}
 use Rattle.city_doc.specs.declared.fault.ScriptFault.TheVariants.{OutOfMemory, TooLong, NotJson, NotWhole}
 use Rattle.city_doc.specs.declared.fault.ScriptFault.TheVariants.{NotScripts, BadScript, TooMany, BadCommand, BadVertex}
 use Rattle.city_doc.specs.FaultLists.{IsListed}
-use Rattle.city_doc.specs.script.AllFaults.{HasAt, StandsAt, IsFaultOfTree, IsFaultOf, IsBefore, AreFaultsOf, IsAccepted}
+use Rattle.city_doc.specs.script.AllFaults.{HasAt, StandsAt, IsFaultOfTree, IsFaultOf, IsBefore, AreFaultsOf}
+use Rattle.city_doc.specs.script.AllFaults.{IsAccepted}
 use Rattle.city_doc.specs.script.AllFaults.{is_misplaced, rank_of, script_in, command_in}
 use Rattle.city_doc.specs.script.AllFaults as all
 use Rattle.city_doc.specs.script.Faults.{ItemsFault, TreeFault, ScriptTextFault, IsBadScript}
@@ -155,7 +156,8 @@ module _ (ds : List Data) where
         (λ k j bad before. not_higher TooMany (BadCommand k j) (search (arith)) before)
         (λ k j bad before. not_higher TooMany (BadVertex k j) (search (arith)) before);
   })
-  least_item f (inr (ps, read, inr (inl (n, i, is, within, first)))) = subst (IsLeastOf (StandsAt ds)) (sym is) (record {
+  least_item f (inr (ps, read, inr (inl (n, i, is, within, first)))) =
+      subst (IsLeastOf (StandsAt ds)) (sym is) (record {
     stands = in_items refused ds ps read n i first.0;
     least = least_of (BadCommand n i) (λ k bad before. none_bad ds ps k read bad)
         (λ many before. true≢false (sym many ∙ too_many_alike ds ps read ∙ within))

@@ -26,13 +26,18 @@ given_in points d (ExpectForm id named) =
     (option_and_then as_object (get (codes "attributes") d)))
 given_in points d f = command_of_form points f
 
-own_given : (points : List Point) (d : Data) (f : CommandForm) → owns d f → command_of_form points f ≡ given_in points d f
-own_given points d (PutForm id tree) own = ap (λ o. option_map (Put id) (option_and_then (unrelated_body points) o)) (sym own)
-own_given points d (AddForm id tree) own = ap (λ o. option_map (Add id) (option_and_then (unrelated_body points) o)) (sym own)
-own_given points d (SetForm id named) own = ap (λ o. option_map (Set id) (option_and_then (kept_if kept_at_attributes) o)) (sym own)
+own_given : (points : List Point) (d : Data) (f : CommandForm) → owns d f
+    → command_of_form points f ≡ given_in points d f
+own_given points d (PutForm id tree) own =
+    ap (λ o. option_map (Put id) (option_and_then (unrelated_body points) o)) (sym own)
+own_given points d (AddForm id tree) own =
+    ap (λ o. option_map (Add id) (option_and_then (unrelated_body points) o)) (sym own)
+own_given points d (SetForm id named) own =
+    ap (λ o. option_map (Set id) (option_and_then (kept_if kept_at_attributes) o)) (sym own)
 own_given points d (UnsetForm id names) own = ap (option_map (Unset id)) (sym own)
 own_given points d (ReshapeForm id tree) own = ap (λ d. option_map (Reshape id) (geometries_of points d)) own
-own_given points d (ExpectForm id named) own = ap (λ o. option_map (Expect id) (option_and_then (kept_if kept_at_attributes) o)) (sym own)
+own_given points d (ExpectForm id named) own =
+    ap (λ o. option_map (Expect id) (option_and_then (kept_if kept_at_attributes) o)) (sym own)
 own_given points d f own = refl
 
 -- the command of a tree of this form

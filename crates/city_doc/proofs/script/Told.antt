@@ -120,7 +120,8 @@ module _ (ds : List Data) where
 
 -- a kept form has too many commands exactly if an item has
 long_step : (n : ℕ) (o : Option ScriptParts) (rest : List (ℕ × ScriptParts))
-    → list_any (λ (q : ℕ × ScriptParts). has_too_many_commands q.1) (option_to_list (option_map (λ p. (n, p)) o) ++ rest)
+    → list_any (λ (q : ℕ × ScriptParts). has_too_many_commands q.1)
+        (option_to_list (option_map (λ p. (n, p)) o) ++ rest)
     ≡ (is_overlong o || list_any (λ (q : ℕ × ScriptParts). has_too_many_commands q.1) rest)
 long_step n None rest = refl
 long_step n (Some p) rest = refl
@@ -187,7 +188,8 @@ module _ (test : ℕ → Data → Bool) (kind : ℕ → ℕ → ScriptFault)
       found_listed (command_at find n p) 0 p.commands f i d at (some_listed _ f there)
 
   commands_ordered : (n : ℕ) (p : ScriptParts) → AreOrderedBy IsBefore (told_in find n p)
-  commands_ordered n p = told_ordered (command_at find n p) IsBefore (λ i d. one_ordered IsBefore _) between 0 p.commands
+  commands_ordered n p = told_ordered (command_at find n p) IsBefore
+      (λ i d. one_ordered IsBefore _) between 0 p.commands
     where
       between : (i l : ℕ) (x y : Data) (f g : ScriptFault) → i < l → IsListed (command_at find n p i x) f
           → IsListed (command_at find n p l y) g → IsBefore f g

@@ -1,5 +1,6 @@
 -- Members of a JSON object in lists, one behind the other.
-use Rattle.std.specs.Prelude.{ℕ, suc, ◌<◌, List, [], ◌∷◌, length, take, drop, Bool, true, false, not, ◌||◌, string_bytes, String}
+use Rattle.std.specs.Prelude.{ℕ, suc, ◌<◌, List, [], ◌∷◌, length, take, drop, Bool, true, false, not, ◌||◌}
+use Rattle.std.specs.Prelude.{string_bytes, String}
 use Rattle.std.specs.declared.sync.Arc.{Arc}
 use Rattle.std.specs.declared.alloc.Global.{Global}
 use Rattle.std.specs.Arc.{arc_value}

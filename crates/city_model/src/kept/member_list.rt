@@ -1,5 +1,6 @@
 //! A few members of a JSON object, each shared by copies.
-ghost use Rattle.std.specs.Prelude.{◌≡◌, ◌<◌, ◌++◌, ◌==◌, ◌∷◌, [], Bool, true, false, option_map, string_bytes, length, take, drop, IfOk, OnOk, if◌then◌else◌};
+ghost use Rattle.std.specs.Prelude.{◌≡◌, ◌<◌, ◌++◌, ◌==◌, ◌∷◌, [], Bool, true, false, option_map, string_bytes};
+ghost use Rattle.std.specs.Prelude.{length, take, drop, IfOk, OnOk, if◌then◌else◌};
 ghost use Rattle.std.specs.Arc.{arc_value};
 ghost use Rattle.serde_json.specs.Data.{Members, no_members, member, put};
 ghost use Rattle.serde_json.specs.Find.{get_member};
@@ -151,7 +152,8 @@ fn entry_of(alloc: Global, name: &str, value: &Value) -> Result<Entry, OutOfMemo
 /// Gives the members a copy of an entry.
 fn put_copy(members: &mut Map<String, Value>, entry: &Entry) -> Result<(), OutOfMemory>
     ensures { OnOk result (members_view members.new.entries
-        ≡ put (string_bytes (arc_value entry.now).0) (view (arc_value entry.now).1) (members_view members.old.entries)) }
+        ≡ put (string_bytes (arc_value entry.now).0) (view (arc_value entry.now).1)
+        (members_view members.old.entries)) }
 {
     put_copy_of(members, &entry.0, &entry.1)
 }
@@ -193,7 +195,8 @@ fn push_beside(
 ) -> Result<bool, OutOfMemory>
     ensures { IfOk result (λ placed. (rest : Members)
         → joined (entries_view entries.new.items) (pending placed fresh.now rest)
-        ≡ joined (entries_view entries.old.items) (pending is_placed fresh.now (joined (entries_view (entry.now ∷ [])) rest))) }
+        ≡ joined (entries_view entries.old.items)
+        (pending is_placed fresh.now (joined (entries_view (entry.now ∷ [])) rest))) }
 {
     if is_placed {
         push_copy(entries, entry)?;

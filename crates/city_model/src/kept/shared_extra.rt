@@ -1,9 +1,10 @@
 //! The kept members of an object; copies share them if they are many.
 ghost use Rattle.std.specs.Prelude.{◌≡◌, true, option_map, IfOk};
 ghost use Rattle.std.specs.Arc.{arc_value};
-ghost use Rattle.serde_json.specs.Data.{object, put};
+ghost use Rattle.serde_json.specs.Data.{no_members, member, object, put};
 ghost use Rattle.serde_json.specs.View.{view, members_view};
-ghost use Rattle.city_model.specs.Attributes.{attributes, attributes_in, are_among, has_attributes, with_attributes, with_set, with_unset};
+ghost use Rattle.city_model.specs.Attributes.{attributes, attributes_in, are_among, has_attributes, with_attributes};
+ghost use Rattle.city_model.specs.Attributes.{with_set, with_unset};
 ghost use Rattle.city_model.specs.Kept.{kept_at_object};
 ghost use Rattle.city_model.specs.Members.{AreOrdered};
 ghost use Rattle.city_model.specs.internal.KeptIn.{kept_in, lent, with_own};
@@ -15,7 +16,7 @@ use crate::copied::Copied;
 use crate::kept::extra::Extra;
 use crate::kept::shared_members::SharedMembers;
 use crate::kept::site::AtObject;
-use crate::members::{copy_of, member, put, take};
+use crate::members::{copy_of, member, members_count, put, take};
 use crate::same_value::same_value;
 use crate::text::Text;
 use serde_json::{Map, Value};
@@ -27,6 +28,9 @@ use std::sync::Arc;
 pub(crate) enum Storage {
     /// A copy copies them.
     Few(Extra<AtObject>),
+    /// Nothing but `attributes`, its value few members, as most objects have it: it needs no map
+    /// beside its own. A copy copies it.
+    Attributes(Value),
     /// All but `attributes`, and the attributes if they are an object.
     Many(Arc<Map<String, Value>>, Option<SharedMembers>),
 }
@@ -58,23 +62,13 @@ impl Model for SharedExtra {
     ghost invariant = { λ a. (kept_at_object (kept_in a.storage) ≡ true) × AreOrdered (kept_in a.storage) };
 }
 
-/// Members of an object as a map: lent, or made.
+/// Members of an object: lent, or made.
 #[derive(Drop)]
 pub enum LentMembers<'a> {
     Lent(&'a Map<String, Value>),
+    /// `attributes` alone: its value.
+    Attributes(&'a Value),
     Made(Map<String, Value>),
-}
-
-impl LentMembers<'_> {
-    /// The members. Doesn't allocate.
-    pub fn get(&self) -> &Map<String, Value>
-        ensures { members_view result.now.entries ≡ lent self.now }
-    {
-        match self {
-            LentMembers::Lent(members) => members,
-            LentMembers::Made(members) => members,
-        }
-    }
 }
 
 impl SharedExtra {
@@ -93,14 +87,17 @@ impl SharedExtra {
     pub fn new(alloc: Global, extra: Extra<AtObject>) -> Result<Self, OutOfMemory>
         ensures { IfOk result (λ shared. shared ≡ extra) }
     {
-        if !extra.is_large() {
-            return Ok(SharedExtra::unshared(extra));
-        }
-        let storage = many_of(alloc, extra.into_map())?;
+        // (called for its contract: the object keeps them)
+        let _members = extra.map();
+        let storage = if extra.is_large() {
+            many_of(alloc, extra.into_map())?
+        } else {
+            few_of(extra)
+        };
         Ok(SharedExtra { storage })
     }
 
-    /// The members as a map. Fails only when out of memory, and doesn't allocate if they are few.
+    /// The members. Fails only when out of memory, and doesn't allocate if they are few.
     pub fn lend(&self) -> Result<LentMembers<'_>, OutOfMemory>
         ensures members { IfOk result (λ members. lent members ≡ self.now) }
         ensures kept { kept_at_object self.now ≡ true }
@@ -108,6 +105,7 @@ impl SharedExtra {
     {
         match &self.storage {
             Storage::Few(extra) => Ok(LentMembers::Lent(extra.map())),
+            Storage::Attributes(value) => Ok(LentMembers::Attributes(value)),
             Storage::Many(others, found) => lend_many(others, found),
         }
     }
@@ -118,9 +116,9 @@ impl SharedExtra {
         ensures { IfOk result (λ made. made ≡ option_map (with_set self.now named.now) (attributes_in self.now)) }
     {
         match &self.storage {
-            Storage::Few(extra) => {
-                let made = with_set(alloc, extra, named)?;
-                shared(alloc, made)
+            Storage::Few(extra) => shared(alloc, with_set(alloc, extra.to_map()?, named)?),
+            Storage::Attributes(value) => {
+                shared(alloc, with_set(alloc, map_of(alloc, value)?, named)?)
             }
             Storage::Many(others, found) => set_many(alloc, others, found, named),
         }
@@ -132,9 +130,9 @@ impl SharedExtra {
         ensures { IfOk result (λ made. made ≡ option_map (with_unset self.now names.now) (attributes_in self.now)) }
     {
         match &self.storage {
-            Storage::Few(extra) => {
-                let made = with_unset(alloc, extra, names)?;
-                shared(alloc, made)
+            Storage::Few(extra) => shared(alloc, with_unset(alloc, extra.to_map()?, names)?),
+            Storage::Attributes(value) => {
+                shared(alloc, with_unset(alloc, map_of(alloc, value)?, names)?)
             }
             Storage::Many(others, found) => unset_many(alloc, others, found, names),
         }
@@ -145,7 +143,8 @@ impl SharedExtra {
         ensures { result ≡ has_attributes self.now named.now }
     {
         match &self.storage {
-            Storage::Few(extra) => has_attributes(extra.map(), named.map()),
+            Storage::Few(extra) => has_attributes(member(extra.map(), "attributes"), named.map()),
+            Storage::Attributes(value) => has_attributes(Some(value), named.map()),
             Storage::Many(others, found) => many_have(others, found, named),
         }
     }
@@ -155,11 +154,38 @@ impl Copied for SharedExtra {
     fn copy(&self, alloc: Global) -> Result<SharedExtra, OutOfMemory> {
         match &self.storage {
             Storage::Few(extra) => SharedExtra::new(alloc, extra.copy(alloc)?),
+            Storage::Attributes(value) => Ok(SharedExtra {
+                storage: Storage::Attributes(value.clone()?),
+            }),
             Storage::Many(others, found) => Ok(SharedExtra {
                 storage: Storage::Many(others.clone()?, found.copy(alloc)?),
             }),
         }
     }
+}
+
+/// Few members as they are stored: `attributes` without its map if nothing is beside it.
+fn few_of(extra: Extra<AtObject>) -> Storage
+    ensures { kept_in result ≡ extra }
+{
+    let members = extra.map();
+    if members_count(members) != 1 || member(members, "attributes").is_none() {
+        return Storage::Few(extra);
+    }
+    let mut members = extra.into_map();
+    match take(&mut members, "attributes") {
+        Some(value) => Storage::Attributes(value),
+        None => unreachable!(),
+    }
+}
+
+/// A map with a copy of the attributes alone.
+fn map_of(alloc: Global, value: &Value) -> Result<Map<String, Value>, OutOfMemory>
+    ensures { IfOk result (λ members. members_view members.entries ≡ member attributes (view value.now) no_members) }
+{
+    let mut members = Map::new(alloc);
+    put(&mut members, "attributes".to_string(alloc)?, value.clone()?)?;
+    Ok(members)
 }
 
 /// The members for copies to share, if there are any.
@@ -271,7 +297,8 @@ fn set_many(
 ) -> Result<Option<SharedExtra>, OutOfMemory>
     requires kept { kept_at_object (with_own (members_view (arc_value others.now).entries) found.now) ≡ true }
     requires ordered { AreOrdered (with_own (members_view (arc_value others.now).entries) found.now) }
-    ensures { IfOk result (λ made. made ≡ option_map (with_set (with_own (members_view (arc_value others.now).entries) found.now) named.now)
+    ensures { IfOk result (λ made. made ≡ option_map
+        (with_set (with_own (members_view (arc_value others.now).entries) found.now) named.now)
         (attributes_in (with_own (members_view (arc_value others.now).entries) found.now))) }
 {
     let Some(own) = attributes_of_many(alloc, others, found)? else {
@@ -292,7 +319,8 @@ fn unset_many(
 ) -> Result<Option<SharedExtra>, OutOfMemory>
     requires kept { kept_at_object (with_own (members_view (arc_value others.now).entries) found.now) ≡ true }
     requires ordered { AreOrdered (with_own (members_view (arc_value others.now).entries) found.now) }
-    ensures { IfOk result (λ made. made ≡ option_map (with_unset (with_own (members_view (arc_value others.now).entries) found.now) names.now)
+    ensures { IfOk result (λ made. made ≡ option_map
+        (with_unset (with_own (members_view (arc_value others.now).entries) found.now) names.now)
         (attributes_in (with_own (members_view (arc_value others.now).entries) found.now))) }
 {
     let Some(own) = attributes_of_many(alloc, others, found)? else {
@@ -348,7 +376,7 @@ fn many_have(others: &Map<String, Value>, found: &Option<SharedMembers>, named: 
     ensures { result ≡ has_attributes (with_own (members_view others.now.entries) found.now) named.now }
 {
     match found {
-        None => has_attributes(others, named.map()),
+        None => has_attributes(member(others, "attributes"), named.map()),
         Some(found) => are_among_shared(named.map(), found),
     }
 }

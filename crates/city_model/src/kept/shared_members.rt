@@ -1,5 +1,6 @@
 //! The members of a JSON object, in lists shared by copies.
-ghost use Rattle.std.specs.Prelude.{◌≡◌, ◌∷◌, ◌<◌, [], List, suc, take, drop, option_map, string_bytes, length, IfOk, OnOk, IfSome, IfNone};
+ghost use Rattle.std.specs.Prelude.{◌≡◌, ◌∷◌, ◌<◌, [], List, suc, take, drop, option_map, string_bytes, length, IfOk};
+ghost use Rattle.std.specs.Prelude.{OnOk, IfSome, IfNone};
 ghost use Rattle.std.specs.Arc.{arc_value};
 ghost use Rattle.serde_json.specs.Data.{Members, no_members, member, put};
 ghost use Rattle.serde_json.specs.Find.{get_member};

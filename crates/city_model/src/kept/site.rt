@@ -2,7 +2,9 @@
 ghost use Rattle.std.specs.Prelude.{◌≡◌, Bool, codes};
 ghost use Rattle.serde_json.specs.Data.{Members};
 ghost use Rattle.serde_json.specs.View.{view, members_view};
-ghost use Rattle.city_model.specs.Kept.{lacks, kept_at_top, kept_at_transform, kept_at_object, kept_at_geometry, kept_at_attributes, is_empty_object_or_absent, has_location, is_located, any_located, any_located_in, has_no_member};
+ghost use Rattle.city_model.specs.Kept.{lacks, kept_at_top, kept_at_transform, kept_at_object, kept_at_geometry};
+ghost use Rattle.city_model.specs.Kept.{kept_at_attributes, is_empty_object_or_absent, has_location, is_located};
+ghost use Rattle.city_model.specs.Kept.{any_located, any_located_in, has_no_member};
 
 use crate::integral::have_integral;
 use crate::kept::size::Size;

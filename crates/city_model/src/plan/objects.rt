@@ -1,7 +1,8 @@
 //! Objects with other relations or another body.
 ghost use Rattle.std.specs.Prelude.{◌≡◌, [], ◌∷◌, ◌++◌, None, Some, IfOk};
 ghost use Rattle.city_model.specs.Relations.{AreDistinct};
-ghost use Rattle.city_model.specs.Actions.{new_object, with_parent, with_child, without_parent, without_child, without_id};
+ghost use Rattle.city_model.specs.Actions.{new_object, with_parent, with_child, without_parent, without_child};
+ghost use Rattle.city_model.specs.Actions.{without_id};
 
 use crate::OutOfMemory;
 use crate::copied::Copied;

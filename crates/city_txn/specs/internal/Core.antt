@@ -1,7 +1,8 @@
 -- The value of a core, from its fields, and its invariant.
 use Rattle.std.specs.Prelude.{◌≡◌, ℕ, Bool, true, false, List, [], ◌∷◌, None, Some, is_some}
 use Rattle.city_txn.specs.internal.Prelude.{keys_of, Exclusive, CityMap, unmarked, IsLawful, Held, Answered}
-use Rattle.city_txn.specs.internal.Prelude.{IsTraceUnderLocks, mode_of, Lawful, Entry, Inside, OwnWrites, Written, log_of}
+use Rattle.city_txn.specs.internal.Prelude.{IsTraceUnderLocks, mode_of, Lawful, Entry, Inside, OwnWrites, Written}
+use Rattle.city_txn.specs.internal.Prelude.{log_of}
 use Rattle.city_txn.specs.internal.Prelude.{marked, CoreState, committed, own, is_open, held, view_with}
 use Rattle.city_txn.specs.internal.Prelude.{is_reserved}
 

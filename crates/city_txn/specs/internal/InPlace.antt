@@ -35,7 +35,8 @@ IsPlain may city images = may ≡ false → (id : List ℕ)
 -- ids in a log are reserved by its transaction; and if no orphan may have been written, none was
 pub record IsInPlace (a : Inside) : Type 0 where
   pub ordered : IsOrdered (slice_cmp nat_cmp) a.transactions.images
-  pub has_room : (id : List ℕ) → is_some (image_at a.transactions.images id) ≡ true → is_some (object_at a.city.1 id) ≡ true
+  pub has_room : (id : List ℕ) → is_some (image_at a.transactions.images id) ≡ true
+      → is_some (object_at a.city.1 id) ≡ true
   pub listed : (stamp : ℕ) (id : List ℕ)
       → has_id (reservations_of a.transactions.reservations.entries stamp) id
       ≡ is_writer stamp (writer_of (image_at a.transactions.images id))

@@ -1,7 +1,9 @@
 -- A command done on the store, for a transaction with its locks.
 use Rattle.std.specs.Prelude.{◌≡◌, ℕ, Bool, List, Result, is_ok, IfOk, IsOk, if◌then◌else◌}
-use Rattle.city_txn.specs.internal.Prelude.{keys_of, Command, Reply, WentBack, has_id, Snapshot, locks_of, IsSound, Change}
-use Rattle.city_txn.specs.internal.Prelude.{locks_id, locks_id_exclusively, action, answer, written_by, marks_with, State}
+use Rattle.city_txn.specs.internal.Prelude.{keys_of, Command, Reply, WentBack, has_id, Snapshot, locks_of, IsSound}
+use Rattle.city_txn.specs.internal.Prelude.{Change}
+use Rattle.city_txn.specs.internal.Prelude.{locks_id, locks_id_exclusively, action, answer, written_by, marks_with}
+use Rattle.city_txn.specs.internal.Prelude.{State}
 use Rattle.city_txn.specs.internal.Prelude.{store_written, store_committed, store_view, MayReserve, Touches}
 
 -- whether the change writes the id

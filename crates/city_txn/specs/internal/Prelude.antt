@@ -25,7 +25,8 @@ pub use Rattle.city_txn.specs.declared.txn_core.TxnFault.{TxnFault}
 pub use Rattle.city_txn.specs.declared.txn_core.TxnFault.TheVariants.{NotOpen, OutOfMemory}
 pub use Rattle.city_txn.specs.declared.txn_core.Core.TheInside.{Inside}
 pub use Rattle.city_txn.specs.Writes.{write_of, own_write, Write, own_or, is_by, unless_by}
-pub use Rattle.city_txn.specs.UndoLog.{Written, log_of, has_before, Logs, OwnWrites, own_with, written_at_mark, written_by}
+pub use Rattle.city_txn.specs.UndoLog.{Written, log_of, has_before, Logs, OwnWrites, own_with, written_at_mark}
+pub use Rattle.city_txn.specs.UndoLog.{written_by}
 pub use Rattle.city_txn.specs.UndoLog.{map_with, marks_with, marked}
 pub use Rattle.city_txn.specs.CoreState.{CoreState, committed, own, written, snapshot, is_open, held, StandsUnderLocks}
 pub use Rattle.city_txn.specs.CoreState.{view, KeepsOthers, IsTransactionEnd, IsRolledBack}

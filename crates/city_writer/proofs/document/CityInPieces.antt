@@ -38,7 +38,8 @@ all_pooled f len city os first pool points none added same all each =
     ∙ pool_is_without_repeats (city_points city)
 
 -- the objects as they are written
-pub objects_written : {A : Type 0} (f : A → List ℕ) (len : ℕ) (city : CityValue) (os : List (Option A)) (points : List Point)
+pub objects_written : {A : Type 0} (f : A → List ℕ) (len : ℕ) (city : CityValue) (os : List (Option A))
+    (points : List Point)
     → points ≡ pool_of city → length points < 2 ^ 63 → list_all is_some os ≡ true
     → EachPiece len (entries city.1) os (λ es a. IsWrittenIfKnown points es (f a))
     → IsWritten points (entries city.1) (joined_by_commas false os f)

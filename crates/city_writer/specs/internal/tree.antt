@@ -1,5 +1,6 @@
 -- Words for how JSON trees are written.
 pub mod Appended
+pub mod MembersLeft
 pub mod OwnMembers
 pub mod PartTokens
 pub mod Parted

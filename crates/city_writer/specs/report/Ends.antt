@@ -4,7 +4,8 @@ use Rattle.serde_json.specs.Data.{Data, number, unsigned, string, object, Member
 use Rattle.city_model.specs.declared.command.Cause.{Cause}
 use Rattle.city_model.specs.declared.command.Cause.TheVariants.{NoObject, TypeFixed, HasChildren, WrongFamily}
 use Rattle.city_model.specs.declared.command.Cause.TheVariants.{AlreadyAttached, NotAttached, ShortRing}
-use Rattle.city_model.specs.declared.command.Cause.TheVariants.{SameTwice, OpenShell, Orphan, NoMark, Exists, BadAttributes, Unexpected}
+use Rattle.city_model.specs.declared.command.Cause.TheVariants.{SameTwice, OpenShell, Orphan, NoMark, Exists}
+use Rattle.city_model.specs.declared.command.Cause.TheVariants.{BadAttributes, Unexpected}
 use Rattle.city_model.specs.declared.end.End.{End}
 use Rattle.city_model.specs.declared.end.Outcome.{Outcome}
 use Rattle.city_writer.specs.tree.Lists.{list_data}

@@ -6,7 +6,8 @@ use Rattle.city_model.specs.declared.object.Point.{Point}
 use Rattle.city_model.specs.declared.command.Reply.{Reply}
 use Rattle.city_model.specs.declared.command.Reply.TheVariants.{Found, Absent, Added, Replaced, Deleted}
 use Rattle.city_model.specs.declared.command.Reply.TheVariants.{Attached, Detached, Marked, WentBack, Committed}
-use Rattle.city_model.specs.declared.command.Reply.TheVariants.{Aborted, Refused, AttributesSet, AttributesUnset, Reshaped, Expected}
+use Rattle.city_model.specs.declared.command.Reply.TheVariants.{Aborted, Refused, AttributesSet, AttributesUnset}
+use Rattle.city_model.specs.declared.command.Reply.TheVariants.{Reshaped, Expected}
 use Rattle.city_writer.specs.Pool.{object_points, without_repeats}
 use Rattle.city_writer.specs.object.Canonical.{object_data}
 use Rattle.city_writer.specs.shape.Vertices.{vertices_data}

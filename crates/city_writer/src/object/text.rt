@@ -111,8 +111,7 @@ pub fn write_object(
 {
     let body = object.body.get();
     let lent = body.extra.lend()?;
-    let members = lent.get();
-    let mut kept = KeptMembers::new(members);
+    let mut kept = KeptMembers::of_object(&lent);
     out.begin_object()?;
     write_relatives(&mut kept, "children", object.children.iter(), out)?;
     write_list(&mut kept, "geometry", body.geometry.get(), pool, out)?;

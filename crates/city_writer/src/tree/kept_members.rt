@@ -1,15 +1,18 @@
 //! Writes the kept members of an object among its own.
-ghost use Rattle.std.specs.Prelude.{◌≡◌, ◌++◌, ◌∷◌, [], MatchOption, OnOk, true};
+ghost use Rattle.std.specs.Prelude.{◌≡◌, ◌++◌, ◌∷◌, [], IfNone, MatchOption, OnOk, true};
 ghost use Rattle.json.specs.Token.{key, end_object};
 ghost use Rattle.serde_json.specs.Data.{no_members, member};
 ghost use Rattle.serde_json.specs.View.{view, members_view};
 ghost use Rattle.city_model.specs.Integral.{is_integral, members_integral};
+ghost use Rattle.city_model.specs.internal.KeptIn.{lent};
+ghost use Rattle.city_writer.specs.internal.tree.MembersLeft.{members_left, others_left};
 ghost use Rattle.city_writer.specs.internal.tree.Parted.{begins_before, members_before, members_from};
 ghost use Rattle.city_writer.specs.internal.tree.PartTokens.{tokens_of_members};
 ghost use Rattle.city_writer.specs.internal.tree.ReadsBack.{MembersReadBack};
 
 use crate::tree::text::write_value;
 use city_model::OutOfMemory;
+use city_model::kept::shared_extra::LentMembers;
 use json::Writer;
 use serde_json::{Map, Value};
 use std::collections::btree_map::Iter;
@@ -20,8 +23,9 @@ use std::marker::Model;
 /// Most objects keep one or none, so the calls are short, and are inlined.
 #[derive(Drop)]
 pub struct KeptMembers<'a> {
-    first: Option<(&'a String, &'a Value)>,
-    others: Iter<'a, String, Value>,
+    first: Option<(&'a str, &'a Value)>,
+    /// The others, if they may be some.
+    others: Option<Iter<'a, String, Value>>,
 }
 
 impl<'a> Model for KeptMembers<'a> {
@@ -33,16 +37,25 @@ impl<'a> Model for KeptMembers<'a> {
 
     ghost coded = { coded_members };
 
-    ghost use Rattle.std.specs.Prelude.{◌≡◌, [], IfNone, option_map, true};
-    ghost use Rattle.std.specs.List.{cons_option};
-    ghost use Rattle.std.specs.Map.Iter.{deref_pair};
-    ghost use Rattle.serde_json.specs.View.{members_view};
+    ghost use Rattle.std.specs.Prelude.{◌≡◌, IfNone, true};
+    ghost use Rattle.serde_json.specs.Data.{no_members};
     ghost use Rattle.city_model.specs.Integral.{members_integral};
+    ghost use Rattle.city_writer.specs.internal.tree.MembersLeft.{members_left, others_left};
 
-    ghost view = { λ a. members_view (cons_option (option_map deref_pair a.first) a.others) };
+    ghost view = { λ a. members_left a.first (others_left a.others) };
 
-    ghost invariant = { λ a. IfNone a.first (a.others ≡ [])
-        × (members_integral (members_view (cons_option (option_map deref_pair a.first) a.others)) ≡ true) };
+    ghost invariant = { λ a. IfNone a.first (others_left a.others ≡ no_members)
+        × (members_integral (members_left a.first (others_left a.others)) ≡ true) };
+}
+
+/// Takes the first of these members.
+#[inline(always)]
+fn take_first<'a>(members: &mut Option<Iter<'a, String, Value>>) -> Option<(&'a str, &'a Value)>
+    ensures taken { members_left result (others_left members.new) ≡ others_left members.old }
+    ensures none { IfNone result (others_left members.new ≡ no_members) }
+{
+    let (name, member) = members.as_mut()?.next()?;
+    Some((name.as_str(), member))
 }
 
 impl<'a> KeptMembers<'a> {
@@ -51,9 +64,24 @@ impl<'a> KeptMembers<'a> {
         requires integral { members_integral (members_view map.now.entries) ≡ true }
         ensures { result ≡ members_view map.now.entries }
     {
-        let mut others = map.iter();
-        let first = others.next();
+        let mut others = Some(map.iter());
+        let first = take_first(&mut others);
         KeptMembers { first, others }
+    }
+
+    /// All members of an object, `i64` their numbers. Doesn't allocate.
+    pub fn of_object(members: &'a LentMembers<'_>) -> Self
+        requires integral { members_integral (lent members.now) ≡ true }
+        ensures { result ≡ lent members.now }
+    {
+        match members {
+            LentMembers::Lent(members) => KeptMembers::new(members),
+            LentMembers::Attributes(value) => KeptMembers {
+                first: Some(("attributes", value)),
+                others: None,
+            },
+            LentMembers::Made(members) => KeptMembers::new(members),
+        }
     }
 
     /// Whether one is left with a name before this one.
@@ -63,7 +91,7 @@ impl<'a> KeptMembers<'a> {
     {
         match self.first {
             None => false,
-            Some((first, _)) => first.as_str().cmp(name).is_lt(),
+            Some((first, _)) => first.cmp(name).is_lt(),
         }
     }
 
@@ -73,9 +101,9 @@ impl<'a> KeptMembers<'a> {
         ensures { MatchOption result ((self.old ≡ no_members) × (self.new ≡ no_members))
             (λ m. (self.old ≡ member m.0.now (view m.1.now) self.new) × (is_integral (view m.1.now) ≡ true)) }
     {
-        let (name, member) = self.first?;
-        self.first = self.others.next();
-        Some((name.as_str(), member))
+        let taken = self.first?;
+        self.first = take_first(&mut self.others);
+        Some(taken)
     }
 
     /// Takes the first one left, if its name comes before this one.

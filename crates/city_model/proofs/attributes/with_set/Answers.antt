@@ -6,13 +6,13 @@ use Rattle.city_model.proofs.attributes.with_set.Goals as goal
 
 pub of_kept-requires : goal.of_kept-requires
 of_kept-requires c =
-    let extra = c.args.extra.now in
+    let extra = members_view c.args.members.entries in
     let found = members_view c.in-Some.found.entries in
     let made : members_view c.put_attributes.new.members.entries ≡ with_set extra c.args.named.now found =
     search (rules, set_is) in
     let there : attributes_in extra ≡ Some found = search rules in
     subst (λ ms. kept_at_object ms ≡ true) (sym made)
-    (with_set_kept extra c.args.named.now found c.to_map.ensures.kept c.map.ensures.kept there)
+    (with_set_kept extra c.args.named.now found c.requires.kept c.map.ensures.kept there)
 
 pub returns : goal.returns
 returns c = search (rules, set_is)

@@ -298,7 +298,8 @@ pub transcode_attributes-returns-in_ok-write_attributes_number-in-Number-clause-
 transcode_attributes-returns-in_ok-write_attributes_number-in-Number-clause-ok t c = search (rules, value_is)
 
 pub transcode_attributes-returns-else-depth-eq0-clause-ok : goal.transcode_attributes-returns-else-depth-eq0-clause-ok
-transcode_attributes-returns-else-depth-eq0-clause-ok t c = search (rules, value-begin_array, on_ok_weaker, written_with)
+transcode_attributes-returns-else-depth-eq0-clause-ok t c =
+    search (rules, value-begin_array, on_ok_weaker, written_with)
 
 pub transcode_attributes-returns-else-depth-eq0-clause-err : goal.transcode_attributes-returns-else-depth-eq0-clause-err
 transcode_attributes-returns-else-depth-eq0-clause-err t c refused = search (rules, value-begin_array)

@@ -25,7 +25,8 @@ stored-made-requires c =
       kept =
           subst (λ ms. kept_at_object ms ≡ true) (sym made)
           (with_set_kept all named own c.requires.kept c.map.ensures.kept is);
-      ordered = subst AreOrdered (sym made) (ordered_put attributes (object (put_each named own)) all c.requires.ordered);
+      ordered = subst AreOrdered (sym made)
+          (ordered_put attributes (object (put_each named own)) all c.requires.ordered);
     }
 
 pub returns : goal.returns

@@ -12,4 +12,5 @@ returns c =
     let one = member (string_bytes c.args.name) (view c.args.value) no_members in
     on_ok_weaker c.push.result (λ pushed rest.
     ap (λ last. joined lists (joined last rest)) pushed
-    ∙ ap (joined lists) (joined-assoc c.make_room.new.last one rest) ∙ c.in_ok-make_room.ensures (joined one rest)) c.push.ensures
+    ∙ ap (joined lists) (joined-assoc c.make_room.new.last one rest)
+    ∙ c.in_ok-make_room.ensures (joined one rest)) c.push.ensures

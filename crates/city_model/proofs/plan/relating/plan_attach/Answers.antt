@@ -9,4 +9,5 @@ is_attached-requires g c = search (rules, parent_and_child (g.V.ObjectLookup.map
 pub returns : goal.returns
 returns g c =
     attach_writes (g.V.ObjectLookup.map c.args.view.now) _ _ _ _ _ _ _ (sym c.in-Some.ensures)
-    (sym c.in-Some-look.ensures) c.in_ok-writes.ensures (search rules) (search rules) c.in_ok-below.ensures c.in_ok-above.ensures
+    (sym c.in-Some-look.ensures) c.in_ok-writes.ensures (search rules)
+    (search rules) c.in_ok-below.ensures c.in_ok-above.ensures

@@ -15,4 +15,5 @@ without_child-requires g c = (c.requires.sound _ _ (sym c.in-Some-look.ensures))
 pub returns : goal.returns
 returns g c =
     detach_writes (g.V.ObjectLookup.map c.args.view.now) _ _ _ _ _ _ _ (sym c.in-Some.ensures)
-    (sym c.in-Some-look.ensures) c.in_ok-writes.ensures c.requires.sound (search rules) c.in_ok-below.ensures c.in_ok-above.ensures
+    (sym c.in-Some-look.ensures) c.in_ok-writes.ensures c.requires.sound
+    (search rules) c.in_ok-below.ensures c.in_ok-above.ensures

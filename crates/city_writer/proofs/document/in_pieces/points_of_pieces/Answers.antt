@@ -18,6 +18,7 @@ returns g c =
     let city = c.args.city.now in
     let made = c.in_ok-pieces.ensures in
     let all = c.in_ok-pieces.pieces in
-    each_made (λ es ps. IsListed es ps.items) c.args.len c.len.result c.div_ceil.result (entries city.1) all.items c.requires
+    each_made (λ es ps. IsListed es ps.items) c.args.len c.len.result c.div_ceil.result
+        (entries city.1) all.items c.requires
     (c.len.ensures ∙ len-entries city.1) c.div_ceil.ensures (omega (arith, made.len, all.ok.0))
     (λ i d less. (made.each i d less).1.met)

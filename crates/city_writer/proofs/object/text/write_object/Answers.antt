@@ -11,7 +11,7 @@ returns-clause-pool c =
 pub returns-clause-tokens : goal.returns-clause-tokens
 returns-clause-tokens c =
     let kept = c.lend.ensures in
-    let members = c.get-members.ensures ∙ c.in_ok-lent.ensures.members in
+    let members = c.in_ok-lent.ensures.members in
     let o = c.args.object.now in
     let children = c.in_ok-write_relatives.ensures in
     let lists = c.in_ok-write_list.ensures in
@@ -21,13 +21,13 @@ returns-clause-tokens c =
     let pool = with_points c.write_list.new.pool later in
     rw (e, c.in_ok-string.ensures.ok, c.name.ensures, named.tokens, named.left)
     (rw (parents.tokens, parents.left, c.iter-2.ensures, lists.tokens later, lists.left, children.tokens, children.left)
-    (rw (c.iter.ensures, c.in_ok-begin_object.ensures.ok, c.new-kept.ensures, c.get.ensures, c.get-body.ensures)
+    (rw (c.iter.ensures, c.in_ok-begin_object.ensures.ok, c.of_object-kept.ensures, c.get.ensures, c.get-body.ensures)
     (put_written 3 _ (object_put pool o _ _ c.get-body.ensures members kept.ordered kept.kept)))))
 
 pub returns-clause-reads : goal.returns-clause-reads
 returns-clause-reads c =
     let kept = c.lend.ensures in
-    let members = c.get-members.ensures ∙ c.in_ok-lent.ensures.members in
+    let members = c.in_ok-lent.ensures.members in
     let o = c.args.object.now in
     on_ok c.write_last.result c.write_last.ensures.reads (λ e pool small.
     let left = c.in_ok-write_relatives.ensures.passed (c.in_ok-write_list.ensures.passed
@@ -36,4 +36,4 @@ returns-clause-reads c =
     let lists = rw (c.get.ensures, c.get-body.ensures) at c.in_ok-write_list.ensures.reads in
     let parents = rw c.iter-2.ensures at c.in_ok-write_relatives-2.ensures.reads in
     put_reads (object_put pool o _ _ c.get-body.ensures members kept.ordered kept.kept)
-    (rw c.new-kept.ensures at left) (children, (lists pool small, (parents, (string_reads _, tt)))))
+    (rw c.of_object-kept.ensures at left) (children, (lists pool small, (parents, (string_reads _, tt)))))

@@ -11,11 +11,13 @@ copy_into-requires c =
     let lists = c.deref-list-items.result.now in
     let map = members_view c.loop-list.map.entries in
     let rest = all_joined (drop (c.loop-list.list-index + 1) lists) in
-    let seen : all_joined lists ≡ all_joined c.self.inside.lists.items = ap all_joined c.deref-list-items.ensures.value in
+    let seen : all_joined lists ≡ all_joined c.self.inside.lists.items =
+    ap all_joined c.deref-list-items.ensures.value in
     let next = next_list lists c.loop-list.list-index c.list-item.result map c.loop-list-test.true c.list-item.is in
     ordered_left (joined map c.deref.result.now) rest
     (subst AreOrdered
-    (sym seen ∙ sym c.loop-list.invariant ∙ next ∙ ap (λ ms. joined (joined map ms) rest) (sym c.deref.ensures)) c.self.invariant)
+    (sym seen ∙ sym c.loop-list.invariant ∙ next
+    ∙ ap (λ ms. joined (joined map ms) rest) (sym c.deref.ensures)) c.self.invariant)
 
 pub loop-list-preserved : goal.loop-list-preserved
 loop-list-preserved c =
