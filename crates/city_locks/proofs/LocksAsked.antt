@@ -87,7 +87,7 @@ module _ {s : ℕ} {id : List ℕ} {m : Mode} {hs ks : Locks} (adds : Adds s id 
         held = grind (arith, a.held, a.gains.locks.more id m asked_held);
         blocked = IfOk-weaker r (IsBlocked (HoldsLock ks) s) (IsBlocked (HoldsLock hs) s)
             (blocked_weaker (HoldsLock ks) (HoldsLock hs) s
-                (λ t ne h. (h.0, grind (arith, adds.modes t h.0, h.1)))) a.blocked;
+            (λ t ne h. (h.0, grind (arith, adds.modes t h.0, h.1)))) a.blocked;
         answered = λ h.
             a.answered (grind (arith, more_held (held_in hs s) (held_in ks s) (granted_before ks s ls) still_held));
       }

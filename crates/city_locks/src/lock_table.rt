@@ -78,10 +78,10 @@ impl LockTable {
         ensures wait_die { IfOk result (IsWaitDie (IsInConflict self.old stamp id.now mode) stamp) }
         ensures granted { OnOk result (answer_of self.old stamp id.now mode ≡ Answer.Granted → (t : ℕ) (q : List ℕ) →
             mode_of self.new t q ≡ cond ((stamp == t) && same_id id.now q)
-                (Some (stronger mode (mode_of self.old stamp id.now))) (mode_of self.old t q)) }
+            (Some (stronger mode (mode_of self.old stamp id.now))) (mode_of self.old t q)) }
         ensures holders { OnOk result (answer_of self.old stamp id.now mode ≡ Answer.Granted → (q : List ℕ) →
             holders_of self.new q ≡ cond (same_id id.now q) (with_holder (holders_of self.old id.now) stamp mode)
-                (holders_of self.old q)) }
+            (holders_of self.old q)) }
         ensures own { (q : List ℕ) (n : Mode) → answer_of self.new stamp q n ≡ answer_of self.old stamp q n }
         ensures refused { OnOk result (answer_of self.old stamp id.now mode ≢ Answer.Granted → self.new ≡ self.old) }
         ensures err { OnErr result (self.new ≡ self.old) }
@@ -211,7 +211,7 @@ fn acquire(
     requires is_held { there.is_held ≡ is_some (get (slice_cmp nat_cmp) holders.old id.now) }
     ensures ok { OnOk result ((q : List ℕ) → holders_of holders.new.entries q
         ≡ cond (same_id id.now q) (with_holder (holders_of holders.old.entries id.now) stamp mode)
-            (holders_of holders.old.entries q)) }
+        (holders_of holders.old.entries q)) }
     ensures err { OnErr result (holders.new.entries ≡ holders.old.entries) }
     ensures absent { OnErr result (mode_of holders.old.entries stamp id.now ≡ None) }
     ensures listed { IsListed holders.new.entries locked.new }

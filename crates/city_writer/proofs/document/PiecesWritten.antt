@@ -174,14 +174,14 @@ module _ (pool : List Point) (city : CityValue) (kept : Members) where
       append_assoc (front ++ begin_object ∷ []) mine (end_object ∷ [])
       ∙ append_assoc front (begin_object ∷ []) (mine ++ end_object ∷ []) ∙ ap (λ ts. front ++ ts) (sym closed) in
       sym (written-append (members_from name kept) 0 (frame_own pool city.0) (head_tokens kept ++ mine)
-          (end_object ∷ []))
+      (end_object ∷ []))
       ∙ ap (written (members_from name kept) 0 (frame_own pool city.0)) same
       ∙ put_written 0 [] put
 
   rest_first : (b : Bool) → print_from b rest_tokens ≡ print rest_tokens
   rest_first b =
       let split = written-append (members_from (codes "CityObjects") kept) 0 (frame_own pool city.0)
-          (end_object ∷ []) [] in
+      (end_object ∷ []) [] in
       rw split (before_end b _)
 
   -- the head, the objects and the rest are the city

@@ -31,7 +31,7 @@ once_without p (q ∷ ps) =
     let swapped = filter_swap (differs p) (differs q) (without_repeats ps) in
     let twice = filter_twice (differs p) (without_repeats ps) in
     let alike = λ (h : same_point p q ≡ true). ap
-        (λ f. filter (differs p) (filter (λ r. not (f r)) (without_repeats ps)))
+    (λ f. filter (differs p) (filter (λ r. not (f r)) (without_repeats ps)))
     (sym (same_point-alike p q h)) in
     grind arith
 
@@ -62,7 +62,7 @@ points_parted n es =
 pub points_joined : {A : Type 0} (f : A → List Point) (len : ℕ) (es : Entries) (os : List (Option A))
     (pool : List Point)
     → EachMade len es os (λ es a. IsListed es (f a))
-        → with_points pool (joined os f) ≡ with_points pool (entry_points es)
+    → with_points pool (joined os f) ≡ with_points pool (entry_points es)
 points_joined f len es [] pool h = ap (λ es. with_points pool (entry_points es)) (sym h)
 points_joined f len es (None ∷ os) pool h = absurd h.0
 points_joined f len es (Some a ∷ os) pool h =

@@ -40,7 +40,7 @@ mutual
   members_end b json.no_members = refl
   members_end b (json.member k j ms) =
       fold-append (λ _ t. ends t) false (json_tokens j) (members_tokens ms)
-          ∙ members_end (after false (json_tokens j)) ms
+      ∙ members_end (after false (json_tokens j)) ms
 
 -- at least one member ends as a value does
 after_members : (ms : Members) → after true (tokens_of_members ms) ≡ true

@@ -69,19 +69,28 @@ impl<'a> KeptMembers<'a> {
         KeptMembers { first, others }
     }
 
+    /// One member, `i64` its numbers.
+    fn alone(name: &'a str, value: &'a Value) -> Self
+        requires integral { is_integral (view value.now) ≡ true }
+        ensures { result ≡ member name.now (view value.now) no_members }
+    {
+        KeptMembers {
+            first: Some((name, value)),
+            others: None,
+        }
+    }
+
     /// All members of an object, `i64` their numbers. Doesn't allocate.
     pub fn of_object(members: &'a LentMembers<'_>) -> Self
         requires integral { members_integral (lent members.now) ≡ true }
         ensures { result ≡ lent members.now }
     {
-        match members {
-            LentMembers::Lent(members) => KeptMembers::new(members),
-            LentMembers::Attributes(value) => KeptMembers {
-                first: Some(("attributes", value)),
-                others: None,
-            },
-            LentMembers::Made(members) => KeptMembers::new(members),
-        }
+        let members = match members {
+            LentMembers::Attributes(value) => return KeptMembers::alone("attributes", value),
+            LentMembers::Lent(members) => members,
+            LentMembers::Made(members) => members,
+        };
+        KeptMembers::new(members)
     }
 
     /// Whether one is left with a name before this one.

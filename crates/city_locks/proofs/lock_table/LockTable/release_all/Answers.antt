@@ -5,7 +5,7 @@ use Rattle.city_locks.proofs.lock_table.LockTable.release_all.Goals as goal
 pub invariant_of-self : goal.invariant_of-self
 invariant_of-self c =
     let frees : Frees c.self.inside.holders.entries c.release.new.holders.entries c.args.stamp =
-        record { holders = c.release.ensures.holders } in
+    record { holders = c.release.ensures.holders } in
     record {
       lawful = lawful_freed frees c.self.invariant.lawful;
       listed = c.release.ensures.listed;
@@ -15,7 +15,7 @@ invariant_of-self c =
 pub returns : goal.returns
 returns c =
     let frees : Frees c.self.inside.holders.entries c.release.new.holders.entries c.args.stamp =
-        record { holders = c.release.ensures.holders } in
+    record { holders = c.release.ensures.holders } in
     record {
       modes = rw (← c.self.view_is) (mode_freed frees);
       holders = λ q. search rules;

@@ -19,6 +19,6 @@ returns g c =
     let made = c.in_ok-pieces.ensures in
     let all = c.in_ok-pieces.pieces in
     each_made (λ es ps. IsListed es ps.items) c.args.len c.len.result c.div_ceil.result
-        (entries city.1) all.items c.requires
+    (entries city.1) all.items c.requires
     (c.len.ensures ∙ len-entries city.1) c.div_ceil.ensures (omega (arith, made.len, all.ok.0))
     (λ i d less. (made.each i d less).1.met)

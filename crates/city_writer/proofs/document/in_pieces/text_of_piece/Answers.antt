@@ -7,5 +7,5 @@ returns c =
     let done = c.in_ok-write_first.ensures in
     let items = c.into_inner-text.ensures in
     piece_written _ _ _ _ _ _ _ _ c.known-known.ensures done.pool
-        (done.before ∙ c.new-out.ensures.before ∙ c.new.ensures.items)
+    (done.before ∙ c.new-out.ensures.before ∙ c.new.ensures.items)
     c.new-out.ensures.tokens done.tokens done.reads done.kept items.items items.reads_back items.utf8

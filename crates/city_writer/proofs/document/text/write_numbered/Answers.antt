@@ -10,7 +10,7 @@ returns-clause-tokens c =
     let pooled = all_pooled _ _ (city_points city) c.requires c.in_ok-write_objects.ensures.pool in
     let name = c.in_ok-write_name.ensures in
     let put = city_put _ city _ _ pooled c.frame-frame.ensures
-        (c.new-kept.ensures ∙ kept.members) kept.ordered kept.kept in
+    (c.new-kept.ensures ∙ kept.members) kept.ordered kept.kept in
     on_ok c.write_rest.result c.write_rest.ensures.tokens (λ e.
     city_written city _ _ _ _ _ _ _ _ _ _ put c.in_ok-begin_object.ensures.ok name.tokens name.left
     (c.in_ok-write_objects.ensures.tokens []) c.as_slice.ensures c.frame-frame.ensures e)
@@ -21,7 +21,7 @@ returns-clause-reads c =
     let city = c.args.city.now in
     let pooled = all_pooled _ _ (city_points city) c.requires c.in_ok-write_objects.ensures.pool in
     let put = city_put _ city _ _ pooled c.frame-frame.ensures
-        (c.new-kept.ensures ∙ kept.members) kept.ordered kept.kept in
+    (c.new-kept.ensures ∙ kept.members) kept.ordered kept.kept in
     let rest = c.write_rest.ensures in
     both_ok {P = MembersReadBack c.write_name.new.self
     × (ReadsBack (transform_data c.frame-frame.result.now) × ReadsBack (vertices_data c.as_slice.result.now))}

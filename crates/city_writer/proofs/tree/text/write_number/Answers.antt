@@ -12,5 +12,5 @@ returns-in-Some-clause-tokens c =
 pub returns-in-Some-clause-reads : goal.returns-in-Some-clause-reads
 returns-in-Some-clause-reads c =
     on_ok_weaker c.write_i64.result
-        (λ e. number_reads _ c.in-Some.z c.args.n.now.valid (sym c.as_i64.ensures ∙ c.in-Some.is)
+    (λ e. number_reads _ c.in-Some.z c.args.n.now.valid (sym c.as_i64.ensures ∙ c.in-Some.is)
     (search rules)) c.write_i64.ensures.ok
