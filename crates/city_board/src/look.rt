@@ -32,8 +32,12 @@ impl Model for Look {
 
     ghost coded = { Prim.hlevel (codes, coded_members, coded_objects) };
 
-    ghost view = { λ l. record { name = l.seen.name; opening =
-        (view_of l.reading.place).opening; seen = l.seen.changes } };
+    ghost view = { λ l. record {
+      name = l.seen.name;
+      opening =
+          (view_of l.reading.place).opening;
+      seen = l.seen.changes;
+    } };
 
     ghost invariant = { λ l. (view_of l.reading.place ≡ known_from l.reading.part.value)
         × IsFaithful l.reading.part.value × (l.seen ≡ l.reading.part.value.history) };

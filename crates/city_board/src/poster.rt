@@ -56,7 +56,7 @@ impl<R: Wait + Drop> Model for Poster<R> {
     ghost invariant = { λ p. (p.head ≡ p.published.name) × (p.taken.name ≡ p.published.name)
         × IsPrefix p.published.changes p.taken.changes
         × IfSome p.writer (λ w. HoldsEdits w.writer.desk.shown.value (view_of w.writer.desk.place)
-            (drop w.writer.behind w.writer.log.items ++ p.waiting.items) p.opening p.published p.taken) };
+        (drop w.writer.behind w.writer.log.items ++ p.waiting.items) p.opening p.published p.taken) };
 }
 
 impl<R: Wait + Drop> Poster<R> {

@@ -37,8 +37,12 @@ impl Model for Viewer {
 
     ghost coded = { Prim.hlevel (codes, coded_members, coded_objects) };
 
-    ghost view = { λ v. record { name = v.seen.name; opening =
-        (view_of v.reader.place).opening; seen = v.seen.changes } };
+    ghost view = { λ v. record {
+      name = v.seen.name;
+      opening =
+          (view_of v.reader.place).opening;
+      seen = v.seen.changes;
+    } };
 
     ghost invariant = { λ v. ((view_of v.reader.place).met ≡ true)
         × ((view_of v.reader.place).history.name ≡ v.seen.name) };

@@ -135,8 +135,10 @@ impl<S: Shelf> Desk<S> {
     pub fn take(&mut self) -> Option<usize>
         ensures next { result
             ≡ (if nat_lt self.old.0.taken (length self.old.0.scripts) then Some self.old.0.taken else None) }
-        ensures taken { self.new.0 ≡ record self.old.0 { taken = if nat_lt self.old.0.taken
-            (length self.old.0.scripts) then self.old.0.taken + 1 else self.old.0.taken } }
+        ensures taken { self.new.0 ≡ record self.old.0 {
+          taken = if nat_lt self.old.0.taken
+              (length self.old.0.scripts) then self.old.0.taken + 1 else self.old.0.taken;
+        } }
         ensures shelf { self.new.1 ≡ self.old.1 }
     {
         if self.taken < self.scripts.len() {

@@ -88,7 +88,7 @@ whole_left t = left_if _ (head t == 48) (Some (drop 1 t)) _ (head_off 48 t (λ e
 fraction_left : (t : List ℕ) → Leaves (newlines t) (after_fraction t)
 fraction_left t = left_if _ (head t == 46) _ (Some t)
     (λ e. subst (λ n. Leaves n (after_digits (drop 1 t))) (head_off 46 t (λ is. omega arith) e)
-        (digits_left (drop 1 t)))
+    (digits_left (drop 1 t)))
     refl
 
 exponent_left : (t : List ℕ) → Leaves (newlines t) (after_exponent t)

@@ -284,7 +284,7 @@ impl Store {
     fn add_written(&self, change: &mut Change, stamp: u64, id: &Id) -> Result<(), OutOfMemory>
         ensures added { OnOk result ((q : List ℕ) → write_in change.new q
             ≡ (if same_id id.now q then option_or (store_own self.now stamp id.now)
-                (write_in change.old q) else write_in change.old q)) }
+            (write_in change.old q) else write_in change.old q)) }
         ensures ordered { IsStrictlySortedBy (slice_cmp nat_cmp) (keys_of change.old)
             → IsStrictlySortedBy (slice_cmp nat_cmp) (keys_of change.new) }
     {

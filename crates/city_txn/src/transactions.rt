@@ -183,7 +183,7 @@ impl Transactions {
         ensures became { Became (λ q. is_ok result && same_id id.now q)
             (λ q. Some (unwrap_or object placeholder))
             (λ q. Some (image_put stamp (object_at city.old.1 id.now) (is_none object)
-                (image_at self.old.images id.now)))
+            (image_at self.old.images id.now)))
             city.old city.new self.old.images self.new.images }
         ensures first { IfOk result (λ is_first. is_first ≡ is_none (image_at self.old.images id.now)) }
         ensures reservations { self.new.reservations ≡ self.old.reservations }
@@ -215,7 +215,7 @@ impl Transactions {
         ensures objects { (q : List ℕ) → object_at city.new.1 q
             ≡ (if is_ok result then object_at city.old.1 q
             else changed (object_at city.old.1) key
-                (left_at_end End.RollBack (object_at city.old.1 key) (Some image)) q) }
+            (left_at_end End.RollBack (object_at city.old.1 key) (Some image)) q) }
         ensures frame { city.new.0 ≡ city.old.0 }
         ensures old { IfOk result (λ old. old ≡ image_at self.old.images key) }
         ensures images { (q : List ℕ) → image_at self.new.images q

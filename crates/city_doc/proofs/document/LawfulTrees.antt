@@ -96,7 +96,7 @@ right d c h =
     let p = frame_parts d c.0 h.frame in
     let transform : is_transform (get (codes "transform") d) ≡ true = ap is_transform p.there
     ∙ and_from (has_triple (codes "scale") p.transform) (has_triple (codes "translate") p.transform)
-        (ap is_some p.scale)
+    (ap is_some p.scale)
     (ap is_some p.translate) in
     let objects : are_objects (get (codes "CityObjects") d) ≡ true = ap are_all_objects h.objects
     ∙ all_are_objects (vertices_in d) (objects_in d) h.list h.entries in

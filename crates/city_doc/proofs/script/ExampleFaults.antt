@@ -16,7 +16,7 @@ abbrev surface : Data
 surface =
     object (put (codes "type") (string (codes "MultiSurface")) (put (codes "lod") (string (codes "1"))
     (put (codes "boundaries")
-        (array (item (array (item (array (item (number (unsigned 0)) no_items)) no_items)) no_items))
+    (array (item (array (item (array (item (number (unsigned 0)) no_items)) no_items)) no_items))
     no_members)))
 
 abbrev road : Members

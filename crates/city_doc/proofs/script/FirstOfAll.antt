@@ -158,13 +158,13 @@ module _ (ds : List Data) where
   })
   least_item f (inr (ps, read, inr (inl (n, i, is, within, first)))) =
       subst (IsLeastOf (StandsAt ds)) (sym is) (record {
-    stands = in_items refused ds ps read n i first.0;
-    least = least_of (BadCommand n i) (λ k bad before. none_bad ds ps k read bad)
-        (λ many before. true≢false (sym many ∙ too_many_alike ds ps read ∙ within))
-        (λ k j bad before. first.1 k j (same_rank (BadCommand n i) (BadCommand k j) refl before)
-        (in_parts refused ds ps read k j bad))
-        (λ k j bad before. not_higher (BadCommand n i) (BadVertex k j) (search (arith)) before);
-  })
+        stands = in_items refused ds ps read n i first.0;
+        least = least_of (BadCommand n i) (λ k bad before. none_bad ds ps k read bad)
+            (λ many before. true≢false (sym many ∙ too_many_alike ds ps read ∙ within))
+            (λ k j bad before. first.1 k j (same_rank (BadCommand n i) (BadCommand k j) refl before)
+            (in_parts refused ds ps read k j bad))
+            (λ k j bad before. not_higher (BadCommand n i) (BadVertex k j) (search (arith)) before);
+      })
   least_item f (inr (ps, read, inr (inr (n, i, is, within, good, first)))) =
       subst (IsLeastOf (StandsAt ds)) (sym is) (record {
         stands = misplaced (in_items names_bad_vertex ds ps read n i first.0);

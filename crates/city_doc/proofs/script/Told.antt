@@ -121,7 +121,7 @@ module _ (ds : List Data) where
 -- a kept form has too many commands exactly if an item has
 long_step : (n : ℕ) (o : Option ScriptParts) (rest : List (ℕ × ScriptParts))
     → list_any (λ (q : ℕ × ScriptParts). has_too_many_commands q.1)
-        (option_to_list (option_map (λ p. (n, p)) o) ++ rest)
+    (option_to_list (option_map (λ p. (n, p)) o) ++ rest)
     ≡ (is_overlong o || list_any (λ (q : ℕ × ScriptParts). has_too_many_commands q.1) rest)
 long_step n None rest = refl
 long_step n (Some p) rest = refl

@@ -9,8 +9,12 @@ returns-then-self-other-clause-this c =
     let both = c.learn.new.self.log in
     let this : IsPrefix a both = rw (← ap (λ s. s.log) c.again-both.ensures) c.learn.ensures.2 in
     let less : length a ≤ length b = omega (arith, c.self.invariant, c.other.invariant) in
-    rw (ap (λ p. p.changes) c.again.ensures, ← ap (λ p. p.changes) c.self.view_is, ← ap
-        (λ p. p.changes) c.other.view_is)
+    rw (
+      ap (λ p. p.changes) c.again.ensures,
+      ← ap (λ p. p.changes) c.self.view_is,
+      ← ap
+          (λ p. p.changes) c.other.view_is,
+    )
     (prefix_shorter a b both this c.learn.ensures.3 less)
 
 pub returns-clause-that : goal.returns-clause-that

@@ -11,6 +11,6 @@ returns c =
     let all = rw (c.in-None.ensures.steps.0, append-nil) at c.loop-id.invariant in
     let made = collected listed.items c.in_ok-readable.readable c.collect.result c.in_ok-readable.was
     c.collect.ensures.ran
-        (YieldsList-from_vec listed.items c.into_iter.ensures.rest (c.into_iter.ensures.len ∙ listed.ok.0))
+    (YieldsList-from_vec listed.items c.into_iter.ensures.rest (c.into_iter.ensures.len ∙ listed.ok.0))
     (rw all at (readable_ascend c.args.points.now ms ordered)) in
     λ id. ap (λ es. found_in es id) (made ∙ sym all) ∙ readable_found c.args.points.now ms id ordered

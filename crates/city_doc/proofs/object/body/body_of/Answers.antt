@@ -30,4 +30,4 @@ returns c =
     (sym (body_read c.args.points.now (view c.args.object) _ _ (sym c.type_of.ensures ∙ c.in-Some.is) is_object _ _
     (rw stays (sym c.in_ok-geometry.ensures ∙ c.in-Some-2.is))
     (ap (λ ms. kept_if kept_at_object (without (codes "children") (without (codes "parents") ms))) (sym left)
-        ∙ others)))
+    ∙ others)))

@@ -28,7 +28,7 @@ pub returns-in-Unset : goal.returns-in-Unset
 returns-in-Unset c =
     let form = rw (c.in-Some.is, c.in-Unset.is) at (sym c.form_of.ensures) in
     let same = ap (λ id. UnsetForm id
-        (texts_among (items_view c.in-Unset.field-1.now.items))) c.in_ok-id-in-Unset.ensures in
+    (texts_among (items_view c.in-Unset.field-1.now.items))) c.in_ok-id-in-Unset.ensures in
     IfOk-weaker c.unset_command.result _ _ (λ o. given_read c.args.points.now (view c.args.command) _ _ o form same)
     c.unset_command.ensures
 
@@ -36,7 +36,7 @@ pub returns-in-Reshape : goal.returns-in-Reshape
 returns-in-Reshape c =
     let form = rw (c.in-Some.is, c.in-Reshape.is) at (sym c.form_of.ensures) in
     let same = ap (λ id. ReshapeForm id
-        (object (members_view c.in-Reshape.field-1.now.entries))) c.in_ok-id-in-Reshape.ensures in
+    (object (members_view c.in-Reshape.field-1.now.entries))) c.in_ok-id-in-Reshape.ensures in
     IfOk-weaker c.reshape_command.result _ _ (λ o. given_read c.args.points.now (view c.args.command) _ _ o form same)
     c.reshape_command.ensures
 
