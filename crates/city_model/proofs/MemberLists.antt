@@ -10,7 +10,8 @@ use Rattle.std.specs.declared.sync.Arc.{Arc}
 use Rattle.city_model.specs.Kept.{has_no_member}
 use Rattle.std.proofs.lemmas.List.{take-append-drop, drop_more}
 use Rattle.serde_json.specs.Data.{Data, Members, put}
-use Rattle.serde_json.specs.View.{view}
+use Rattle.serde_json.specs.View.{view, members_view}
+use Rattle.serde_json.proofs.Views.{Entry}
 use Rattle.serde_json.specs.declared.value.Value.{Value}
 use Rattle.serde_json.specs.Find.{get_member}
 use Rattle.city_model.specs.Members.{without, AllAbove, AreOrdered}
@@ -226,19 +227,46 @@ put_last k d no_members ns h = refl
 put_last k d (member l e ms) ns h =
     rw (turned l k (above_right l ms (member k d ns) h.0).0) (ap (member l e) (put_last k d ms ns h.1))
 
--- the next entry is put behind the others
+-- the next member is put behind the others
+pub put_next : (k : List ℕ) (d : Data) (next after old new : Members) → next ≡ member k d after
+    → AreOrdered (joined old next) → new ≡ put k d old → joined new after ≡ joined old next
+put_next k d next after old new is ordered done =
+    ap (λ ms. joined ms after) done ∙ put_last k d old after (subst (λ ms. AreOrdered (joined old ms)) is ordered)
+    ∙ ap (joined old) (sym is)
+
 pub next_put : (es : Entries) (i : ℕ) (e : Arc (String Global × Value) Global) (old new : Members) → i < length es
     → e ≡ get_or es i e → AreOrdered (joined old (entries_view (drop i es)))
     → new ≡ put (string_bytes (arc_value e).0) (view (arc_value e).1) old
     → joined new (entries_view (drop (i + 1) es)) ≡ joined old (entries_view (drop i es))
-next_put es i e old new within is ordered done =
-    let next : entries_view (drop i es) ≡ entries_view (e ∷ drop (i + 1) es) =
-    ap entries_view (drop_more es i e within ∙ ap (λ x. x ∷ drop (i + 1) es) (sym is)) in
-    let h : AreOrdered (joined old (entries_view (e ∷ drop (i + 1) es))) =
-    subst (λ ms. AreOrdered (joined old ms)) next ordered in
-    ap (λ ms. joined ms (entries_view (drop (i + 1) es))) done
-    ∙ put_last (string_bytes (arc_value e).0) (view (arc_value e).1) old (entries_view (drop (i + 1) es)) h
-    ∙ ap (joined old) (sym next)
+next_put es i e old new within is =
+    put_next _ _ _ (entries_view (drop (i + 1) es)) old new
+    (ap entries_view (drop_more es i e within ∙ ap (λ x. x ∷ drop (i + 1) es) (sym is)))
+
+-- ---- members as pairs
+
+-- a pair behind others
+pub pair_last : (es : List Entry) (e : Entry) (ms : Members)
+    → joined (members_view (es ++ e ∷ [])) ms ≡ joined (members_view es) (member (string_bytes e.0) (view e.1) ms)
+pair_last [] e ms = refl
+pair_last (x ∷ es) e ms = grind (arith, pair_last es e ms)
+
+next_pair : (es : List Entry) (i : ℕ) (e : Entry) → i < length es → e ≡ get_or es i e
+    → members_view (drop i es) ≡ member (string_bytes e.0) (view e.1) (members_view (drop (i + 1) es))
+next_pair es i e within is = ap members_view (drop_more es i e within ∙ ap (λ x. x ∷ drop (i + 1) es) (sym is))
+
+-- the next pair is put behind the others
+pub next_pair_put : (es : List Entry) (i : ℕ) (e : Entry) (old new : Members) → i < length es → e ≡ get_or es i e
+    → AreOrdered (joined old (members_view (drop i es))) → new ≡ put (string_bytes e.0) (view e.1) old
+    → joined new (members_view (drop (i + 1) es)) ≡ joined old (members_view (drop i es))
+next_pair_put es i e old new within is = put_next _ _ _ _ old new (next_pair es i e within is)
+
+-- a copy of the next pair is pushed behind the others
+pub next_pair_pushed : (xs es : List Entry) (i : ℕ) (e copy : Entry) → i < length es → e ≡ get_or es i e
+    → string_bytes copy.0 ≡ string_bytes e.0 → view copy.1 ≡ view e.1
+    → joined (members_view (xs ++ copy ∷ [])) (members_view (drop (i + 1) es))
+    ≡ joined (members_view xs) (members_view (drop i es))
+next_pair_pushed xs es i e copy within is name value =
+    pair_last xs copy _ ∙ ap (joined (members_view xs)) (rw (name, value) (sym (next_pair es i e within is)))
 
 -- ---- the last name says whether a name is reached
 

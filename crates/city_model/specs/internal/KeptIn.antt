@@ -2,7 +2,7 @@
 use Rattle.std.specs.Prelude.{Option, None, Some}
 use Rattle.std.specs.Arc.{arc_value}
 use Rattle.serde_json.specs.Data.{object, Members, no_members, member, put}
-use Rattle.serde_json.specs.View.{view, members_view}
+use Rattle.serde_json.specs.View.{members_view}
 use Rattle.city_model.specs.Attributes.{attributes}
 use Rattle.city_model.specs.declared.kept.shared_extra.Storage.{Storage}
 use Rattle.city_model.specs.declared.kept.shared_extra.Storage.TheVariants.{Few, Many}
@@ -18,10 +18,10 @@ with_own ms (Some found) = put attributes (object found) ms
 
 abbrev pub kept_in : Storage → Members
 kept_in (Few ms) = ms
-kept_in (stored.Attributes value) = member attributes (view value) no_members
+kept_in (stored.Attributes found) = member attributes (object found) no_members
 kept_in (Many others found) = with_own (members_view (arc_value others).entries) found
 
 abbrev pub lent : LentMembers → Members
 lent (Lent m) = members_view m.now.entries
-lent (members.Attributes value) = member attributes (view value.now) no_members
+lent (members.Attributes found) = member attributes (object found.now) no_members
 lent (Made m) = members_view m.entries

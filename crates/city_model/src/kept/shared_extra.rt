@@ -1,9 +1,10 @@
 //! The kept members of an object; copies share them if they are many.
-ghost use Rattle.std.specs.Prelude.{◌≡◌, true, option_map, IfOk};
+ghost use Rattle.std.specs.Prelude.{◌≡◌, true, is_some, option_and_then, option_map, IfOk};
 ghost use Rattle.std.specs.Arc.{arc_value};
 ghost use Rattle.serde_json.specs.Data.{no_members, member, object, put};
+ghost use Rattle.serde_json.specs.Find.{as_object};
 ghost use Rattle.serde_json.specs.View.{view, members_view};
-ghost use Rattle.city_model.specs.Attributes.{attributes, attributes_in, are_among, has_attributes, with_attributes};
+ghost use Rattle.city_model.specs.Attributes.{attributes, attributes_in, has_attributes, with_attributes};
 ghost use Rattle.city_model.specs.Attributes.{with_set, with_unset};
 ghost use Rattle.city_model.specs.Kept.{kept_at_object};
 ghost use Rattle.city_model.specs.Members.{AreOrdered};
@@ -14,10 +15,10 @@ use crate::attributes::{has_attributes, put_attributes, with_set, with_unset};
 use crate::command::Attributes;
 use crate::copied::Copied;
 use crate::kept::extra::Extra;
+use crate::kept::few_members::FewMembers;
 use crate::kept::shared_members::SharedMembers;
 use crate::kept::site::AtObject;
-use crate::members::{copy_of, member, members_count, put, take};
-use crate::same_value::same_value;
+use crate::members::{copy_of, into_object, member, members_count, put, take};
 use crate::text::Text;
 use serde_json::{Map, Value};
 use std::alloc::Global;
@@ -28,9 +29,9 @@ use std::sync::Arc;
 pub(crate) enum Storage {
     /// A copy copies them.
     Few(Extra<AtObject>),
-    /// Nothing but `attributes`, its value few members, as most objects have it: it needs no map
-    /// beside its own. A copy copies it.
-    Attributes(Value),
+    /// Nothing but `attributes`, an object of few members: what most objects keep. A copy copies
+    /// them.
+    Attributes(FewMembers),
     /// All but `attributes`, and the attributes if they are an object.
     Many(Arc<Map<String, Value>>, Option<SharedMembers>),
 }
@@ -66,8 +67,8 @@ impl Model for SharedExtra {
 #[derive(Drop)]
 pub enum LentMembers<'a> {
     Lent(&'a Map<String, Value>),
-    /// `attributes` alone: its value.
-    Attributes(&'a Value),
+    /// The members of `attributes`, which nothing is beside.
+    Attributes(&'a FewMembers),
     Made(Map<String, Value>),
 }
 
@@ -92,7 +93,7 @@ impl SharedExtra {
         let storage = if extra.is_large() {
             many_of(alloc, extra.into_map())?
         } else {
-            few_of(extra)
+            few_of(alloc, extra)?
         };
         Ok(SharedExtra { storage })
     }
@@ -105,7 +106,7 @@ impl SharedExtra {
     {
         match &self.storage {
             Storage::Few(extra) => Ok(LentMembers::Lent(extra.map())),
-            Storage::Attributes(value) => Ok(LentMembers::Attributes(value)),
+            Storage::Attributes(found) => Ok(LentMembers::Attributes(found)),
             Storage::Many(others, found) => lend_many(others, found),
         }
     }
@@ -117,8 +118,8 @@ impl SharedExtra {
     {
         match &self.storage {
             Storage::Few(extra) => shared(alloc, with_set(alloc, extra.to_map()?, named)?),
-            Storage::Attributes(value) => {
-                shared(alloc, with_set(alloc, map_of(alloc, value)?, named)?)
+            Storage::Attributes(found) => {
+                shared(alloc, with_set(alloc, map_of(alloc, found)?, named)?)
             }
             Storage::Many(others, found) => set_many(alloc, others, found, named),
         }
@@ -131,8 +132,8 @@ impl SharedExtra {
     {
         match &self.storage {
             Storage::Few(extra) => shared(alloc, with_unset(alloc, extra.to_map()?, names)?),
-            Storage::Attributes(value) => {
-                shared(alloc, with_unset(alloc, map_of(alloc, value)?, names)?)
+            Storage::Attributes(found) => {
+                shared(alloc, with_unset(alloc, map_of(alloc, found)?, names)?)
             }
             Storage::Many(others, found) => unset_many(alloc, others, found, names),
         }
@@ -144,7 +145,7 @@ impl SharedExtra {
     {
         match &self.storage {
             Storage::Few(extra) => has_attributes(member(extra.map(), "attributes"), named.map()),
-            Storage::Attributes(value) => has_attributes(Some(value), named.map()),
+            Storage::Attributes(found) => found.have(named.map()),
             Storage::Many(others, found) => many_have(others, found, named),
         }
     }
@@ -154,8 +155,8 @@ impl Copied for SharedExtra {
     fn copy(&self, alloc: Global) -> Result<SharedExtra, OutOfMemory> {
         match &self.storage {
             Storage::Few(extra) => SharedExtra::new(alloc, extra.copy(alloc)?),
-            Storage::Attributes(value) => Ok(SharedExtra {
-                storage: Storage::Attributes(value.clone()?),
+            Storage::Attributes(found) => Ok(SharedExtra {
+                storage: Storage::Attributes(found.copy(alloc)?),
             }),
             Storage::Many(others, found) => Ok(SharedExtra {
                 storage: Storage::Many(others.clone()?, found.copy(alloc)?),
@@ -164,27 +165,40 @@ impl Copied for SharedExtra {
     }
 }
 
-/// Few members as they are stored: `attributes` without its map if nothing is beside it.
-fn few_of(extra: Extra<AtObject>) -> Storage
-    ensures { kept_in result ≡ extra }
+/// Few members as they are stored: the members of `attributes` if nothing is beside them.
+fn few_of(alloc: Global, extra: Extra<AtObject>) -> Result<Storage, OutOfMemory>
+    ensures { IfOk result (λ storage. kept_in storage ≡ extra) }
 {
     let members = extra.map();
-    if members_count(members) != 1 || member(members, "attributes").is_none() {
-        return Storage::Few(extra);
+    if members_count(members) != 1 || !is_object(member(members, "attributes")) {
+        return Ok(Storage::Few(extra));
     }
     let mut members = extra.into_map();
-    match take(&mut members, "attributes") {
-        Some(value) => Storage::Attributes(value),
-        None => unreachable!(),
+    let Some(value) = take(&mut members, "attributes") else {
+        unreachable!()
+    };
+    let Some(found) = into_object(value) else {
+        unreachable!()
+    };
+    Ok(Storage::Attributes(FewMembers::from_map(alloc, found)?))
+}
+
+/// Whether a member is there, and is an object.
+fn is_object(member: Option<&Value>) -> bool
+    ensures { result ≡ is_some (option_and_then as_object (option_map (λ v. view v.now) member.entry)) }
+{
+    match member {
+        None => false,
+        Some(value) => value.as_object().is_some(),
     }
 }
 
-/// A map with a copy of the attributes alone.
-fn map_of(alloc: Global, value: &Value) -> Result<Map<String, Value>, OutOfMemory>
-    ensures { IfOk result (λ members. members_view members.entries ≡ member attributes (view value.now) no_members) }
+/// A map of these attributes alone, with copies of them.
+fn map_of(alloc: Global, found: &FewMembers) -> Result<Map<String, Value>, OutOfMemory>
+    ensures { IfOk result (λ members. members_view members.entries ≡ member attributes (object found.now) no_members) }
 {
     let mut members = Map::new(alloc);
-    put(&mut members, "attributes".to_string(alloc)?, value.clone()?)?;
+    put_attributes(alloc, &mut members, found.to_map(alloc)?)?;
     Ok(members)
 }
 
@@ -377,19 +391,6 @@ fn many_have(others: &Map<String, Value>, found: &Option<SharedMembers>, named: 
 {
     match found {
         None => has_attributes(member(others, "attributes"), named.map()),
-        Some(found) => are_among_shared(named.map(), found),
+        Some(found) => found.have(named.map()),
     }
-}
-
-/// Whether each of the named members is among the shared ones, with the same value.
-fn are_among_shared(named: &Map<String, Value>, found: &SharedMembers) -> bool
-    ensures { result ≡ are_among (members_view named.now.entries) found.now }
-{
-    for (name, value) in named.iter() {
-        match found.get(name.as_str()) {
-            Some(other) if same_value(value, other) => {}
-            _ => return false,
-        }
-    }
-    true
 }

@@ -5,7 +5,7 @@ ghost use Rattle.std.specs.Arc.{arc_value};
 ghost use Rattle.serde_json.specs.Data.{Members, no_members, member, put};
 ghost use Rattle.serde_json.specs.Find.{get_member};
 ghost use Rattle.serde_json.specs.View.{view, members_view};
-ghost use Rattle.city_model.specs.Attributes.{put_each};
+ghost use Rattle.city_model.specs.Attributes.{are_among, put_each};
 ghost use Rattle.city_model.specs.Kept.{has_no_member};
 ghost use Rattle.city_model.specs.Members.{without, without_each, AreOrdered};
 ghost use Rattle.city_model.specs.internal.MemberLists.{joined, all_joined, IsPlace};
@@ -14,6 +14,7 @@ use crate::OutOfMemory;
 use crate::copied::Copied;
 use crate::kept::member_list::MemberList;
 use crate::members::members_count;
+use crate::same_value::same_value;
 use crate::text::Text;
 use serde_json::{Map, Value};
 use std::alloc::Global;
@@ -126,6 +127,19 @@ impl SharedMembers {
             Some(at) => self.lists[at].get(name),
             None => None,
         }
+    }
+
+    /// Whether each of the named members is among these, with the same value. Doesn't allocate.
+    pub fn have(&self, named: &Map<String, Value>) -> bool
+        ensures { result ≡ are_among (members_view named.now.entries) self.now }
+    {
+        for (name, value) in named.iter() {
+            match self.get(name.as_str()) {
+                Some(found) if same_value(value, found) => {}
+                _ => return false,
+            }
+        }
+        true
     }
 
     /// The members, and one of this name in its place.

@@ -1,17 +1,18 @@
 //! Writes the kept members of an object among its own.
 ghost use Rattle.std.specs.Prelude.{◌≡◌, ◌++◌, ◌∷◌, [], IfNone, MatchOption, OnOk, true};
 ghost use Rattle.json.specs.Token.{key, end_object};
-ghost use Rattle.serde_json.specs.Data.{no_members, member};
-ghost use Rattle.serde_json.specs.View.{view, members_view};
+ghost use Rattle.serde_json.specs.Data.{no_members, member, object};
+ghost use Rattle.serde_json.specs.View.{members_view};
 ghost use Rattle.city_model.specs.Integral.{is_integral, members_integral};
 ghost use Rattle.city_model.specs.internal.KeptIn.{lent};
-ghost use Rattle.city_writer.specs.internal.tree.MembersLeft.{members_left, others_left};
+ghost use Rattle.city_writer.specs.internal.tree.MembersLeft.{members_left, others_left, value_of};
 ghost use Rattle.city_writer.specs.internal.tree.Parted.{begins_before, members_before, members_from};
 ghost use Rattle.city_writer.specs.internal.tree.PartTokens.{tokens_of_members};
 ghost use Rattle.city_writer.specs.internal.tree.ReadsBack.{MembersReadBack};
 
-use crate::tree::text::write_value;
+use crate::tree::kept_value::KeptValue;
 use city_model::OutOfMemory;
+use city_model::kept::few_members::FewMembers;
 use city_model::kept::shared_extra::LentMembers;
 use json::Writer;
 use serde_json::{Map, Value};
@@ -23,7 +24,7 @@ use std::marker::Model;
 /// Most objects keep one or none, so the calls are short, and are inlined.
 #[derive(Drop)]
 pub struct KeptMembers<'a> {
-    first: Option<(&'a str, &'a Value)>,
+    first: Option<(&'a str, KeptValue<'a>)>,
     /// The others, if they may be some.
     others: Option<Iter<'a, String, Value>>,
 }
@@ -50,12 +51,12 @@ impl<'a> Model for KeptMembers<'a> {
 
 /// Takes the first of these members.
 #[inline(always)]
-fn take_first<'a>(members: &mut Option<Iter<'a, String, Value>>) -> Option<(&'a str, &'a Value)>
+fn take_first<'a>(members: &mut Option<Iter<'a, String, Value>>) -> Option<(&'a str, KeptValue<'a>)>
     ensures taken { members_left result (others_left members.new) ≡ others_left members.old }
     ensures none { IfNone result (others_left members.new ≡ no_members) }
 {
-    let (name, member) = members.as_mut()?.next()?;
-    Some((name.as_str(), member))
+    let (name, value) = members.as_mut()?.next()?;
+    Some((name.as_str(), KeptValue::Any(value)))
 }
 
 impl<'a> KeptMembers<'a> {
@@ -69,13 +70,13 @@ impl<'a> KeptMembers<'a> {
         KeptMembers { first, others }
     }
 
-    /// One member, `i64` its numbers.
-    fn alone(name: &'a str, value: &'a Value) -> Self
-        requires integral { is_integral (view value.now) ≡ true }
-        ensures { result ≡ member name.now (view value.now) no_members }
+    /// The member of this name alone, an object of `i64` numbers.
+    fn alone(name: &'a str, members: &'a FewMembers) -> Self
+        requires integral { members_integral members.now ≡ true }
+        ensures { result ≡ member name.now (object members.now) no_members }
     {
         KeptMembers {
-            first: Some((name, value)),
+            first: Some((name, KeptValue::Few(members))),
             others: None,
         }
     }
@@ -86,7 +87,7 @@ impl<'a> KeptMembers<'a> {
         ensures { result ≡ lent members.now }
     {
         let members = match members {
-            LentMembers::Attributes(value) => return KeptMembers::alone("attributes", value),
+            LentMembers::Attributes(found) => return KeptMembers::alone("attributes", found),
             LentMembers::Lent(members) => members,
             LentMembers::Made(members) => members,
         };
@@ -106,9 +107,9 @@ impl<'a> KeptMembers<'a> {
 
     /// Takes the first one left.
     #[inline(always)]
-    fn take(&mut self) -> Option<(&'a str, &'a Value)>
+    fn take(&mut self) -> Option<(&'a str, KeptValue<'a>)>
         ensures { MatchOption result ((self.old ≡ no_members) × (self.new ≡ no_members))
-            (λ m. (self.old ≡ member m.0.now (view m.1.now) self.new) × (is_integral (view m.1.now) ≡ true)) }
+            (λ m. (self.old ≡ member m.0.now (value_of m.1) self.new) × (is_integral (value_of m.1) ≡ true)) }
     {
         let taken = self.first?;
         self.first = take_first(&mut self.others);
@@ -117,14 +118,14 @@ impl<'a> KeptMembers<'a> {
 
     /// Takes the first one left, if its name comes before this one.
     #[inline(always)]
-    fn take_before(&mut self, name: &str) -> Option<(&'a str, &'a Value)>
+    fn take_before(&mut self, name: &str) -> Option<(&'a str, KeptValue<'a>)>
         ensures { MatchOption result
             ((self.new ≡ self.old) × (members_before name.now self.old ≡ no_members)
             × (members_from name.now self.old ≡ self.old))
-            (λ m. (self.old ≡ member m.0.now (view m.1.now) self.new)
-            × (members_before name.now self.old ≡ member m.0.now (view m.1.now) (members_before name.now self.new))
+            (λ m. (self.old ≡ member m.0.now (value_of m.1) self.new)
+            × (members_before name.now self.old ≡ member m.0.now (value_of m.1) (members_before name.now self.new))
             × (members_from name.now self.old ≡ members_from name.now self.new)
-            × (is_integral (view m.1.now) ≡ true)) }
+            × (is_integral (value_of m.1) ≡ true)) }
     {
         if self.begin_before(name) {
             self.take()
@@ -144,7 +145,7 @@ impl<'a> KeptMembers<'a> {
     {
         while let Some((member_name, member)) = self.take_before(name) {
             out.key(member_name)?;
-            write_value(member, out)?;
+            member.write(out)?;
         }
         Ok(())
     }
@@ -172,7 +173,7 @@ impl<'a> KeptMembers<'a> {
     {
         while let Some((name, member)) = self.take() {
             out.key(name)?;
-            write_value(member, out)?;
+            member.write(out)?;
         }
         out.end_object()
     }

@@ -8,6 +8,6 @@ pub returns-in-Some : goal.returns-in-Some
 returns-in-Some c =
     let others = members_view c.args.others.now.entries in
     let named = c.args.named.now in
-    c.are_among_shared.ensures ∙ ap (λ ms. are_among ms c.in-Some.found) c.map-in-Some.ensures.members
+    c.have.ensures ∙ ap (λ ms. are_among ms c.in-Some.found) c.map-in-Some.ensures.members
     ∙ ap (λ own. are_among named (members_of own)) (sym (attributes_own others c.in-Some.found))
     ∙ ap (λ own. has_attributes (with_own others own) named) (sym c.in-Some.is)
