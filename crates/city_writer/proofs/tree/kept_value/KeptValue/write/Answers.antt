@@ -1,0 +1,9 @@
+use Rattle.city_writer.proofs.Prelude.{MembersReadBack, on_ok_weaker, subst}
+use Rattle.city_writer.proofs.tree.ReadBack.{object_reads}
+use Rattle.city_writer.proofs.tree.kept_value.KeptValue.write.Goals as goal
+
+pub returns-in_ok-begin_object-in-Few-clause-reads : goal.returns-in_ok-begin_object-in-Few-clause-reads
+returns-in_ok-begin_object-in-Few-clause-reads c =
+    on_ok_weaker c.write_few.result (λ h. rw c.in-Few.is
+    (object_reads _ c.as_slice.ensures.ordered (subst MembersReadBack c.as_slice.ensures.members h)))
+    c.write_few.ensures.reads
