@@ -1,18 +1,18 @@
 -- Members put and taken out, over one of the name or without one.
 use Rattle.city_model.proofs.Prelude.{◌≡◌, ℕ, List, true, Option, None, Some, Ordering, Less, Equal, arith}
 use Rattle.city_model.proofs.Prelude.{refl, sym, ap, ◌∙◌, slice_cmp, nat_cmp, no_members, member}
-use Rattle.city_model.proofs.Prelude.{exact_bytes, nat_list_cmp_total}
+use Rattle.city_model.proofs.Prelude.{nat_list_cmp_total, is_some, members_integral, subst}
 use Rattle.std.proofs.Common.{Greater}
 use Rattle.serde_json.specs.Data.{Data, object, Members, put}
-use Rattle.serde_json.specs.Find.{get_member}
+use Rattle.serde_json.specs.Find.{as_object, get_member}
 use Rattle.serde_json.proofs.Views.{get_member-put}
 use Rattle.city_model.specs.Attributes.{attributes, attributes_in, put_each, with_attributes, with_set, with_unset}
 use Rattle.city_model.specs.Attributes.{members_or_none}
-use Rattle.city_model.specs.Kept.{has_no_member}
-use Rattle.city_model.specs.Members.{without, without_each, members_count, AreOrdered}
-use Rattle.city_model.specs.internal.KeptIn.{with_own}
+use Rattle.city_model.specs.Kept.{has_no_member, kept_at_object}
+use Rattle.city_model.specs.Members.{without, without_each, AreOrdered}
+use Rattle.city_model.specs.internal.KeptIn.{are_attributes, with_own}
 use Rattle.std.proofs.lemmas.Cmp.{tied_itself}
-use Rattle.city_model.proofs.Ids.{same_id_itself}
+use Rattle.city_model.proofs.Ids.{same_id_itself, same_id_true}
 use Rattle.city_model.proofs.AttributeLaws.{put-without}
 use Rattle.city_model.proofs.MemberLists.{get_member-above, above_below, ordered_put, ordered_without}
 
@@ -75,12 +75,35 @@ pub put_back : (k : List ℕ) (d : Data) (ms : Members) → AreOrdered ms → ge
     → put k d (without k ms) ≡ ms
 put_back k d ms h there = put-without k d ms h ∙ put_there k d ms h there
 
--- a member of the name that no other is beside
-pub alone : (k : List ℕ) (d : Data) (ms : Members) → members_count ms ≡ 1 → get_member k ms ≡ Some d
-    → member k d no_members ≡ ms
-alone k d no_members one there = absurd (grind (arith, one))
-alone k d (member l e no_members) one there = grind (arith, exact_bytes k l)
-alone k d (member l e (member m f ms)) one there = absurd (grind (arith, one))
+-- ---- `attributes` alone
+
+object_of : (d : Data) → is_some (as_object d) ≡ true → (found : Members) × (d ≡ object found)
+object_of (object ms) is = (ms, refl)
+object_of d is = absurd (grind (arith, is))
+
+pub attributes_alone : (ms : Members) → are_attributes ms ≡ true
+    → (found : Members) × (ms ≡ member attributes (object found) no_members)
+attributes_alone (member k d no_members) is =
+    let found = object_of d (grind (arith, is)) in (
+      found.0,
+      ap (λ e. member k e no_members) found.1
+          ∙ ap (λ l. member l (object found.0) no_members) (same_id_true k attributes (grind (arith, is))),
+    )
+attributes_alone ms is = absurd (grind (arith, is))
+
+pub attributes_found : (ms : Members) → are_attributes ms ≡ true
+    → (found : Members) × (get_member attributes ms ≡ Some (object found))
+attributes_found ms is =
+    let alone = attributes_alone ms is in
+    (alone.0, ap (get_member attributes) alone.1)
+
+-- they are none of the object's own members
+pub attributes_kept : (ms : Members) → members_integral ms ≡ true → are_attributes ms ≡ true → kept_at_object ms ≡ true
+attributes_kept ms whole is =
+    let alone = attributes_alone ms is in
+    let all : members_integral (member attributes (object alone.0) no_members) ≡ true =
+    subst (λ ns. members_integral ns ≡ true) alone.1 whole in
+    subst (λ ns. kept_at_object ns ≡ true) (sym alone.1) (rw all refl)
 
 -- ---- none of the name is there
 

@@ -7,7 +7,7 @@ use Rattle.std.specs.BTreeMap.{is_at}
 use Rattle.std.specs.FinMap.{insert, remove}
 use Rattle.city_model.specs.declared.object.Object.{Object}
 use Rattle.city_model.specs.CityMap.{Objects}
-use Rattle.city_model.specs.Runs.{Change, after_change}
+use Rattle.city_model.specs.Runs.{Change}
 
 -- its write at the id: an object, a delete, or nothing. It is the first pair of the id, and `after_change` ends with
 -- the last. A change in a contract has each id once: the map after it has its write at the id, or, without one, the

@@ -1,8 +1,7 @@
 //! The kept members of an object; copies share them if they are many.
-ghost use Rattle.std.specs.Prelude.{◌≡◌, true, is_some, option_and_then, option_map, IfOk};
+ghost use Rattle.std.specs.Prelude.{◌≡◌, true, option_map, IfOk};
 ghost use Rattle.std.specs.Arc.{arc_value};
 ghost use Rattle.serde_json.specs.Data.{no_members, member, object, put};
-ghost use Rattle.serde_json.specs.Find.{as_object};
 ghost use Rattle.serde_json.specs.View.{view, members_view};
 ghost use Rattle.city_model.specs.Attributes.{attributes, attributes_in, has_attributes, with_attributes};
 ghost use Rattle.city_model.specs.Attributes.{with_set, with_unset};
@@ -17,8 +16,8 @@ use crate::copied::Copied;
 use crate::kept::extra::Extra;
 use crate::kept::few_members::FewMembers;
 use crate::kept::shared_members::SharedMembers;
-use crate::kept::site::AtObject;
-use crate::members::{copy_of, into_object, member, members_count, put, take};
+use crate::kept::site::{AtObject, are_attributes};
+use crate::members::{copy_of, into_object, member, put, take};
 use crate::text::Text;
 use serde_json::{Map, Value};
 use std::alloc::Global;
@@ -169,8 +168,7 @@ impl Copied for SharedExtra {
 fn few_of(alloc: Global, extra: Extra<AtObject>) -> Result<Storage, OutOfMemory>
     ensures { IfOk result (λ storage. kept_in storage ≡ extra) }
 {
-    let members = extra.map();
-    if members_count(members) != 1 || !is_object(member(members, "attributes")) {
+    if !are_attributes(extra.map()) {
         return Ok(Storage::Few(extra));
     }
     let mut members = extra.into_map();
@@ -181,16 +179,6 @@ fn few_of(alloc: Global, extra: Extra<AtObject>) -> Result<Storage, OutOfMemory>
         unreachable!()
     };
     Ok(Storage::Attributes(FewMembers::from_map(alloc, found)?))
-}
-
-/// Whether a member is there, and is an object.
-fn is_object(member: Option<&Value>) -> bool
-    ensures { result ≡ is_some (option_and_then as_object (option_map (λ v. view v.now) member.entry)) }
-{
-    match member {
-        None => false,
-        Some(value) => value.as_object().is_some(),
-    }
 }
 
 /// A map of these attributes alone, with copies of them.
