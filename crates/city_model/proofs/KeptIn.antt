@@ -1,7 +1,7 @@
 -- Members put and taken out, over one of the name or without one.
 use Rattle.city_model.proofs.Prelude.{◌≡◌, ℕ, List, true, Option, None, Some, Ordering, Less, Equal, arith}
 use Rattle.city_model.proofs.Prelude.{refl, sym, ap, ◌∙◌, slice_cmp, nat_cmp, no_members, member}
-use Rattle.city_model.proofs.Prelude.{nat_list_cmp_total, is_some, members_integral, subst}
+use Rattle.city_model.proofs.Prelude.{nat_list_cmp_total, is_some, members_integral, same_id, subst}
 use Rattle.std.proofs.Common.{Greater}
 use Rattle.serde_json.specs.Data.{Data, object, Members, put}
 use Rattle.serde_json.specs.Find.{as_object, get_member}
@@ -9,7 +9,7 @@ use Rattle.serde_json.proofs.Views.{get_member-put}
 use Rattle.city_model.specs.Attributes.{attributes, attributes_in, put_each, with_attributes, with_set, with_unset}
 use Rattle.city_model.specs.Attributes.{members_or_none}
 use Rattle.city_model.specs.Kept.{has_no_member, kept_at_object}
-use Rattle.city_model.specs.Members.{without, without_each, AreOrdered}
+use Rattle.city_model.specs.Members.{without, without_each, members_count, AreOrdered}
 use Rattle.city_model.specs.internal.KeptIn.{are_attributes, with_own}
 use Rattle.std.proofs.lemmas.Cmp.{tied_itself}
 use Rattle.city_model.proofs.Ids.{same_id_itself, same_id_true}
@@ -91,11 +91,24 @@ attributes_alone (member k d no_members) is =
     )
 attributes_alone ms is = absurd (grind (arith, is))
 
-pub attributes_found : (ms : Members) → are_attributes ms ≡ true
-    → (found : Members) × (get_member attributes ms ≡ Some (object found))
-attributes_found ms is =
-    let alone = attributes_alone ms is in
-    (alone.0, ap (get_member attributes) alone.1)
+module _ {ms : Members} (k : List ℕ) (d : Data) (rest : Members) (is : ms ≡ member k d rest)
+    (one : members_count ms ≡ 1) where
+  no_rest : rest ≡ no_members
+  no_rest = by rest (subst (λ ns. members_count ns ≡ 1) is one)
+    where
+      by : (ns : Members) → members_count (member k d ns) ≡ 1 → ns ≡ no_members
+      by no_members _ = refl
+      by (member l e ns) all = absurd (grind (arith, all))
+
+  -- put back, it is all of them
+  pub put_alone : (after : Members) → after ≡ put k d rest → after ≡ ms
+  put_alone after done = done ∙ ap (put k d) no_rest ∙ ap (member k d) (sym no_rest) ∙ sym is
+
+  pub attributes_only : (found : Members) → same_id k attributes ≡ true → d ≡ object found
+      → member attributes (object found) no_members ≡ ms
+  attributes_only found named object_is =
+      ap (λ l. member l (object found) no_members) (sym (same_id_true k attributes named))
+      ∙ ap (λ e. member k e no_members) (sym object_is) ∙ ap (member k d) (sym no_rest) ∙ sym is
 
 -- they are none of the object's own members
 pub attributes_kept : (ms : Members) → members_integral ms ≡ true → are_attributes ms ≡ true → kept_at_object ms ≡ true

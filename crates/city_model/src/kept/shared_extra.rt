@@ -16,8 +16,8 @@ use crate::copied::Copied;
 use crate::kept::extra::Extra;
 use crate::kept::few_members::FewMembers;
 use crate::kept::shared_members::SharedMembers;
-use crate::kept::site::{AtObject, are_attributes};
-use crate::members::{copy_of, into_object, member, put, take};
+use crate::kept::site::AtObject;
+use crate::members::{copy_of, member, members_count, put, take};
 use crate::text::Text;
 use serde_json::{Map, Value};
 use std::alloc::Global;
@@ -168,17 +168,24 @@ impl Copied for SharedExtra {
 fn few_of(alloc: Global, extra: Extra<AtObject>) -> Result<Storage, OutOfMemory>
     ensures { IfOk result (λ storage. kept_in storage ≡ extra) }
 {
-    if !are_attributes(extra.map()) {
+    if members_count(extra.map()) != 1 {
         return Ok(Storage::Few(extra));
     }
     let mut members = extra.into_map();
-    let Some(value) = take(&mut members, "attributes") else {
+    let Some((name, value)) = members.pop_first() else {
         unreachable!()
     };
-    let Some(found) = into_object(value) else {
-        unreachable!()
-    };
-    Ok(Storage::Attributes(FewMembers::from_map(alloc, found)?))
+    let is_named = name.as_str().cmp("attributes").is_eq();
+    match (is_named, value) {
+        (true, Value::Object(found)) => {
+            let few = FewMembers::from_map(alloc, found)?;
+            Ok(Storage::Attributes(few))
+        }
+        (_, value) => {
+            put(&mut members, name, value)?;
+            Ok(Storage::Few(Extra::of_kept(members)))
+        }
+    }
 }
 
 /// A map of these attributes alone, with copies of them.

@@ -94,7 +94,7 @@ impl Site for AtObject {
 }
 
 /// Whether the members are `attributes` alone, an object.
-pub(crate) fn are_attributes(members: &Map<String, Value>) -> bool
+fn are_attributes(members: &Map<String, Value>) -> bool
     ensures { result ≡ are_attributes (members_view members.now.entries) }
 {
     let mut left = members.iter();
