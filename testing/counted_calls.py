@@ -15,6 +15,8 @@ full. Each script has to commit, the two kinds that have a fault have to be refu
 - Sets on an object of 10,000 points may ask for twice the bytes of sets on one of 10, since they share its geometry.
 - A text of one long attribute may ask for 4.6 times its bytes: it is read into memory that doubles, the attribute is
   one more copy, and the model is written where the text was.
+- An object of one attribute may hold 200 bytes more at once than one without, its text among them. A map has room for
+  eleven members, which would be 848 bytes.
 - Where scripts meet, sixteen workers may take 1.5 times the processor time of one.
 - Four workers may leave their cores to wait 200 times in a run of many scripts, long ones or short.
 - Where valgrind is installed, the instructions of texts whose points would collide are counted too, and may grow six
@@ -49,6 +51,7 @@ MOST_OF_POINTS = 2
 OF_AN_EMPTY_RUN = 100
 MOST_OF_A_NEWLINE = 1.05
 MOST_OF_A_TEXT = 4.6
+OF_ONE_ATTRIBUTE = 200
 REFUSED = (growth.repeated_child, growth.open_solid)
 COLLIDING = {growth.colliding_points: 2_000, growth.colliding_replies: 500}
 FIRST_STATES = {"without a seed": growth.FIRST_STATE, "by the fixed seed": growth.FIXED_STATE}
@@ -165,6 +168,20 @@ def model_takes_the_text(program, length, *options):
     return say(asked <= MOST_OF_A_TEXT * length and committed(ran, []), f"{told}, {asked / length:.2f} times")
 
 
+def few_take_little_room(program, count, *options):
+    """Whether a few attributes are held in no more room than they need."""
+
+    def at_once(road):
+        texts = growth.model({f"r{number:06}": road for number in range(count)}), []
+        ran, (_, _, most) = program.counts(texts, *options)
+        return most, committed(ran, [])
+
+    (few, first), (many, last) = (at_once({"type": "Road", **more}) for more in ({}, {"attributes": {"n": 1}}))
+    each = (many - few) / count
+    name = f"{count:,} roads with one attribute{' by ' + ' '.join(options) if options else ''}"
+    return say(each <= OF_ONE_ATTRIBUTE and first and last, f"{name}: {each:.0f} bytes more at once for each")
+
+
 def geometries_are_shared(program, sets, edit, *options):
     """Whether edits of an object's attributes share its geometry: so many, on an object of many points and of few."""
 
@@ -240,6 +257,7 @@ def main():
             kept += [geometries_are_shared(program, 1_000, edit, *options) for options in ((), ("--watch", "1"))]
         for options in ((), ("--workers", "4"), ("--watch", "1")):
             kept += [model_takes_the_text(program, length, *options) for length in (1_000_000, 8_000_000)]
+            kept += [few_take_little_room(program, count, *options) for count in (1_000, 20_000)]
         kept += [workers_sleep(program, count, scripts) for count, scripts in ((300, 200), (900, 60))]
         kept += [workers_seldom_switch(program, count, scripts) for count, scripts in ((1_000, 100), (8, 4_000))]
         if shutil.which("valgrind") is None:
