@@ -1,8 +1,6 @@
 -- A value of JSON is written without a newline, and nests no deeper than its text is long.
-use Rattle.std.proofs.Common.{◌≡◌, ℕ, zero, suc, ◌+◌, ◌<◌, ◌≤◌, Bool, true, false, cond, ◌==◌, ◌||◌, List, [], ◌∷◌}
-use Rattle.std.proofs.Common.{◌++◌}
-use Rattle.std.proofs.Common.{length, get_or, drop, Option, Some, None, option_and_then, refl, sym, ap, ◌∙◌, arith}
-use Rattle.std.proofs.Common.{inl, inr}
+use Rattle.std.proofs.Common.{◌≡◌, ℕ, zero, suc, ◌+◌, ◌<◌, ◌≤◌, Bool, true, false, cond, ◌==◌, ◌||◌, List, [], ◌∷◌, ◌++◌}
+use Rattle.std.proofs.Common.{length, get_or, drop, Option, Some, None, option_and_then, refl, sym, ap, ◌∙◌, arith, inl, inr}
 use Rattle.std.proofs.Common.{◌&&◌, subst, length-append}
 use Rattle.std.proofs.lemmas.Bool.{eqb-true, ne_eqb, and_parts, leb-true, cases_eq, cases_lt}
 use Rattle.std.specs.Prelude.{◌≢◌}
@@ -87,8 +85,7 @@ whole_left t = left_if _ (head t == 48) (Some (drop 1 t)) _ (head_off 48 t (λ e
 
 fraction_left : (t : List ℕ) → Leaves (newlines t) (after_fraction t)
 fraction_left t = left_if _ (head t == 46) _ (Some t)
-    (λ e. subst (λ n. Leaves n (after_digits (drop 1 t))) (head_off 46 t (λ is. omega arith) e)
-    (digits_left (drop 1 t)))
+    (λ e. subst (λ n. Leaves n (after_digits (drop 1 t))) (head_off 46 t (λ is. omega arith) e) (digits_left (drop 1 t)))
     refl
 
 exponent_left : (t : List ℕ) → Leaves (newlines t) (after_exponent t)

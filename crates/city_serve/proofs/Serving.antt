@@ -1,7 +1,6 @@
 -- Output delivered from a run is served from its texts; and a property of two texts holds of the two parts of an input,
 -- if they are the parts of its bytes read.
-use Rattle.city_serve.proofs.Prelude.{◌≡◌, ◌++◌, ℕ, List, Bool, true, Option, Some, None, IfSome, sym, subst, take}
-use Rattle.city_serve.proofs.Prelude.{drop}
+use Rattle.city_serve.proofs.Prelude.{◌≡◌, ◌++◌, ℕ, List, Bool, true, Option, Some, None, IfSome, sym, subst, take, drop}
 use Rattle.city_serve.proofs.Prelude.{Vec, Appends, End, ServeFault, AreServedBy, document_part, written_by, faults_by}
 use Rattle.std.proofs.lemmas.List.{take-append-drop}
 use Rattle.city_scheduler.specs.InTurn.{AreInTurn}
@@ -12,8 +11,7 @@ use Rattle.city_serve.specs.ServedTexts.{Written, Faults, WhereAlone, AreCutShor
 use Rattle.city_serve.specs.Served.{read_of, scripts_part, IsServeFaultBy}
 
 -- a property of the bytes read holds of the input, if that is known
-pub of_known : (P : List ℕ → Type 0) (input : Option (List ℕ)) (read : List ℕ)
-    → IfSome input (λ all. read ≡ read_of all)
+pub of_known : (P : List ℕ → Type 0) (input : Option (List ℕ)) (read : List ℕ) → IfSome input (λ all. read ≡ read_of all)
     → P read → IfSome input (λ all. P (read_of all))
 of_known P None read is h = tt
 of_known P (Some all) read is h = subst P is h
