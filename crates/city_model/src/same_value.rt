@@ -37,7 +37,7 @@ pub fn same_value(value: &Value, other: &Value) -> bool
 }
 
 /// Whether two whole numbers are equal. No fraction is equal to anything.
-fn same_number(number: &Number, other: &Number) -> bool
+pub(crate) fn same_number(number: &Number, other: &Number) -> bool
     ensures { result ≡ same_number (number_view number.now) (number_view other.now) }
 {
     match (number.as_u64(), other.as_u64()) {

@@ -7,8 +7,6 @@ use crate::member_visitor::{MemberVisitor, read_object};
 use crate::object::{ObjectParts, object_of};
 use crate::text::is_name;
 use city_model::object::Body;
-use city_model::sequence::Sequence;
-use city_model::shared_ids::SharedIds;
 use city_reader::Reader;
 use std::alloc::Global;
 
@@ -40,12 +38,7 @@ pub fn read_body(alloc: Global, reader: &mut Reader<'_>, depth: usize) -> Option
     ensures { IfSome result (λ b. IsReadAs IsBody b depth reader.old reader.new) }
 {
     let start = BodyParts {
-        object: ObjectParts {
-            kind: None,
-            geometry: Sequence::new(alloc),
-            parents: SharedIds::new(alloc),
-            children: SharedIds::new(alloc),
-        },
+        object: ObjectParts::new(alloc),
     };
     let (parts, kept) = read_object(alloc, reader, depth, start)?;
     let object = object_of(alloc, parts.object, kept)?;

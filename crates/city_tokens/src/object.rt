@@ -1,14 +1,15 @@
 //! Reads city objects before points replace their positions.
 ghost use Rattle.std.specs.Prelude.{◌≡◌, ℕ, Some, IfSome};
-ghost use Rattle.serde_json.specs.Data.{Members, object};
+ghost use Rattle.serde_json.specs.Data.{Members, no_members, object};
 ghost use Rattle.serde_json.specs.View.{members_view};
 ghost use Rattle.city_tokens.specs.internal.Objects.{IsObject, IsObjectSoFar};
-ghost use Rattle.city_tokens.specs.internal.Standing.{IsArrayOf, IsReadAs, IsString};
+ghost use Rattle.city_tokens.specs.internal.Standing.{IsArrayOf, IsObjectOf, IsReadAs, IsString};
 
 use crate::list::FromTokens;
-use crate::member_visitor::{MemberVisitor, read_object as read_members};
+use crate::member_visitor::{MemberVisitor, read_object as read_all_members};
 use crate::text::{is_name, read_str};
-use city_model::kept::extra::Extra;
+use crate::value::read_members;
+use city_model::kept::few_members::FewMembers;
 use city_model::kept::shared_extra::SharedExtra;
 use city_model::object::{Body, Geometry};
 use city_model::object_type::{ObjectType, type_named};
@@ -17,6 +18,7 @@ use city_model::shared::Shared;
 use city_model::shared_ids::SharedIds;
 use city_model::text::Id;
 use city_reader::Reader;
+use json::Token;
 use serde_json::{Map, Value};
 use std::alloc::Global;
 use std::marker::Model;
@@ -28,6 +30,23 @@ pub struct ObjectParts {
     pub geometry: Sequence<Geometry>,
     pub parents: SharedIds,
     pub children: SharedIds,
+    /// The members of `attributes`, in the place that they are kept in.
+    pub attributes: Option<FewMembers>,
+}
+
+impl ObjectParts {
+    /// Before any member is read. Doesn't allocate.
+    pub fn new(alloc: Global) -> Self
+        ensures { IsObjectSoFar result no_members no_members }
+    {
+        ObjectParts {
+            kind: None,
+            geometry: Sequence::new(alloc),
+            parents: SharedIds::new(alloc),
+            children: SharedIds::new(alloc),
+            attributes: None,
+        }
+    }
 }
 
 impl MemberVisitor for ObjectParts {
@@ -52,6 +71,9 @@ impl MemberVisitor for ObjectParts {
         } else if is_name(name, "children") {
             let children = read_ids(alloc, reader, depth)?;
             self.children = children;
+        } else if is_name(name, "attributes") {
+            let attributes = read_attributes(alloc, reader, depth)?;
+            self.attributes = Some(attributes);
         } else {
             return Some(false);
         }
@@ -65,6 +87,19 @@ fn read_ids(alloc: Global, reader: &mut Reader<'_>, depth: usize) -> Option<Shar
 {
     let ids = Sequence::<Id>::from_tokens(alloc, reader, depth)?;
     SharedIds::from_sequence(alloc, ids).ok()
+}
+
+/// The next value, an object.
+fn read_attributes(alloc: Global, reader: &mut Reader<'_>, depth: usize) -> Option<FewMembers>
+    ensures { IfSome result (λ members. IsReadAs IsObjectOf members depth reader.old reader.new) }
+{
+    let Token::BeginObject = reader.next()? else {
+        return None;
+    };
+    if depth == 0 {
+        return None;
+    }
+    read_members(alloc, reader, depth - 1)
 }
 
 /// An object before points replace its positions, with a body of its own. Contracts see the object.
@@ -106,8 +141,7 @@ pub fn object_of(
         → IsObjectSoFar parts found (members_view kept.entries) → IsObject o (object found)) }
 {
     let kind = parts.kind?;
-    let extra = Extra::new(kept).ok()?;
-    let extra = SharedExtra::new(alloc, extra).ok()?;
+    let extra = SharedExtra::from_parts(alloc, kept, parts.attributes).ok()??;
     let body = Body {
         kind,
         geometry: Shared::unshared(parts.geometry),
@@ -124,12 +158,6 @@ pub fn object_of(
 pub fn read_object(alloc: Global, reader: &mut Reader<'_>, depth: usize) -> Option<UnresolvedObject>
     ensures { IfSome result (λ o. IsReadAs IsObject o depth reader.old reader.new) }
 {
-    let start = ObjectParts {
-        kind: None,
-        geometry: Sequence::new(alloc),
-        parents: SharedIds::new(alloc),
-        children: SharedIds::new(alloc),
-    };
-    let (parts, kept) = read_members(alloc, reader, depth, start)?;
+    let (parts, kept) = read_all_members(alloc, reader, depth, ObjectParts::new(alloc))?;
     object_of(alloc, parts, kept)
 }

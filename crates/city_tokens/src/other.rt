@@ -40,7 +40,7 @@ fn read_attributes(alloc: Global, reader: &mut Reader<'_>, depth: usize) -> Opti
     match opened {
         Token::BeginObject => {
             let members = read_members(alloc, reader, depth - 1)?;
-            let values = Extra::new(members).ok()?;
+            let values = Extra::new(members.into_map(alloc).ok()?).ok()?;
             Some(Other::Attributes(values))
         }
         Token::BeginArray => {

@@ -2,6 +2,7 @@
 
 pub mod kept_members;
 pub mod kept_value;
+pub mod member_value;
 pub mod text;
 pub mod triples;
 pub mod whole_numbers;

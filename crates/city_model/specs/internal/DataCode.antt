@@ -109,6 +109,15 @@ members_back ms =
     ap (λ ts. top_members (stack_of ts)) (sym (append-nil (members_tokens ms)))
     ∙ ap top_members (read_members ms [])
 
+abbrev pub top_items : List Node → Items
+top_items (I ds ∷ st) = ds
+top_items _ = no_items
+
+pub items_back : (ds : Items) → top_items (stack_of (items_tokens ds)) ≡ ds
+items_back ds =
+    ap (λ ts. top_items (stack_of ts)) (sym (append-nil (items_tokens ds)))
+    ∙ ap top_items (read_items ds [])
+
 abbrev pub coded_token : Coded Token
 coded_token = coded× coded_ℕ (coded× coded_ℕ (coded× (coded_list coded_ℕ) (coded× coded_ℤ coded_float)))
 
@@ -117,3 +126,9 @@ abbrev pub coded_members : Coded Members
 coded_members =
     code_by (List Token) (coded_list coded_token) members_tokens
     (λ ts. top_members (stack_of ts)) members_back
+
+-- and so are items
+abbrev pub coded_items : Coded Items
+coded_items =
+    code_by (List Token) (coded_list coded_token) items_tokens
+    (λ ts. top_items (stack_of ts)) items_back

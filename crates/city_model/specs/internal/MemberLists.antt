@@ -8,17 +8,17 @@ use Rattle.std.specs.declared.cmp.Ordering.TheVariants.{Less}
 use Rattle.std.specs.Ordering.{nat_cmp, is_lt}
 use Rattle.std.specs.Cmp.Lexicographic.{slice_cmp}
 use Rattle.serde_json.specs.Data.{Members, no_members, member, put}
-use Rattle.serde_json.specs.View.{view}
-use Rattle.serde_json.specs.declared.value.Value.{Value}
+use Rattle.city_model.specs.declared.kept.kept_value.KeptValue.{KeptValue}
+use Rattle.city_model.specs.internal.KeptValues.{value_data}
 use Rattle.std.specs.Prelude.{◌≡◌}
 use Rattle.city_model.specs.Members.{AllAbove}
 
 abbrev pub Entries : Type 0
-Entries = List (Arc (String Global × Value) Global)
+Entries = List (Arc (String Global × KeptValue) Global)
 
 abbrev pub entries_view : Entries → Members
 entries_view [] = no_members
-entries_view (e ∷ es) = member (string_bytes (arc_value e).0) (view (arc_value e).1) (entries_view es)
+entries_view (e ∷ es) = member (string_bytes (arc_value e).0) (value_data (arc_value e).1) (entries_view es)
 
 -- the members, and the others behind them
 abbrev pub joined : Members → Members → Members
@@ -39,9 +39,9 @@ AllBelow no_members name = Unit {0}
 AllBelow (member k d ms) name = (slice_cmp nat_cmp k name ≡ Less) × AllBelow ms name
 
 -- the members with an entry in its place, unless it is placed already
-abbrev pub pending : Bool → Arc (String Global × Value) Global → Members → Members
+abbrev pub pending : Bool → Arc (String Global × KeptValue) Global → Members → Members
 pending true e ms = ms
-pending false e ms = put (string_bytes (arc_value e).0) (view (arc_value e).1) ms
+pending false e ms = put (string_bytes (arc_value e).0) (value_data (arc_value e).1) ms
 
 -- the members before the list at this place are below the name, and the members behind it above
 pub record IsPlace (lists : List (Arc Members Global)) (name : List ℕ) (at : ℕ) : Type 0 where

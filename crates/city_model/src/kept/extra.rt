@@ -2,7 +2,6 @@
 ghost use Rattle.std.specs.Prelude.{◌≡◌, true, false, IfOk, IfErr, IsTrue, is_ok};
 
 use crate::OutOfMemory;
-use crate::integral::have_integral;
 use crate::kept::site::Site;
 use crate::kept::size::Size;
 use crate::members::{copy_of, members_count};
@@ -63,23 +62,6 @@ impl<P: Site> Extra<P> {
             })
         } else {
             Err(map)
-        }
-    }
-
-    /// The members, which the site keeps. Doesn't allocate.
-    pub(crate) fn of_kept(map: Map<String, Value>) -> Self
-        requires { P.keeps (members_view map.entries) ≡ true }
-        ensures { result ≡ members_view map.entries }
-    {
-        // (called for its contract: the names ascend)
-        let _count = members_count(&map);
-        // (called for the size)
-        let mut size = Size::new();
-        let _whole = have_integral(&map, &mut size);
-        Extra {
-            map,
-            is_large: size.is_large(),
-            site: PhantomData,
         }
     }
 

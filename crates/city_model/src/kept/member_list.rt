@@ -4,21 +4,20 @@ ghost use Rattle.std.specs.Prelude.{length, take, drop, IfOk, OnOk, if◌then◌
 ghost use Rattle.std.specs.Arc.{arc_value};
 ghost use Rattle.serde_json.specs.Data.{Members, no_members, member, put};
 ghost use Rattle.serde_json.specs.Find.{get_member};
-ghost use Rattle.serde_json.specs.View.{view, members_view};
 ghost use Rattle.city_model.specs.Kept.{has_no_member};
 ghost use Rattle.city_model.specs.Members.{without, AreOrdered};
+ghost use Rattle.city_model.specs.internal.KeptValues.{value_data};
 ghost use Rattle.city_model.specs.internal.MemberLists.{joined, entries_view, reaches, pending};
 
 use crate::OutOfMemory;
-use crate::members::put_copy_of;
-use serde_json::{Map, Value};
+use crate::kept::kept_value::KeptValue;
 use std::alloc::Global;
 use std::cmp::Ordering;
 use std::marker::Model;
 use std::sync::Arc;
 
 /// A member, shared by lists: its value may be long.
-type Entry = Arc<(String, Value)>;
+pub type Entry = Arc<(String, KeptValue)>;
 
 /// Members of a JSON object. A copy shares each of them.
 #[derive(Drop)]
@@ -35,7 +34,8 @@ impl Model for MemberList {
 
     ghost coded = { coded_members };
 
-    ghost use Rattle.city_model.specs.internal.MemberLists.{entries_view};
+    ghost use Rattle.city_model.specs.internal.KeptValues.{value_data};
+ghost use Rattle.city_model.specs.internal.MemberLists.{entries_view};
 
     ghost view = { λ a. entries_view a.entries.items };
 }
@@ -62,9 +62,16 @@ impl MemberList {
         self.entries.is_empty()
     }
 
+    /// The members by their names. Doesn't allocate.
+    pub fn entries(&self) -> &[Entry]
+        ensures { entries_view result.now ≡ self.now }
+    {
+        self.entries.as_slice()
+    }
+
     /// Adds a member at the end. If memory runs out, it is dropped.
-    pub fn push(&mut self, alloc: Global, name: String, value: Value) -> Result<(), OutOfMemory>
-        ensures { OnOk result (self.new ≡ joined self.old (member (string_bytes name) (view value) no_members)) }
+    pub fn push(&mut self, alloc: Global, name: String, value: KeptValue) -> Result<(), OutOfMemory>
+        ensures { OnOk result (self.new ≡ joined self.old (member (string_bytes name) (value_data value) no_members)) }
     {
         let entry = Arc::new(alloc, (name, value))?;
         self.entries.push(entry)?;
@@ -72,8 +79,8 @@ impl MemberList {
     }
 
     /// The value of a name. Doesn't allocate.
-    pub fn get(&self, name: &str) -> Option<&Value>
-        ensures { option_map (λ v. view v.now) result ≡ get_member name.now self.now }
+    pub fn get(&self, name: &str) -> Option<&KeptValue>
+        ensures { option_map (λ v. value_data v.now) result ≡ get_member name.now self.now }
     {
         for entry in &self.entries {
             if name.cmp(entry.0.as_str()).is_eq() {
@@ -95,8 +102,13 @@ impl MemberList {
     }
 
     /// The members, and one of this name in its place.
-    pub fn with(&self, alloc: Global, name: &str, value: &Value) -> Result<MemberList, OutOfMemory>
-        ensures { IfOk result (λ list. list ≡ put name.now (view value.now) self.now) }
+    pub fn with(
+        &self,
+        alloc: Global,
+        name: &str,
+        value: KeptValue,
+    ) -> Result<MemberList, OutOfMemory>
+        ensures { IfOk result (λ list. list ≡ put name.now (value_data value) self.now) }
     {
         let fresh = entry_of(alloc, name, value)?;
         let mut entries = Vec::with_capacity(alloc, self.entries.len())?;
@@ -126,36 +138,16 @@ impl MemberList {
         let entries = self.entries.split_off(at)?;
         Ok(MemberList { entries })
     }
-
-    /// Puts copies of the members into a map whose names all come before theirs.
-    pub fn copy_into(&self, members: &mut Map<String, Value>) -> Result<(), OutOfMemory>
-        requires { AreOrdered (joined (members_view members.old.entries) self.now) }
-        ensures { OnOk result (members_view members.new.entries ≡ joined (members_view members.old.entries) self.now) }
-    {
-        for entry in &self.entries {
-            put_copy(members, entry)?;
-        }
-        Ok(())
-    }
 }
 
-/// A copy of a member, as an entry.
-fn entry_of(alloc: Global, name: &str, value: &Value) -> Result<Entry, OutOfMemory>
+/// A member, as an entry.
+fn entry_of(alloc: Global, name: &str, value: KeptValue) -> Result<Entry, OutOfMemory>
     ensures name { IfOk result (λ e. string_bytes (arc_value e).0 ≡ name.now) }
-    ensures value { IfOk result (λ e. view (arc_value e).1 ≡ view value.now) }
+    ensures value { IfOk result (λ e. value_data (arc_value e).1 ≡ value_data value) }
 {
-    let pair = (name.to_string(alloc)?, value.clone()?);
+    let pair = (name.to_string(alloc)?, value);
     let entry = Arc::new(alloc, pair)?;
     Ok(entry)
-}
-
-/// Gives the members a copy of an entry.
-fn put_copy(members: &mut Map<String, Value>, entry: &Entry) -> Result<(), OutOfMemory>
-    ensures { OnOk result (members_view members.new.entries
-        ≡ put (string_bytes (arc_value entry.now).0) (view (arc_value entry.now).1)
-        (members_view members.old.entries)) }
-{
-    put_copy_of(members, &entry.0, &entry.1)
 }
 
 /// Adds an entry to a list, unless it has this name.

@@ -1,22 +1,24 @@
 //! The kept members of an object; copies share them if they are many.
-ghost use Rattle.std.specs.Prelude.{◌≡◌, true, option_map, IfOk};
+ghost use Rattle.std.specs.Prelude.{◌≡◌, true, option_map, IfOk, IfSome};
 ghost use Rattle.std.specs.Arc.{arc_value};
-ghost use Rattle.serde_json.specs.Data.{no_members, member, object, put};
+ghost use Rattle.serde_json.specs.Data.{object, put};
 ghost use Rattle.serde_json.specs.View.{view, members_view};
 ghost use Rattle.city_model.specs.Attributes.{attributes, attributes_in, has_attributes, with_attributes};
 ghost use Rattle.city_model.specs.Attributes.{with_set, with_unset};
 ghost use Rattle.city_model.specs.Kept.{kept_at_object};
 ghost use Rattle.city_model.specs.Members.{AreOrdered};
-ghost use Rattle.city_model.specs.internal.KeptIn.{kept_in, lent, with_own};
+ghost use Rattle.city_model.specs.internal.KeptIn.{kept_in, lent, found_integral, with_own};
 
 use crate::OutOfMemory;
-use crate::attributes::{has_attributes, put_attributes, with_set, with_unset};
+use crate::attributes::has_attributes;
 use crate::command::Attributes;
 use crate::copied::Copied;
+use crate::integral::have_integral;
 use crate::kept::extra::Extra;
 use crate::kept::few_members::FewMembers;
 use crate::kept::shared_members::SharedMembers;
-use crate::kept::site::AtObject;
+use crate::kept::site::{AtObject, Site};
+use crate::kept::size::Size;
 use crate::members::{copy_of, member, members_count, put, take};
 use crate::text::Text;
 use serde_json::{Map, Value};
@@ -26,12 +28,9 @@ use std::sync::Arc;
 
 #[derive(Drop)]
 pub(crate) enum Storage {
-    /// A copy copies them.
-    Few(Extra<AtObject>),
-    /// Nothing but `attributes`, an object of few members: what most objects keep. A copy copies
-    /// them.
-    Attributes(FewMembers),
-    /// All but `attributes`, and the attributes if they are an object.
+    /// All but `attributes`, and the attributes if they are an object. A copy copies them.
+    Few(Map<String, Value>, Option<FewMembers>),
+    /// The same. Copies share them.
     Many(Arc<Map<String, Value>>, Option<SharedMembers>),
 }
 
@@ -62,13 +61,13 @@ impl Model for SharedExtra {
     ghost invariant = { λ a. (kept_at_object (kept_in a.storage) ≡ true) × AreOrdered (kept_in a.storage) };
 }
 
-/// Members of an object: lent, or made.
+/// Members of an object, lent: those of a map, and those of `attributes` if they are apart. Its
+/// place is among the others.
 #[derive(Drop)]
 pub enum LentMembers<'a> {
-    Lent(&'a Map<String, Value>),
-    /// The members of `attributes`, which nothing is beside.
-    Attributes(&'a FewMembers),
-    Made(Map<String, Value>),
+    Together(&'a Map<String, Value>),
+    Few(&'a Map<String, Value>, &'a FewMembers),
+    Shared(&'a Map<String, Value>, &'a SharedMembers),
 }
 
 impl SharedExtra {
@@ -79,7 +78,7 @@ impl SharedExtra {
         // (called for its contract: the object keeps them)
         let _members = extra.map();
         SharedExtra {
-            storage: Storage::Few(extra),
+            storage: Storage::Few(extra.into_map(), None),
         }
     }
 
@@ -89,23 +88,40 @@ impl SharedExtra {
     {
         // (called for its contract: the object keeps them)
         let _members = extra.map();
-        let storage = if extra.is_large() {
-            many_of(alloc, extra.into_map())?
-        } else {
-            few_of(alloc, extra)?
-        };
+        let is_large = extra.is_large();
+        let storage = storage_from(alloc, extra.into_map(), is_large)?;
         Ok(SharedExtra { storage })
     }
 
-    /// The members. Fails only when out of memory, and doesn't allocate if they are few.
-    pub fn lend(&self) -> Result<LentMembers<'_>, OutOfMemory>
-        ensures members { IfOk result (λ members. lent members ≡ self.now) }
+    /// These members and `attributes`, for all copies to share if they are many; `None` if an
+    /// object doesn't keep them.
+    pub fn from_parts(
+        alloc: Global,
+        others: Map<String, Value>,
+        found: Option<FewMembers>,
+    ) -> Result<Option<Self>, OutOfMemory>
+        ensures { IfOk result (λ made. IfSome made (λ shared.
+            (shared ≡ with_own (members_view others.entries) found) × (kept_at_object shared ≡ true))) }
+    {
+        // (called for its contract: the names ascend)
+        let _count = members_count(&others);
+        let mut size = Size::new();
+        if !AtObject::admits(&others, &mut size) || !are_integral(&found, &mut size) {
+            return Ok(None);
+        }
+        let storage = storage_of(alloc, others, found, size.is_large())?;
+        let made = stored(storage);
+        Ok(Some(made))
+    }
+
+    /// The members. Doesn't allocate.
+    pub fn lend(&self) -> LentMembers<'_>
+        ensures members { lent result ≡ self.now }
         ensures kept { kept_at_object self.now ≡ true }
         ensures ordered { AreOrdered self.now }
     {
         match &self.storage {
-            Storage::Few(extra) => Ok(LentMembers::Lent(extra.map())),
-            Storage::Attributes(found) => Ok(LentMembers::Attributes(found)),
+            Storage::Few(others, found) => lend_few(others, found),
             Storage::Many(others, found) => lend_many(others, found),
         }
     }
@@ -116,10 +132,7 @@ impl SharedExtra {
         ensures { IfOk result (λ made. made ≡ option_map (with_set self.now named.now) (attributes_in self.now)) }
     {
         match &self.storage {
-            Storage::Few(extra) => shared(alloc, with_set(alloc, extra.to_map()?, named)?),
-            Storage::Attributes(found) => {
-                shared(alloc, with_set(alloc, map_of(alloc, found)?, named)?)
-            }
+            Storage::Few(others, found) => set_few(alloc, others, found, named),
             Storage::Many(others, found) => set_many(alloc, others, found, named),
         }
     }
@@ -130,10 +143,7 @@ impl SharedExtra {
         ensures { IfOk result (λ made. made ≡ option_map (with_unset self.now names.now) (attributes_in self.now)) }
     {
         match &self.storage {
-            Storage::Few(extra) => shared(alloc, with_unset(alloc, extra.to_map()?, names)?),
-            Storage::Attributes(found) => {
-                shared(alloc, with_unset(alloc, map_of(alloc, found)?, names)?)
-            }
+            Storage::Few(others, found) => unset_few(alloc, others, found, names),
             Storage::Many(others, found) => unset_many(alloc, others, found, names),
         }
     }
@@ -143,8 +153,7 @@ impl SharedExtra {
         ensures { result ≡ has_attributes self.now named.now }
     {
         match &self.storage {
-            Storage::Few(extra) => has_attributes(member(extra.map(), "attributes"), named.map()),
-            Storage::Attributes(found) => found.have(named.map()),
+            Storage::Few(others, found) => few_have(others, found, named),
             Storage::Many(others, found) => many_have(others, found, named),
         }
     }
@@ -153,9 +162,8 @@ impl SharedExtra {
 impl Copied for SharedExtra {
     fn copy(&self, alloc: Global) -> Result<SharedExtra, OutOfMemory> {
         match &self.storage {
-            Storage::Few(extra) => SharedExtra::new(alloc, extra.copy(alloc)?),
-            Storage::Attributes(found) => Ok(SharedExtra {
-                storage: Storage::Attributes(found.copy(alloc)?),
+            Storage::Few(others, found) => Ok(SharedExtra {
+                storage: Storage::Few(copy_of(others)?, found.copy(alloc)?),
             }),
             Storage::Many(others, found) => Ok(SharedExtra {
                 storage: Storage::Many(others.clone()?, found.copy(alloc)?),
@@ -164,102 +172,96 @@ impl Copied for SharedExtra {
     }
 }
 
-/// Few members as they are stored: the members of `attributes` if nothing is beside them.
-fn few_of(alloc: Global, extra: Extra<AtObject>) -> Result<Storage, OutOfMemory>
-    ensures { IfOk result (λ storage. kept_in storage ≡ extra) }
+/// Whether every number of the members is an `i64`. If so, their size is counted.
+fn are_integral(found: &Option<FewMembers>, size: &mut Size) -> bool
+    ensures { result ≡ found_integral found.now }
 {
-    if members_count(extra.map()) != 1 {
-        return Ok(Storage::Few(extra));
-    }
-    let mut members = extra.into_map();
-    let Some((name, value)) = members.pop_first() else {
-        unreachable!()
-    };
-    let is_named = name.as_str().cmp("attributes").is_eq();
-    match (is_named, value) {
-        (true, Value::Object(found)) => {
-            let few = FewMembers::from_map(alloc, found)?;
-            Ok(Storage::Attributes(few))
-        }
-        (_, value) => {
-            put(&mut members, name, value)?;
-            Ok(Storage::Few(Extra::of_kept(members)))
-        }
+    match found {
+        None => true,
+        Some(found) => found.are_integral(size),
     }
 }
 
-/// A map of these attributes alone, with copies of them.
-fn map_of(alloc: Global, found: &FewMembers) -> Result<Map<String, Value>, OutOfMemory>
-    ensures { IfOk result (λ members. members_view members.entries ≡ member attributes (object found.now) no_members) }
-{
-    let mut members = Map::new(alloc);
-    put_attributes(alloc, &mut members, found.to_map(alloc)?)?;
-    Ok(members)
-}
-
-/// The members for copies to share, if there are any.
-fn shared(alloc: Global, extra: Option<Extra<AtObject>>) -> Result<Option<SharedExtra>, OutOfMemory>
-    ensures { IfOk result (λ made. made ≡ extra) }
-{
-    match extra {
-        None => Ok(None),
-        Some(extra) => {
-            let made = SharedExtra::new(alloc, extra)?;
-            Ok(Some(made))
-        }
-    }
-}
-
-/// The members stored for copies to share.
-fn many_of(alloc: Global, members: Map<String, Value>) -> Result<Storage, OutOfMemory>
+/// Members as they are stored: `attributes` apart, if it is an object.
+fn storage_from(
+    alloc: Global,
+    members: Map<String, Value>,
+    is_large: bool,
+) -> Result<Storage, OutOfMemory>
     requires { AreOrdered (members_view members.entries) }
     ensures { IfOk result (λ storage. kept_in storage ≡ members_view members.entries) }
 {
     let mut others = members;
     match take(&mut others, "attributes") {
-        None => Ok(Storage::Many(Arc::new(alloc, others)?, None)),
-        Some(value) => {
-            let storage = many_with(alloc, others, value)?;
-            Ok(storage)
-        }
+        None => storage_of(alloc, others, None, is_large),
+        Some(value) => storage_with(alloc, others, value, is_large),
     }
 }
 
-/// Members and the value of `attributes`, stored for copies to share.
-fn many_with(
+/// Members and the value of `attributes`, as they are stored.
+fn storage_with(
     alloc: Global,
     others: Map<String, Value>,
     value: Value,
+    is_large: bool,
 ) -> Result<Storage, OutOfMemory>
     ensures { IfOk result (λ storage. kept_in storage ≡ put attributes (view value) (members_view others.entries)) }
 {
     match value {
         Value::Object(found) => {
-            let found = SharedMembers::from_map(alloc, found)?;
-            Ok(Storage::Many(Arc::new(alloc, others)?, Some(found)))
+            let found = FewMembers::from_map(alloc, found)?;
+            storage_of(alloc, others, Some(found), is_large)
         }
         odd => {
             let mut all = others;
             put(&mut all, "attributes".to_string(alloc)?, odd)?;
-            Ok(Storage::Many(Arc::new(alloc, all)?, None))
+            storage_of(alloc, all, None, is_large)
         }
     }
 }
 
-/// Many members as a map.
-fn lend_many<'a>(
-    others: &'a Map<String, Value>,
-    found: &Option<SharedMembers>,
-) -> Result<LentMembers<'a>, OutOfMemory>
-    ensures { IfOk result (λ members. lent members ≡ with_own (members_view others.now.entries) found.now) }
+/// Members and those of `attributes`, for copies to share if they are large.
+fn storage_of(
+    alloc: Global,
+    others: Map<String, Value>,
+    found: Option<FewMembers>,
+    is_large: bool,
+) -> Result<Storage, OutOfMemory>
+    ensures { IfOk result (λ storage. kept_in storage ≡ with_own (members_view others.entries) found) }
+{
+    if !is_large {
+        return Ok(Storage::Few(others, found));
+    }
+    let others = Arc::new(alloc, others)?;
+    match found {
+        None => Ok(Storage::Many(others, None)),
+        Some(found) => {
+            let found = SharedMembers::from_few(alloc, found)?;
+            Ok(Storage::Many(others, Some(found)))
+        }
+    }
+}
+
+/// Few members, lent.
+fn lend_few<'a>(others: &'a Map<String, Value>, found: &'a Option<FewMembers>) -> LentMembers<'a>
+    ensures { lent result ≡ with_own (members_view others.now.entries) found.now }
 {
     match found {
-        None => Ok(LentMembers::Lent(others)),
-        Some(found) => {
-            let mut all = copy_of(others)?;
-            put_attributes(found.allocator(), &mut all, found.to_map()?)?;
-            Ok(LentMembers::Made(all))
-        }
+        None => LentMembers::Together(others),
+        Some(found) => LentMembers::Few(others, found),
+    }
+}
+
+/// Many members, lent.
+fn lend_many<'a>(
+    others: &'a Map<String, Value>,
+    found: &'a Option<SharedMembers>,
+) -> LentMembers<'a>
+    ensures { lent result ≡ with_own (members_view others.now.entries) found.now }
+{
+    match found {
+        None => LentMembers::Together(others),
+        Some(found) => LentMembers::Shared(others, found),
     }
 }
 
@@ -274,6 +276,23 @@ fn attributes_of_many(
 {
     match found {
         Some(found) => Ok(Some(found.copy(alloc)?)),
+        None => match attributes_of_others(alloc, others)? {
+            None => Ok(None),
+            Some(own) => Ok(Some(SharedMembers::from_few(alloc, own)?)),
+        },
+    }
+}
+
+/// The attributes of few members, likewise.
+fn attributes_of_few(
+    alloc: Global,
+    others: &Map<String, Value>,
+    found: &Option<FewMembers>,
+) -> Result<Option<FewMembers>, OutOfMemory>
+    ensures { IfOk result (λ own. own ≡ attributes_in (with_own (members_view others.now.entries) found.now)) }
+{
+    match found {
+        Some(found) => Ok(Some(found.copy(alloc)?)),
         None => attributes_of_others(alloc, others),
     }
 }
@@ -282,19 +301,93 @@ fn attributes_of_many(
 fn attributes_of_others(
     alloc: Global,
     others: &Map<String, Value>,
-) -> Result<Option<SharedMembers>, OutOfMemory>
+) -> Result<Option<FewMembers>, OutOfMemory>
     ensures { IfOk result (λ own. own ≡ attributes_in (members_view others.now.entries)) }
 {
     let Some(value) = member(others, "attributes") else {
-        return Ok(Some(SharedMembers::new(alloc)));
+        return Ok(Some(FewMembers::new(alloc)));
     };
     match value.as_object() {
         None => Ok(None),
         Some(found) => {
-            let own = SharedMembers::from_map(alloc, copy_of(found)?)?;
+            let own = FewMembers::from_map(alloc, copy_of(found)?)?;
             Ok(Some(own))
         }
     }
+}
+
+/// Few members with these attributes set.
+fn set_few(
+    alloc: Global,
+    others: &Map<String, Value>,
+    found: &Option<FewMembers>,
+    named: &Attributes,
+) -> Result<Option<SharedExtra>, OutOfMemory>
+    requires kept { kept_at_object (with_own (members_view others.now.entries) found.now) ≡ true }
+    requires ordered { AreOrdered (with_own (members_view others.now.entries) found.now) }
+    ensures { IfOk result (λ made. made ≡ option_map
+        (with_set (with_own (members_view others.now.entries) found.now) named.now)
+        (attributes_in (with_own (members_view others.now.entries) found.now))) }
+{
+    let Some(own) = attributes_of_few(alloc, others, found)? else {
+        return Ok(None);
+    };
+    let set = own.with_each(alloc, named.map())?;
+    let storage = few(alloc, copy_of(others)?, set)?;
+    let made = stored(storage);
+    Ok(Some(made))
+}
+
+/// Few members without the attributes of these names.
+fn unset_few(
+    alloc: Global,
+    others: &Map<String, Value>,
+    found: &Option<FewMembers>,
+    names: &[Text],
+) -> Result<Option<SharedExtra>, OutOfMemory>
+    requires kept { kept_at_object (with_own (members_view others.now.entries) found.now) ≡ true }
+    requires ordered { AreOrdered (with_own (members_view others.now.entries) found.now) }
+    ensures { IfOk result (λ made. made ≡ option_map
+        (with_unset (with_own (members_view others.now.entries) found.now) names.now)
+        (attributes_in (with_own (members_view others.now.entries) found.now))) }
+{
+    let Some(own) = attributes_of_few(alloc, others, found)? else {
+        return Ok(None);
+    };
+    let left = own.without_each(names);
+    let storage = few_left(alloc, copy_of(others)?, left)?;
+    let made = stored(storage);
+    Ok(Some(made))
+}
+
+/// Members and their attributes; copies share them if they are many now.
+fn few(
+    alloc: Global,
+    others: Map<String, Value>,
+    own: FewMembers,
+) -> Result<Storage, OutOfMemory>
+    ensures { IfOk result (λ storage. kept_in storage ≡ put attributes (object own) (members_view others.entries)) }
+{
+    // (called for the size)
+    let mut size = Size::new();
+    let _whole = have_integral(&others, &mut size) && own.are_integral(&mut size);
+    storage_of(alloc, others, Some(own), size.is_large())
+}
+
+/// Members with these attributes, if there are any left.
+fn few_left(
+    alloc: Global,
+    mut others: Map<String, Value>,
+    left: FewMembers,
+) -> Result<Storage, OutOfMemory>
+    ensures { IfOk result (λ storage. kept_in storage
+        ≡ with_attributes (members_view others.entries) left) }
+{
+    if !left.is_empty() {
+        return few(alloc, others, left);
+    }
+    drop(take(&mut others, "attributes"));
+    Ok(Storage::Few(others, None))
 }
 
 /// Many members with these attributes set.
@@ -378,6 +471,16 @@ fn storage_left(
     let mut rest = copy_of(others)?;
     drop(take(&mut rest, "attributes"));
     Ok(Storage::Many(Arc::new(alloc, rest)?, None))
+}
+
+/// Whether few members have these attributes.
+fn few_have(others: &Map<String, Value>, found: &Option<FewMembers>, named: &Attributes) -> bool
+    ensures { result ≡ has_attributes (with_own (members_view others.now.entries) found.now) named.now }
+{
+    match found {
+        None => has_attributes(member(others, "attributes"), named.map()),
+        Some(found) => found.have(named.map()),
+    }
 }
 
 /// Whether many members have these attributes.

@@ -4,17 +4,18 @@ ghost use Rattle.std.specs.Prelude.{OnOk, IfSome, IfNone};
 ghost use Rattle.std.specs.Arc.{arc_value};
 ghost use Rattle.serde_json.specs.Data.{Members, no_members, member, put};
 ghost use Rattle.serde_json.specs.Find.{get_member};
-ghost use Rattle.serde_json.specs.View.{view, members_view};
+ghost use Rattle.serde_json.specs.View.{members_view};
 ghost use Rattle.city_model.specs.Attributes.{are_among, put_each};
 ghost use Rattle.city_model.specs.Kept.{has_no_member};
 ghost use Rattle.city_model.specs.Members.{without, without_each, AreOrdered};
+ghost use Rattle.city_model.specs.internal.KeptValues.{value_data};
 ghost use Rattle.city_model.specs.internal.MemberLists.{joined, all_joined, IsPlace};
 
 use crate::OutOfMemory;
 use crate::copied::Copied;
+use crate::kept::few_members::FewMembers;
+use crate::kept::kept_value::KeptValue;
 use crate::kept::member_list::MemberList;
-use crate::members::members_count;
-use crate::same_value::same_value;
 use crate::text::Text;
 use serde_json::{Map, Value};
 use std::alloc::Global;
@@ -23,7 +24,7 @@ use std::mem;
 use std::sync::Arc;
 
 /// A list of members, shared by objects.
-type List = Arc<MemberList>;
+pub type List = Arc<MemberList>;
 
 /// The members of a JSON object. A copy shares them, and a change copies one of the lists: an
 /// object may have many attributes, and each command that sets one writes all of them anew.
@@ -44,7 +45,8 @@ impl Model for SharedMembers {
 
     ghost coded = { coded_members };
 
-    ghost use Rattle.city_model.specs.internal.MemberLists.{all_joined};
+    ghost use Rattle.city_model.specs.internal.KeptValues.{value_data};
+ghost use Rattle.city_model.specs.internal.MemberLists.{all_joined};
 
     ghost view = { λ a. all_joined a.lists.items };
 
@@ -77,34 +79,25 @@ impl SharedMembers {
         }
     }
 
-    /// The members of a map. Takes over its values.
-    pub fn from_map(alloc: Global, map: Map<String, Value>) -> Result<Self, OutOfMemory>
-        ensures { IfOk result (λ members. members ≡ members_view map.entries) }
+    /// The members of one list. Takes over its values.
+    pub fn from_few(alloc: Global, few: FewMembers) -> Result<Self, OutOfMemory>
+        ensures { IfOk result (λ members. members ≡ few) }
     {
-        // (by its contract the names ascend)
-        let room = room_for(members_count(&map));
+        let room = room_for(few.len());
         let mut lists = Vec::new(alloc);
         let mut last = MemberList::new(alloc);
-        for (name, value) in map {
+        for (name, value) in few.into_vec() {
             push_last(alloc, &mut lists, &mut last, room, name, value)?;
         }
         closed(alloc, lists, last, room)
     }
 
-    /// The allocator of the lists.
-    pub fn allocator(&self) -> Global {
-        *self.lists.allocator()
-    }
-
-    /// The members as a map, with copies of the values.
-    pub fn to_map(&self) -> Result<Map<String, Value>, OutOfMemory>
-        ensures { IfOk result (λ map. members_view map.entries ≡ self.now) }
+    /// The lists, one behind the other. Doesn't allocate.
+    pub fn lists(&self) -> &[List]
+        ensures members { all_joined result.now ≡ self.now }
+        ensures ordered { AreOrdered self.now }
     {
-        let mut map = Map::new(self.allocator());
-        for list in &self.lists {
-            list.copy_into(&mut map)?;
-        }
-        Ok(map)
+        self.lists.as_slice()
     }
 
     /// Whether there is no member. Doesn't allocate.
@@ -120,8 +113,8 @@ impl SharedMembers {
     }
 
     /// The value of a name. Doesn't allocate.
-    pub fn get(&self, name: &str) -> Option<&Value>
-        ensures { option_map (λ v. view v.now) result ≡ get_member name.now self.now }
+    pub fn get(&self, name: &str) -> Option<&KeptValue>
+        ensures { option_map (λ v. value_data v.now) result ≡ get_member name.now self.now }
     {
         match place(self.lists.as_slice(), name) {
             Some(at) => self.lists[at].get(name),
@@ -135,7 +128,7 @@ impl SharedMembers {
     {
         for (name, value) in named.iter() {
             match self.get(name.as_str()) {
-                Some(found) if same_value(value, found) => {}
+                Some(found) if found.is_same(value) => {}
                 _ => return false,
             }
         }
@@ -143,8 +136,8 @@ impl SharedMembers {
     }
 
     /// The members, and one of this name in its place.
-    pub fn with(self, alloc: Global, name: &str, value: &Value) -> Result<Self, OutOfMemory>
-        ensures { IfOk result (λ members. members ≡ put name.now (view value.now) self) }
+    pub fn with(self, alloc: Global, name: &str, value: KeptValue) -> Result<Self, OutOfMemory>
+        ensures { IfOk result (λ members. members ≡ put name.now (value_data value) self) }
     {
         let SharedMembers { lists, room } = self;
         match place(lists.as_slice(), name) {
@@ -170,6 +163,7 @@ impl SharedMembers {
     {
         let mut members = self;
         for (name, value) in named.iter() {
+            let value = KeptValue::from_value(alloc, value.clone()?)?;
             members = members.with(alloc, name.as_str(), value)?;
         }
         Ok(members)
@@ -203,10 +197,10 @@ fn push_last(
     last: &mut MemberList,
     room: usize,
     name: String,
-    value: Value,
+    value: KeptValue,
 ) -> Result<(), OutOfMemory>
     ensures { OnOk result ((rest : Members) → joined (all_joined lists.new.items) (joined last.new rest)
-        ≡ joined (all_joined lists.old.items) (joined last.old (member (string_bytes name) (view value) rest))) }
+        ≡ joined (all_joined lists.old.items) (joined last.old (member (string_bytes name) (value_data value) rest))) }
 {
     make_room(alloc, lists, last, room)?;
     last.push(alloc, name, value)
@@ -275,10 +269,10 @@ fn put_first(
     lists: Vec<List>,
     room: usize,
     name: &str,
-    value: &Value,
+    value: KeptValue,
 ) -> Result<SharedMembers, OutOfMemory>
     requires { lists.items ≡ [] }
-    ensures { IfOk result (λ members. members ≡ put name.now (view value.now) (all_joined lists.items)) }
+    ensures { IfOk result (λ members. members ≡ put name.now (value_data value) (all_joined lists.items)) }
 {
     let list = MemberList::new(alloc).with(alloc, name, value)?;
     closed(alloc, lists, list, room)
@@ -291,11 +285,11 @@ fn put_at(
     room: usize,
     at: usize,
     name: &str,
-    value: &Value,
+    value: KeptValue,
 ) -> Result<SharedMembers, OutOfMemory>
     requires place { IsPlace lists.items name.now at }
     requires ordered { AreOrdered (all_joined lists.items) }
-    ensures { IfOk result (λ members. members ≡ put name.now (view value.now) (all_joined lists.items)) }
+    ensures { IfOk result (λ members. members ≡ put name.now (value_data value) (all_joined lists.items)) }
 {
     let list = lists[at].with(alloc, name, value)?;
     let lists = replaced(alloc, lists, room, at, list)?;

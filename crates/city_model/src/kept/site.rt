@@ -2,7 +2,6 @@
 ghost use Rattle.std.specs.Prelude.{◌≡◌, Bool, codes};
 ghost use Rattle.serde_json.specs.Data.{Members};
 ghost use Rattle.serde_json.specs.View.{view, members_view};
-ghost use Rattle.city_model.specs.internal.KeptIn.{are_attributes};
 ghost use Rattle.city_model.specs.Kept.{lacks, kept_at_top, kept_at_transform, kept_at_object, kept_at_geometry};
 ghost use Rattle.city_model.specs.Kept.{kept_at_attributes, is_empty_object_or_absent, has_location, is_located};
 ghost use Rattle.city_model.specs.Kept.{any_located, any_located_in, has_no_member};
@@ -82,26 +81,13 @@ impl Site for AtObject {
     ghost keeps = { kept_at_object };
 
     fn admits(members: &Map<String, Value>, size: &mut Size) -> bool {
-        // (most objects keep nothing but attributes, and need no search)
         have_integral(members, size)
-            && (are_attributes(members)
-                || lacks(members, "type")
-                    && lacks(members, "geometry")
-                    && lacks(members, "parents")
-                    && lacks(members, "children")
-                    && !has_location(member(members, "address")))
+            && lacks(members, "type")
+            && lacks(members, "geometry")
+            && lacks(members, "parents")
+            && lacks(members, "children")
+            && !has_location(member(members, "address"))
     }
-}
-
-/// Whether the members are `attributes` alone, an object.
-fn are_attributes(members: &Map<String, Value>) -> bool
-    ensures { result ≡ are_attributes (members_view members.now.entries) }
-{
-    let mut left = members.iter();
-    let Some((name, value)) = left.next() else {
-        return false;
-    };
-    value.as_object().is_some() && name.as_str().cmp("attributes").is_eq() && left.next().is_none()
 }
 
 impl Site for AtTop {

@@ -1,12 +1,13 @@
 -- Objects before points replace their positions.
-use Rattle.std.specs.Prelude.{◌≡◌, ℕ, List, [], ◌∷◌, Some, None, option_and_then, codes}
+use Rattle.std.specs.Prelude.{◌≡◌, ℕ, List, [], ◌∷◌, Some, None, option_map, option_and_then, codes}
 use Rattle.serde_json.specs.Data.{Data, object, Members, no_members, put}
 use Rattle.serde_json.specs.Find.{get_member, as_str}
 use Rattle.city_model.specs.declared.object.Object.{Object}
 use Rattle.city_model.specs.declared.object.Point.{Point}
 use Rattle.city_model.specs.declared.object_type.ObjectType.{ObjectType}
+use Rattle.city_model.specs.Attributes.{attributes}
 use Rattle.city_model.specs.Kept.{kept_at_object}
-use Rattle.city_model.specs.Members.{AreOrdered}
+use Rattle.city_model.specs.Members.{without, AreOrdered}
 use Rattle.city_model.specs.Shells.{body_fault}
 use Rattle.city_model.specs.Types.{type_named}
 use Rattle.city_tokens.specs.declared.object.ObjectParts.{ObjectParts}
@@ -35,8 +36,9 @@ pub record IsObjectSoFar (parts : ObjectParts) (found kept : Members) : Type 0 w
   pub geometry : IsListSlot IsGeometry parts.geometry (get_member (codes "geometry") found)
   pub parents : IsListSlot IsString parts.parents (get_member (codes "parents") found)
   pub children : IsListSlot IsString parts.children (get_member (codes "children") found)
+  pub attributes : option_map object parts.attributes ≡ get_member attributes found
   pub ordered : AreOrdered found
-  pub extra : kept ≡ without_object_members found
+  pub extra : kept ≡ without attributes (without_object_members found)
 
 -- ---- objects by their ids, as a text lists them
 

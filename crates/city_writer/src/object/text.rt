@@ -110,7 +110,7 @@ pub fn write_object(
     ensures kept { OnOk result (is_kept_object object.now ≡ true) }
 {
     let body = object.body.get();
-    let lent = body.extra.lend()?;
+    let lent = body.extra.lend();
     let mut kept = KeptMembers::of_object(&lent);
     out.begin_object()?;
     write_relatives(&mut kept, "children", object.children.iter(), out)?;

@@ -10,12 +10,12 @@ ghost use Rattle.city_writer.specs.internal.tree.Parted.{begins_before, members_
 ghost use Rattle.city_writer.specs.internal.tree.PartTokens.{tokens_of_members};
 ghost use Rattle.city_writer.specs.internal.tree.ReadsBack.{MembersReadBack};
 
-use crate::tree::kept_value::KeptValue;
+use crate::tree::member_value::MemberValue;
 use city_model::OutOfMemory;
-use city_model::kept::few_members::FewMembers;
 use city_model::kept::shared_extra::LentMembers;
 use json::Writer;
 use serde_json::{Map, Value};
+use std::cmp::Ordering;
 use std::collections::btree_map::Iter;
 use std::marker::Model;
 
@@ -24,9 +24,11 @@ use std::marker::Model;
 /// Most objects keep one or none, so the calls are short, and are inlined.
 #[derive(Drop)]
 pub struct KeptMembers<'a> {
-    first: Option<(&'a str, KeptValue<'a>)>,
-    /// The others, if they may be some.
-    others: Option<Iter<'a, String, Value>>,
+    /// One that is in its place among the others.
+    own: Option<(&'a str, MemberValue<'a>)>,
+    /// The first of the others.
+    first: Option<(&'a str, &'a Value)>,
+    others: Iter<'a, String, Value>,
 }
 
 impl<'a> Model for KeptMembers<'a> {
@@ -40,23 +42,24 @@ impl<'a> Model for KeptMembers<'a> {
 
     ghost use Rattle.std.specs.Prelude.{◌≡◌, IfNone, true};
     ghost use Rattle.serde_json.specs.Data.{no_members};
+    ghost use Rattle.serde_json.specs.View.{members_view};
     ghost use Rattle.city_model.specs.Integral.{members_integral};
-    ghost use Rattle.city_writer.specs.internal.tree.MembersLeft.{members_left, others_left};
+    ghost use Rattle.city_writer.specs.internal.tree.MembersLeft.{members_left, with_first};
 
-    ghost view = { λ a. members_left a.first (others_left a.others) };
+    ghost view = { λ a. members_left a.own a.first a.others };
 
-    ghost invariant = { λ a. IfNone a.first (others_left a.others ≡ no_members)
-        × (members_integral (members_left a.first (others_left a.others)) ≡ true) };
+    ghost invariant = { λ a. IfNone a.first (members_view a.others ≡ no_members)
+        × (members_integral (members_left a.own a.first a.others) ≡ true) };
 }
 
 /// Takes the first of these members.
 #[inline(always)]
-fn take_first<'a>(members: &mut Option<Iter<'a, String, Value>>) -> Option<(&'a str, KeptValue<'a>)>
-    ensures taken { members_left result (others_left members.new) ≡ others_left members.old }
-    ensures none { IfNone result (others_left members.new ≡ no_members) }
+fn take_first<'a>(members: &mut Iter<'a, String, Value>) -> Option<(&'a str, &'a Value)>
+    ensures taken { with_first result (members_view members.new) ≡ members_view members.old }
+    ensures none { IfNone result (members_view members.new ≡ no_members) }
 {
-    let (name, value) = members.as_mut()?.next()?;
-    Some((name.as_str(), KeptValue::Any(value)))
+    let (name, value) = members.next()?;
+    Some((name.as_str(), value))
 }
 
 impl<'a> KeptMembers<'a> {
@@ -65,19 +68,26 @@ impl<'a> KeptMembers<'a> {
         requires integral { members_integral (members_view map.now.entries) ≡ true }
         ensures { result ≡ members_view map.now.entries }
     {
-        let mut others = Some(map.iter());
+        let mut others = map.iter();
         let first = take_first(&mut others);
-        KeptMembers { first, others }
+        KeptMembers {
+            own: None,
+            first,
+            others,
+        }
     }
 
-    /// The member of this name alone, an object of `i64` numbers.
-    fn alone(name: &'a str, members: &'a FewMembers) -> Self
-        requires integral { members_integral members.now ≡ true }
-        ensures { result ≡ member name.now (object members.now) no_members }
+    /// All members of a map, and one of this name and value in its place, `i64` their numbers.
+    fn beside(map: &'a Map<String, Value>, name: &'a str, value: MemberValue<'a>) -> Self
+        requires integral { members_integral (put name.now (value_of value) (members_view map.now.entries)) ≡ true }
+        ensures { result ≡ put name.now (value_of value) (members_view map.now.entries) }
     {
+        let mut others = map.iter();
+        let first = take_first(&mut others);
         KeptMembers {
-            first: Some((name, KeptValue::Few(members))),
-            others: None,
+            own: Some((name, value)),
+            first,
+            others,
         }
     }
 
@@ -86,12 +96,15 @@ impl<'a> KeptMembers<'a> {
         requires integral { members_integral (lent members.now) ≡ true }
         ensures { result ≡ lent members.now }
     {
-        let members = match members {
-            LentMembers::Attributes(found) => return KeptMembers::alone("attributes", found),
-            LentMembers::Lent(members) => members,
-            LentMembers::Made(members) => members,
-        };
-        KeptMembers::new(members)
+        match members {
+            LentMembers::Together(members) => KeptMembers::new(members),
+            LentMembers::Few(others, found) => {
+                KeptMembers::beside(others, "attributes", MemberValue::Few(found))
+            }
+            LentMembers::Shared(others, found) => {
+                KeptMembers::beside(others, "attributes", MemberValue::Shared(found))
+            }
+        }
     }
 
     /// Whether one is left with a name before this one.
@@ -99,26 +112,46 @@ impl<'a> KeptMembers<'a> {
     fn begin_before(&self, name: &str) -> bool
         ensures { result ≡ begins_before name.now self.now }
     {
-        match self.first {
+        (match self.own {
+            None => false,
+            Some((own, _)) => own.cmp(name).is_lt(),
+        }) || (match self.first {
             None => false,
             Some((first, _)) => first.cmp(name).is_lt(),
-        }
+        })
+    }
+
+    /// Takes the first of the others.
+    #[inline(always)]
+    fn take_other(&mut self) -> Option<(&'a str, MemberValue<'a>)> {
+        let (name, value) = self.first?;
+        self.first = take_first(&mut self.others);
+        Some((name, MemberValue::Any(value)))
     }
 
     /// Takes the first one left.
     #[inline(always)]
-    fn take(&mut self) -> Option<(&'a str, KeptValue<'a>)>
+    fn take(&mut self) -> Option<(&'a str, MemberValue<'a>)>
         ensures { MatchOption result ((self.old ≡ no_members) × (self.new ≡ no_members))
             (λ m. (self.old ≡ member m.0.now (value_of m.1) self.new) × (is_integral (value_of m.1) ≡ true)) }
     {
-        let taken = self.first?;
-        self.first = take_first(&mut self.others);
-        Some(taken)
+        let Some((own, value)) = self.own else {
+            return self.take_other();
+        };
+        if let Some((first, _)) = self.first {
+            match first.cmp(own) {
+                Ordering::Less => return self.take_other(),
+                Ordering::Equal => self.first = take_first(&mut self.others),
+                Ordering::Greater => {}
+            }
+        }
+        self.own = None;
+        Some((own, value))
     }
 
     /// Takes the first one left, if its name comes before this one.
     #[inline(always)]
-    fn take_before(&mut self, name: &str) -> Option<(&'a str, KeptValue<'a>)>
+    fn take_before(&mut self, name: &str) -> Option<(&'a str, MemberValue<'a>)>
         ensures { MatchOption result
             ((self.new ≡ self.old) × (members_before name.now self.old ≡ no_members)
             × (members_from name.now self.old ≡ self.old))

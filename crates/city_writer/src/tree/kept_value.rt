@@ -1,53 +1,65 @@
-//! Writes the value of a kept member.
+//! Writes kept JSON values from their lists.
 ghost use Rattle.std.specs.Prelude.{◌≡◌, ◌++◌, OnOk, true};
-ghost use Rattle.serde_json.specs.View.{members_view};
-ghost use Rattle.city_model.specs.Integral.{is_integral, members_integral};
-ghost use Rattle.city_writer.specs.internal.tree.MembersLeft.{value_of};
-ghost use Rattle.city_writer.specs.internal.tree.PartTokens.{closing_members};
-ghost use Rattle.city_writer.specs.internal.tree.ReadsBack.{ReadsBack, MembersReadBack};
+ghost use Rattle.city_model.specs.Integral.{is_integral, items_integral, members_integral};
+ghost use Rattle.city_model.specs.internal.KeptValues.{value_data, items_data, members_data};
+ghost use Rattle.city_writer.specs.internal.tree.PartTokens.{closing_items, closing_members};
+ghost use Rattle.city_writer.specs.internal.tree.ReadsBack.{ReadsBack, ItemsReadBack, MembersReadBack};
 ghost use Rattle.city_writer.specs.tree.Tokens.{tokens_of};
 
-use crate::tree::text::write_value;
+use crate::tree::text::write_number;
 use city_model::OutOfMemory;
-use city_model::kept::few_members::FewMembers;
+use city_model::kept::kept_value::KeptValue;
 use json::Writer;
-use serde_json::Value;
 
-/// The value of a kept member: any, or an object of few members.
-#[derive(Clone, Copy, Drop)]
-pub enum KeptValue<'a> {
-    Any(&'a Value),
-    Few(&'a FewMembers),
-}
-
-impl KeptValue<'_> {
-    /// Writes the value, of `i64` numbers.
-    pub fn write(&self, out: &mut Writer) -> Result<(), OutOfMemory>
-        requires integral { is_integral (value_of self.now) ≡ true }
-        ensures before { OnOk result (out.new.before ≡ out.old.before) }
-        ensures tokens { OnOk result (out.new.tokens ≡ out.old.tokens ++ tokens_of (value_of self.now)) }
-        ensures reads { OnOk result (ReadsBack (value_of self.now)) }
-    {
-        match self {
-            KeptValue::Any(value) => write_value(value, out),
-            KeptValue::Few(members) => {
-                out.begin_object()?;
-                write_few(members.as_slice(), out)
-            }
+/// Writes a value of `i64` numbers.
+#[cycle(write)]
+pub fn write_kept(value: &KeptValue, out: &mut Writer) -> Result<(), OutOfMemory>
+    requires integral { is_integral (value_data value.now) ≡ true }
+    ensures before { OnOk result (out.new.before ≡ out.old.before) }
+    ensures tokens { OnOk result (out.new.tokens ≡ out.old.tokens ++ tokens_of (value_data value.now)) }
+    ensures reads { OnOk result (ReadsBack (value_data value.now)) }
+{
+    match value {
+        KeptValue::Null => out.null(),
+        KeptValue::Bool(b) => out.boolean(*b),
+        KeptValue::Number(n) => write_number(n, out),
+        KeptValue::String(s) => out.string(s.as_str()),
+        KeptValue::Array(items) => {
+            out.begin_array()?;
+            write_items(items.as_slice(), out)
+        }
+        KeptValue::Object(members) => {
+            out.begin_object()?;
+            write_members(members.as_slice(), out)
         }
     }
 }
 
-/// Writes the members, and the closing brace.
-fn write_few(members: &[(String, Value)], out: &mut Writer) -> Result<(), OutOfMemory>
-    requires integral { members_integral (members_view members.now) ≡ true }
+/// Writes the items, and the closing bracket.
+#[cycle(write)]
+fn write_items(items: &[KeptValue], out: &mut Writer) -> Result<(), OutOfMemory>
+    requires integral { items_integral (items_data items.now) ≡ true }
     ensures before { OnOk result (out.new.before ≡ out.old.before) }
-    ensures tokens { OnOk result (out.new.tokens ≡ out.old.tokens ++ closing_members (members_view members.now)) }
-    ensures reads { OnOk result (MembersReadBack (members_view members.now)) }
+    ensures tokens { OnOk result (out.new.tokens ≡ out.old.tokens ++ closing_items (items_data items.now)) }
+    ensures reads { OnOk result (ItemsReadBack (items_data items.now)) }
+{
+    for item in items {
+        write_kept(item, out)?;
+    }
+    out.end_array()
+}
+
+/// Writes the members, and the closing brace.
+#[cycle(write)]
+pub fn write_members(members: &[(String, KeptValue)], out: &mut Writer) -> Result<(), OutOfMemory>
+    requires integral { members_integral (members_data members.now) ≡ true }
+    ensures before { OnOk result (out.new.before ≡ out.old.before) }
+    ensures tokens { OnOk result (out.new.tokens ≡ out.old.tokens ++ closing_members (members_data members.now)) }
+    ensures reads { OnOk result (MembersReadBack (members_data members.now)) }
 {
     for (key, member) in members {
         out.key(key.as_str())?;
-        write_value(member, out)?;
+        write_kept(member, out)?;
     }
     out.end_object()
 }

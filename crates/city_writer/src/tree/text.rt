@@ -15,7 +15,7 @@ use json::Writer;
 use serde_json::{Map, Number, Value};
 
 /// Writes an `i64` number.
-fn write_number(n: &Number, out: &mut Writer) -> Result<(), OutOfMemory>
+pub fn write_number(n: &Number, out: &mut Writer) -> Result<(), OutOfMemory>
     requires integral { is_integral (number (number_view n.now)) ≡ true }
     ensures before { OnOk result (out.new.before ≡ out.old.before) }
     ensures tokens { OnOk result (out.new.tokens

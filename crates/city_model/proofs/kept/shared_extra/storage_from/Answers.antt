@@ -3,7 +3,7 @@ use Rattle.serde_json.specs.Data.{put}
 use Rattle.serde_json.specs.View.{view}
 use Rattle.city_model.specs.Attributes.{attributes}
 use Rattle.city_model.proofs.KeptIn.{without_absent, put_back}
-use Rattle.city_model.proofs.kept.shared_extra.many_of.Goals as goal
+use Rattle.city_model.proofs.kept.shared_extra.storage_from.Goals as goal
 
 pub returns-in_ok-new-in-None : goal.returns-in_ok-new-in-None
 returns-in_ok-new-in-None c =

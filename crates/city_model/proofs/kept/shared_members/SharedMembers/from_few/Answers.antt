@@ -2,7 +2,7 @@ use Rattle.city_model.proofs.Prelude.{◌≡◌, rules, subst, sym, members_view
 use Rattle.city_model.specs.Members.{AreOrdered}
 use Rattle.city_model.specs.internal.MemberLists.{all_joined, joined}
 use Rattle.city_model.proofs.MemberLists.{joined-none}
-use Rattle.city_model.proofs.kept.shared_members.SharedMembers.from_map.Goals as goal
+use Rattle.city_model.proofs.kept.shared_members.SharedMembers.from_few.Goals as goal
 
 pub closed-requires : goal.closed-requires
 closed-requires c =

@@ -2,7 +2,7 @@ use Rattle.city_model.proofs.Prelude.{◌≡◌, ◌∙◌, members_view, no_mem
 use Rattle.city_model.specs.Members.{AreOrdered}
 use Rattle.city_model.specs.internal.MemberLists.{joined}
 use Rattle.city_model.proofs.MemberLists.{joined-none, pair_last}
-use Rattle.city_model.proofs.kept.few_members.FewMembers.from_map.Goals as goal
+use Rattle.city_model.proofs.kept.+from.Goals as goal
 
 pub loop-name-preserved : goal.loop-name-preserved
 loop-name-preserved c = search (rules, pair_last)

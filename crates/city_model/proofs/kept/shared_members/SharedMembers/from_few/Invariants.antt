@@ -1,6 +1,6 @@
 use Rattle.city_model.proofs.Prelude.{◌≡◌, members_view}
 use Rattle.city_model.specs.internal.MemberLists.{all_joined, joined}
-use Rattle.city_model.proofs.kept.shared_members.SharedMembers.from_map.Given as goal
+use Rattle.city_model.proofs.kept.shared_members.SharedMembers.from_few.Given as goal
 
 abbrev pub invariant-loop-name : goal.invariant-loop-name
 invariant-loop-name l =

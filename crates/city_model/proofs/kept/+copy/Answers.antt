@@ -3,7 +3,7 @@ use Rattle.std.proofs.lemmas.List.{drop_all}
 use Rattle.city_model.specs.Members.{AreOrdered}
 use Rattle.city_model.specs.internal.MemberLists.{joined}
 use Rattle.city_model.proofs.MemberLists.{joined-none, next_pair_pushed}
-use Rattle.city_model.proofs.kept.few_members.FewMembersCopied.copy.Goals as goal
+use Rattle.city_model.proofs.kept.+copy.Goals as goal
 
 pub loop-name-preserved : goal.loop-name-preserved
 loop-name-preserved c =

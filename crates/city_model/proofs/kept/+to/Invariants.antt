@@ -1,6 +1,6 @@
 use Rattle.city_model.proofs.Prelude.{◌≡◌, drop, members_view}
 use Rattle.city_model.specs.internal.MemberLists.{joined}
-use Rattle.city_model.proofs.kept.few_members.FewMembers.to_map.Given as goal
+use Rattle.city_model.proofs.kept.+to.Given as goal
 
 abbrev pub invariant-loop-name : goal.invariant-loop-name
 invariant-loop-name l =
