@@ -10,9 +10,8 @@ use Rattle.std.specs.declared.sync.Arc.{Arc}
 use Rattle.city_model.specs.Kept.{has_no_member}
 use Rattle.std.proofs.lemmas.List.{take-append-drop, drop_more}
 use Rattle.serde_json.specs.Data.{Data, Members, put}
-use Rattle.serde_json.specs.View.{view, members_view}
-use Rattle.serde_json.proofs.Views.{Entry}
-use Rattle.serde_json.specs.declared.value.Value.{Value}
+use Rattle.city_model.specs.declared.kept.kept_value.KeptValue.{KeptValue}
+use Rattle.city_model.specs.internal.KeptValues.{value_data}
 use Rattle.serde_json.specs.Find.{get_member}
 use Rattle.city_model.specs.Members.{without, AllAbove, AreOrdered}
 use Rattle.city_model.specs.internal.MemberLists.{Entries, entries_view, joined, reaches, AllBelow}
@@ -36,9 +35,9 @@ pub split_entries : (es : Entries) (n : ℕ) → joined (entries_view (take n es
 split_entries es n = sym (entries_view-append (take n es) (drop n es)) ∙ ap entries_view (take-append-drop n es)
 
 -- an entry behind others
-pub entry_last : (es : Entries) (e : Arc (String Global × Value) Global) (ms : Members)
+pub entry_last : (es : Entries) (e : Arc (String Global × KeptValue) Global) (ms : Members)
     → joined (entries_view (es ++ e ∷ [])) ms
-    ≡ joined (entries_view es) (member (string_bytes (arc_value e).0) (view (arc_value e).1) ms)
+    ≡ joined (entries_view es) (member (string_bytes (arc_value e).0) (value_data (arc_value e).1) ms)
 entry_last [] e ms = refl
 entry_last (x ∷ es) e ms = grind (arith, entry_last es e ms)
 
@@ -227,47 +226,6 @@ put_last k d no_members ns h = refl
 put_last k d (member l e ms) ns h =
     rw (turned l k (above_right l ms (member k d ns) h.0).0) (ap (member l e) (put_last k d ms ns h.1))
 
--- the next member is put behind the others
-pub put_next : (k : List ℕ) (d : Data) (next after old new : Members) → next ≡ member k d after
-    → AreOrdered (joined old next) → new ≡ put k d old → joined new after ≡ joined old next
-put_next k d next after old new is ordered done =
-    ap (λ ms. joined ms after) done ∙ put_last k d old after (subst (λ ms. AreOrdered (joined old ms)) is ordered)
-    ∙ ap (joined old) (sym is)
-
-pub next_put : (es : Entries) (i : ℕ) (e : Arc (String Global × Value) Global) (old new : Members) → i < length es
-    → e ≡ get_or es i e → AreOrdered (joined old (entries_view (drop i es)))
-    → new ≡ put (string_bytes (arc_value e).0) (view (arc_value e).1) old
-    → joined new (entries_view (drop (i + 1) es)) ≡ joined old (entries_view (drop i es))
-next_put es i e old new within is =
-    put_next _ _ _ (entries_view (drop (i + 1) es)) old new
-    (ap entries_view (drop_more es i e within ∙ ap (λ x. x ∷ drop (i + 1) es) (sym is)))
-
--- ---- members as pairs
-
--- a pair behind others
-pub pair_last : (es : List Entry) (e : Entry) (ms : Members)
-    → joined (members_view (es ++ e ∷ [])) ms ≡ joined (members_view es) (member (string_bytes e.0) (view e.1) ms)
-pair_last [] e ms = refl
-pair_last (x ∷ es) e ms = grind (arith, pair_last es e ms)
-
-next_pair : (es : List Entry) (i : ℕ) (e : Entry) → i < length es → e ≡ get_or es i e
-    → members_view (drop i es) ≡ member (string_bytes e.0) (view e.1) (members_view (drop (i + 1) es))
-next_pair es i e within is = ap members_view (drop_more es i e within ∙ ap (λ x. x ∷ drop (i + 1) es) (sym is))
-
--- the next pair is put behind the others
-pub next_pair_put : (es : List Entry) (i : ℕ) (e : Entry) (old new : Members) → i < length es → e ≡ get_or es i e
-    → AreOrdered (joined old (members_view (drop i es))) → new ≡ put (string_bytes e.0) (view e.1) old
-    → joined new (members_view (drop (i + 1) es)) ≡ joined old (members_view (drop i es))
-next_pair_put es i e old new within is = put_next _ _ _ _ old new (next_pair es i e within is)
-
--- a copy of the next pair is pushed behind the others
-pub next_pair_pushed : (xs es : List Entry) (i : ℕ) (e copy : Entry) → i < length es → e ≡ get_or es i e
-    → string_bytes copy.0 ≡ string_bytes e.0 → view copy.1 ≡ view e.1
-    → joined (members_view (xs ++ copy ∷ [])) (members_view (drop (i + 1) es))
-    ≡ joined (members_view xs) (members_view (drop i es))
-next_pair_pushed xs es i e copy within is name value =
-    pair_last xs copy _ ∙ ap (joined (members_view xs)) (rw (name, value) (sym (next_pair es i e within is)))
-
 -- ---- the last name says whether a name is reached
 
 -- if k isn't below the name, nor is l, above k
@@ -280,7 +238,7 @@ kept_reached name k l below not_less = at (slice_cmp nat_cmp l name) refl
     at Equal is = rw is refl
     at Greater is = rw is refl
 
-above_last : (k : List ℕ) (es : Entries) (e : Arc (String Global × Value) Global) → 0 < length es
+above_last : (k : List ℕ) (es : Entries) (e : Arc (String Global × KeptValue) Global) → 0 < length es
     → e ≡ get_or es (length es - 1) e → AllAbove k (entries_view es)
     → slice_cmp nat_cmp k (string_bytes (arc_value e).0) ≡ Less
 above_last k [] e some is h = absurd (omega arith)
@@ -292,7 +250,7 @@ reaches_more : (b c : Bool) (x y name : List ℕ) (rest : Bool) → is_lt (slice
 reaches_more true c x y name rest is h g = h
 reaches_more false c x y name rest is h g = sym (g refl)
 
-pub reaches_last : (name : List ℕ) (es : Entries) (e : Arc (String Global × Value) Global) → 0 < length es
+pub reaches_last : (name : List ℕ) (es : Entries) (e : Arc (String Global × KeptValue) Global) → 0 < length es
     → e ≡ get_or es (length es - 1) e → AreOrdered (entries_view es)
     → reaches (entries_view es) name ≡ not (is_lt (slice_cmp nat_cmp (string_bytes (arc_value e).0) name))
 reaches_last name [] e some is h = absurd (omega arith)

@@ -5,6 +5,7 @@ pub mod ChunkSearch
 pub mod DataCode
 pub mod Faultless
 pub mod KeptIn
+pub mod KeptSizes
 pub mod KeptValues
 pub mod MemberLists
 pub mod Plans

@@ -1,9 +1,9 @@
 -- What kept values stand for.
-use Rattle.std.specs.Prelude.{ℕ, suc, ◌+◌, ◌≤◌, List, [], ◌∷◌, string_bytes, String}
+use Rattle.std.specs.Prelude.{ℕ, suc, ◌+◌, List, [], ◌∷◌, map, string_bytes, String}
 use Rattle.std.specs.declared.alloc.Global.{Global}
 use Rattle.serde_json.specs.Data.{Data, null, boolean, number, string, array, object}
 use Rattle.serde_json.specs.Data.{Items, no_items, item, Members, no_members, member}
-use Rattle.serde_json.specs.View.{number_view}
+use Rattle.serde_json.specs.View.{number_view, items_of}
 use Rattle.city_model.specs.declared.kept.kept_value.KeptValue.{KeptValue}
 use Rattle.city_model.specs.declared.kept.kept_value.KeptValue.TheVariants.{Null, Bool, Number, String as Text, Array, Object}
 use Rattle.city_model.specs.declared.kept.members_builder.MembersBuilder.{MembersBuilder}
@@ -18,8 +18,7 @@ value_data (Array items) = array items
 value_data (Object members) = object members
 
 abbrev pub items_data : List KeptValue → Items
-items_data [] = no_items
-items_data (v ∷ vs) = item (value_data v) (items_data vs)
+items_data vs = items_of (map value_data vs)
 
 abbrev pub members_data : List (String Global × KeptValue) → Members
 members_data [] = no_members
@@ -39,13 +38,6 @@ abbrev mutual
   pub members_size : Members → ℕ
   members_size no_members = 0
   members_size (member k d ms) = data_size d + members_size ms
-
--- a value inside others counts with them
-pub most_items : (vs : List KeptValue) → most (λ v. deep-KeptValue v) vs ≤ items_size (items_data vs)
-most_items vs = ?
-
-pub most_members : (ms : List (String Global × KeptValue)) → most (λ m. deep-KeptValue m.1) ms ≤ members_size (members_data ms)
-most_members ms = ?
 
 -- members put in one by one
 abbrev pub members_built : MembersBuilder → Members

@@ -40,7 +40,7 @@ impl Model for FewMembers {
 
     ghost coded = { coded_members };
 
-    ghost use Rattle.city_model.specs.internal.KeptValues.{members_data, members_size, most_members};
+    ghost use Rattle.city_model.specs.internal.KeptValues.{members_data, members_size};
 
     ghost view = { λ a. members_data a.members.items };
 
@@ -50,7 +50,10 @@ impl Model for FewMembers {
 
     ghost size = { members_size };
 
-    ghost size_decreases = { λ a h. most_members a.members.items };
+    ghost use Rattle.std.proofs.Common.{arith};
+    ghost use Rattle.city_model.specs.internal.KeptSizes.{most_members};
+
+    ghost size_decreases = { λ a h. most_members _ (λ m. Prim.omega arith) a.members.items };
 }
 
 impl FewMembers {
@@ -230,9 +233,9 @@ impl FewMembers {
     pub(crate) fn are_same(&self, map: &Map<String, Value>) -> bool
         ensures { result ≡ same_members (members_view map.now.entries) self.now }
     {
-        let mut left = self.members.iter();
-        for (name, value) in map.iter() {
-            let Some((other, found)) = left.next() else {
+        let mut left = map.iter();
+        for (other, found) in &self.members {
+            let Some((name, value)) = left.next() else {
                 return false;
             };
             if name != other || !found.is_same(value) {

@@ -28,11 +28,13 @@ impl Model for KeptItems {
 
     ghost coded = { coded_items };
 
-    ghost use Rattle.city_model.specs.internal.KeptValues.{items_data, items_size, most_items};
+    ghost use Rattle.city_model.specs.internal.KeptValues.{items_data, items_size};
 
     ghost view = { λ a. items_data a.items.items };
 
     ghost size = { items_size };
+
+    ghost use Rattle.city_model.specs.internal.KeptSizes.{most_items};
 
     ghost size_decreases = { λ a h. most_items a.items.items };
 }
