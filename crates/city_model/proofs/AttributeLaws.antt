@@ -92,7 +92,7 @@ put_elsewhere : (name : List ℕ) (d : Data) (ms : Members) → same_id name att
 put_elsewhere name d ms apart =
     get_member-put_other name attributes d ms (λ e. false≢true (sym apart ∙ same_id_of_equal name attributes e))
 
-kept_with : (extra found : Members) → kept_at_object extra ≡ true → members_integral found ≡ true
+pub kept_with : (extra found : Members) → kept_at_object extra ≡ true → members_integral found ≡ true
     → kept_at_object (put attributes (object found) extra) ≡ true
 kept_with extra found kept whole =
     kept_like extra _ (members_integral-put attributes (object found) extra whole (whole_of extra kept))

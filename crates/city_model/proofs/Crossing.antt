@@ -3,6 +3,7 @@ use denote.Param.Send.{IsSend, IsSync, sendable}
 use Rattle.std.proofs.Crossing as values
 use Rattle.std.proofs.MapsCrossing as maps
 use Rattle.serde_json.proofs.value.Value.TheLaws.TheKnot as json
+use Rattle.city_model.proofs.kept.few_members.FewMembers.TheLaws.TheKnot as kept
 use Rattle.city_model.proofs.object.Shape.TheSendSync as shape
 use Rattle.city_model.proofs.object_type.ObjectType.TheSendSync as object_type
 use Rattle.city_model.specs.contracts.change.Change as Change
@@ -31,10 +32,10 @@ geometry_syncs =
 
 -- the kept members of an object, list by list
 list_sends : IsSend MemberList.the_field.row
-list_sends = search (maps.crosses, values.crosses, json.crosses, sendable) depth 60 fits 20000
+list_sends = search (values.crosses, kept.crosses, sendable) depth 60 fits 20000
 
 list_syncs : IsSync MemberList.the_field.row
-list_syncs = search (maps.crosses, values.crosses, json.crosses, sendable) depth 60 fits 20000
+list_syncs = search (values.crosses, kept.crosses, sendable) depth 60 fits 20000
 
 members_sends : IsSend SharedMembers.the_field.row
 members_sends = search (list_sends, list_syncs, values.crosses, sendable) depth 60 fits 20000
@@ -44,11 +45,11 @@ members_syncs = search (list_sends, list_syncs, values.crosses, sendable) depth 
 
 pub extra_sends : IsSend SharedExtra.the_field.row
 extra_sends =
-    search (members_sends, members_syncs, maps.crosses, values.crosses, json.crosses, sendable) depth 60 fits 20000
+    search (members_sends, members_syncs, maps.crosses, values.crosses, json.crosses, kept.crosses, sendable) depth 60 fits 20000
 
 pub extra_syncs : IsSync SharedExtra.the_field.row
 extra_syncs =
-    search (members_sends, members_syncs, maps.crosses, values.crosses, json.crosses, sendable) depth 60 fits 20000
+    search (members_sends, members_syncs, maps.crosses, values.crosses, json.crosses, kept.crosses, sendable) depth 60 fits 20000
 
 pub body_sends : IsSend Body.the_field.row
 body_sends = search (

@@ -10,10 +10,10 @@ use Rattle.city_model.specs.Attributes.{attributes, attributes_in, put_each, wit
 use Rattle.city_model.specs.Attributes.{members_or_none}
 use Rattle.city_model.specs.Kept.{has_no_member, kept_at_object}
 use Rattle.city_model.specs.Members.{without, without_each, members_count, AreOrdered}
-use Rattle.city_model.specs.internal.KeptIn.{are_attributes, with_own}
+use Rattle.city_model.specs.internal.KeptIn.{found_integral, with_own}
 use Rattle.std.proofs.lemmas.Cmp.{tied_itself}
 use Rattle.city_model.proofs.Ids.{same_id_itself, same_id_true}
-use Rattle.city_model.proofs.AttributeLaws.{put-without}
+use Rattle.city_model.proofs.AttributeLaws.{kept_with, put-without}
 use Rattle.city_model.proofs.MemberLists.{get_member-above, above_below, ordered_put, ordered_without}
 
 -- ---- one of the name is there
@@ -75,49 +75,6 @@ pub put_back : (k : List ℕ) (d : Data) (ms : Members) → AreOrdered ms → ge
     → put k d (without k ms) ≡ ms
 put_back k d ms h there = put-without k d ms h ∙ put_there k d ms h there
 
--- ---- `attributes` alone
-
-object_of : (d : Data) → is_some (as_object d) ≡ true → (found : Members) × (d ≡ object found)
-object_of (object ms) is = (ms, refl)
-object_of d is = absurd (grind (arith, is))
-
-pub attributes_alone : (ms : Members) → are_attributes ms ≡ true
-    → (found : Members) × (ms ≡ member attributes (object found) no_members)
-attributes_alone (member k d no_members) is =
-    let found = object_of d (grind (arith, is)) in (
-      found.0,
-      ap (λ e. member k e no_members) found.1
-          ∙ ap (λ l. member l (object found.0) no_members) (same_id_true k attributes (grind (arith, is))),
-    )
-attributes_alone ms is = absurd (grind (arith, is))
-
-module _ {ms : Members} (k : List ℕ) (d : Data) (rest : Members) (is : ms ≡ member k d rest)
-    (one : members_count ms ≡ 1) where
-  no_rest : rest ≡ no_members
-  no_rest = by rest (subst (λ ns. members_count ns ≡ 1) is one)
-    where
-      by : (ns : Members) → members_count (member k d ns) ≡ 1 → ns ≡ no_members
-      by no_members _ = refl
-      by (member l e ns) all = absurd (grind (arith, all))
-
-  -- put back, it is all of them
-  pub put_alone : (after : Members) → after ≡ put k d rest → after ≡ ms
-  put_alone after done = done ∙ ap (put k d) no_rest ∙ ap (member k d) (sym no_rest) ∙ sym is
-
-  pub attributes_only : (found : Members) → same_id k attributes ≡ true → d ≡ object found
-      → member attributes (object found) no_members ≡ ms
-  attributes_only found named object_is =
-      ap (λ l. member l (object found) no_members) (sym (same_id_true k attributes named))
-      ∙ ap (λ e. member k e no_members) (sym object_is) ∙ ap (member k d) (sym no_rest) ∙ sym is
-
--- they are none of the object's own members
-pub attributes_kept : (ms : Members) → members_integral ms ≡ true → are_attributes ms ≡ true → kept_at_object ms ≡ true
-attributes_kept ms whole is =
-    let alone = attributes_alone ms is in
-    let all : members_integral (member attributes (object alone.0) no_members) ≡ true =
-    subst (λ ns. members_integral ns ≡ true) alone.1 whole in
-    subst (λ ns. kept_at_object ns ≡ true) (sym alone.1) (rw all refl)
-
 -- ---- none of the name is there
 
 pub without_absent : (k : List ℕ) (ms : Members) → get_member k ms ≡ None → without k ms ≡ ms
@@ -151,3 +108,13 @@ ordered_attributes ms (member k d left) h = ordered_put attributes (object (memb
 pub none_left : (ms left : Members) → has_no_member left ≡ true → with_attributes ms left ≡ without attributes ms
 none_left ms no_members h = refl
 none_left ms (member k d left) h = absurd (grind (arith, h))
+
+-- attributes in their place among others that an object keeps
+pub kept_own : (ms : Members) (own : Option Members) → kept_at_object ms ≡ true → found_integral own ≡ true
+    → kept_at_object (with_own ms own) ≡ true
+kept_own ms None kept whole = kept
+kept_own ms (Some found) kept whole = kept_with ms found kept whole
+
+pub ordered_own : (ms : Members) (own : Option Members) → AreOrdered ms → AreOrdered (with_own ms own)
+ordered_own ms None h = h
+ordered_own ms (Some found) h = ordered_put attributes (object found) ms h

@@ -8,6 +8,7 @@ pub mod KeptIn
 pub mod KeptSizes
 pub mod KeptValues
 pub mod MemberLists
+pub mod MemberPlaces
 pub mod Plans
 pub mod RelationTests
 pub mod RingFaults

@@ -1,5 +1,5 @@
 //! The members of a kept JSON object, in no more room than they need.
-ghost use Rattle.std.specs.Prelude.{◌≡◌, option_map, string_bytes, IfOk, OnOk};
+ghost use Rattle.std.specs.Prelude.{◌≡◌, option_map, string_bytes, IfOk, IfErr, OnOk};
 ghost use Rattle.serde_json.specs.Data.{no_members, put};
 ghost use Rattle.serde_json.specs.Find.{get_member};
 ghost use Rattle.serde_json.specs.View.{view, members_view};
@@ -8,7 +8,7 @@ ghost use Rattle.city_model.specs.Integral.{members_integral};
 ghost use Rattle.city_model.specs.Kept.{has_no_member};
 ghost use Rattle.city_model.specs.Members.{without, without_each, AreOrdered};
 ghost use Rattle.city_model.specs.internal.KeptValues.{value_data, members_data};
-ghost use Rattle.city_model.specs.internal.MemberLists.{joined};
+ghost use Rattle.city_model.specs.internal.MemberPlaces.{IsAt, IsPlaceFor};
 
 use crate::OutOfMemory;
 use crate::copied::Copied;
@@ -106,15 +106,15 @@ impl FewMembers {
         None
     }
 
-    /// Gives the members one of this name. It takes a walk, and moves the members behind it.
-    pub fn put(&mut self, name: String, value: KeptValue) -> Result<(), OutOfMemory>
-        ensures { OnOk result (self.new ≡ put (string_bytes name) (value_data value) self.old) }
+    /// The members, and one of this name in its place. It takes a walk, and moves the members
+    /// behind it.
+    pub fn with(self, name: String, value: KeptValue) -> Result<Self, OutOfMemory>
+        ensures { IfOk result (λ few. few ≡ put (string_bytes name) (value_data value) self) }
     {
-        match place(self.members.as_slice(), name.as_str()) {
-            Ok(at) => self.members[at] = (name, value),
-            Err(at) => self.members.insert(at, (name, value))?,
-        }
-        Ok(())
+        let FewMembers { mut members } = self;
+        let at = clear(&mut members, name.as_str());
+        members.insert(at, (name, value))?;
+        Ok(FewMembers { members })
     }
 
     /// The members, and each of the named ones in its place.
@@ -139,18 +139,18 @@ impl FewMembers {
     {
         let mut left = self;
         for name in names {
-            left.remove(name.as_str());
+            left = left.without(name.as_str());
         }
         left
     }
 
-    /// Takes out the member of this name.
-    fn remove(&mut self, name: &str)
-        ensures { self.new ≡ without name.now self.old }
+    /// The members without the name. Doesn't allocate.
+    fn without(self, name: &str) -> Self
+        ensures { result ≡ without name.now self }
     {
-        if let Ok(at) = place(self.members.as_slice(), name) {
-            drop(self.members.remove(at));
-        }
+        let FewMembers { mut members } = self;
+        let _place = clear(&mut members, name);
+        FewMembers { members }
     }
 
     /// Gives back the room that nothing is in.
@@ -261,7 +261,11 @@ impl FewMembers {
 }
 
 /// Where the member of a name is, or else where its place is.
-fn place(members: &[(String, KeptValue)], name: &str) -> Result<usize, usize> {
+fn place(members: &[(String, KeptValue)], name: &str) -> Result<usize, usize>
+    requires { AreOrdered (members_data members.now) }
+    ensures found { IfOk result (λ at. IsAt members.now name.now at) }
+    ensures free { IfErr result (λ at. IsPlaceFor members.now name.now at) }
+{
     for (at, (other, _)) in members.iter().enumerate() {
         match name.cmp(other.as_str()) {
             Ordering::Less => return Err(at),
@@ -270,6 +274,21 @@ fn place(members: &[(String, KeptValue)], name: &str) -> Result<usize, usize> {
         }
     }
     Err(members.len())
+}
+
+/// Takes out the member of a name, if there is one, and returns the place for it.
+fn clear(members: &mut Vec<(String, KeptValue)>, name: &str) -> usize
+    requires { AreOrdered (members_data members.old.items) }
+    ensures place { IsPlaceFor members.new.items name.now result }
+    ensures left { members_data members.new.items ≡ without name.now (members_data members.old.items) }
+{
+    match place(members.as_slice(), name) {
+        Ok(at) => {
+            drop(members.remove(at));
+            at
+        }
+        Err(at) => at,
+    }
 }
 
 impl Copied for FewMembers {

@@ -35,8 +35,7 @@ impl MembersBuilder {
     {
         match self {
             MembersBuilder::Few(members) if members.len() < FEW => {
-                let mut members = members;
-                members.put(name, value)?;
+                let members = members.with(name, value)?;
                 Ok(MembersBuilder::Few(members))
             }
             MembersBuilder::Few(members) => {

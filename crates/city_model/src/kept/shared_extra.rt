@@ -333,7 +333,8 @@ fn set_few(
         return Ok(None);
     };
     let set = own.with_each(alloc, named.map())?;
-    let storage = few(alloc, copy_of(others)?, set)?;
+    let copy = copy_of(others)?;
+    let storage = few(alloc, copy, set)?;
     let made = stored(storage);
     Ok(Some(made))
 }
@@ -355,7 +356,8 @@ fn unset_few(
         return Ok(None);
     };
     let left = own.without_each(names);
-    let storage = few_left(alloc, copy_of(others)?, left)?;
+    let copy = copy_of(others)?;
+    let storage = few_left(alloc, copy, left)?;
     let made = stored(storage);
     Ok(Some(made))
 }

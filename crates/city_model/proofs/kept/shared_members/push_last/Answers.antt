@@ -1,7 +1,7 @@
 use Rattle.city_model.proofs.Prelude.{◌∙◌, ap, string_bytes}
 use Rattle.serde_json.specs.Data.{member, no_members}
-use Rattle.serde_json.specs.View.{view}
 use Rattle.std.proofs.lemmas.Result.{on_ok_weaker}
+use Rattle.city_model.specs.internal.KeptValues.{value_data}
 use Rattle.city_model.specs.internal.MemberLists.{all_joined, joined}
 use Rattle.city_model.proofs.MemberLists.{joined-assoc}
 use Rattle.city_model.proofs.kept.shared_members.push_last.Goals as goal
@@ -9,7 +9,7 @@ use Rattle.city_model.proofs.kept.shared_members.push_last.Goals as goal
 pub returns : goal.returns
 returns c =
     let lists = all_joined c.make_room.new.lists.items in
-    let one = member (string_bytes c.args.name) (view c.args.value) no_members in
+    let one = member (string_bytes c.args.name) (value_data c.args.value) no_members in
     on_ok_weaker c.push.result (λ pushed rest.
     ap (λ last. joined lists (joined last rest)) pushed
     ∙ ap (joined lists) (joined-assoc c.make_room.new.last one rest)

@@ -1,7 +1,7 @@
 use Rattle.city_model.proofs.Prelude.{◌∙◌, ap, arc_value, drop, subst, suc, sym, take}
 use Rattle.serde_json.specs.Data.{put}
-use Rattle.serde_json.specs.View.{view}
 use Rattle.city_model.specs.Members.{AreOrdered}
+use Rattle.city_model.specs.internal.KeptValues.{value_data}
 use Rattle.city_model.specs.internal.MemberLists.{all_joined, joined}
 use Rattle.city_model.proofs.ListPlaces.{put_place}
 use Rattle.city_model.proofs.MemberLists.{ordered_put}
@@ -14,9 +14,9 @@ invariant_of-result c =
     let made =
     c.in_ok-lists.ensures
     ∙ ap (λ list. joined (all_joined (take c.args.at lists)) (joined list (all_joined (drop (suc c.args.at) lists))))
-    (c.in_ok-list.ensures ∙ ap (put name (view c.args.value.now)) (c.deref.ensures ∙ ap arc_value c.index.ensures))
-    ∙ put_place lists name c.args.at c.index.result.now c.requires.place (view c.args.value.now) in
-    subst AreOrdered (sym made) (ordered_put name (view c.args.value.now) (all_joined lists) c.requires.ordered)
+    (c.in_ok-list.ensures ∙ ap (put name (value_data c.args.value)) (c.deref.ensures ∙ ap arc_value c.index.ensures))
+    ∙ put_place lists name c.args.at c.index.result.now c.requires.place (value_data c.args.value) in
+    subst AreOrdered (sym made) (ordered_put name (value_data c.args.value) (all_joined lists) c.requires.ordered)
 
 pub returns : goal.returns
 returns c =
@@ -24,5 +24,5 @@ returns c =
     let name = c.args.name.now in
     c.in_ok-lists.ensures
     ∙ ap (λ list. joined (all_joined (take c.args.at lists)) (joined list (all_joined (drop (suc c.args.at) lists))))
-    (c.in_ok-list.ensures ∙ ap (put name (view c.args.value.now)) (c.deref.ensures ∙ ap arc_value c.index.ensures))
-    ∙ put_place lists name c.args.at c.index.result.now c.requires.place (view c.args.value.now)
+    (c.in_ok-list.ensures ∙ ap (put name (value_data c.args.value)) (c.deref.ensures ∙ ap arc_value c.index.ensures))
+    ∙ put_place lists name c.args.at c.index.result.now c.requires.place (value_data c.args.value)

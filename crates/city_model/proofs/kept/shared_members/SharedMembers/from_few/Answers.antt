@@ -1,17 +1,34 @@
-use Rattle.city_model.proofs.Prelude.{◌≡◌, rules, subst, sym, members_view}
+use Rattle.city_model.proofs.Prelude.{◌≡◌, ◌∙◌, List, ap, arith, length, subst, sym}
+use Rattle.std.proofs.Common.{Global}
+use Rattle.std.specs.Prelude.{IfOk}
+use Rattle.std.specs.declared.sync.Arc.{Arc}
+use Rattle.serde_json.specs.Data.{Members}
+use Rattle.std.proofs.lemmas.List.{nil_from_length}
+use Rattle.std.specs.Vec.Iter.{into_iter_items}
 use Rattle.city_model.specs.Members.{AreOrdered}
+use Rattle.city_model.specs.internal.KeptValues.{members_data}
 use Rattle.city_model.specs.internal.MemberLists.{all_joined, joined}
+use Rattle.city_model.proofs.KeptLists.{Pair}
 use Rattle.city_model.proofs.MemberLists.{joined-none}
 use Rattle.city_model.proofs.kept.shared_members.SharedMembers.from_few.Goals as goal
 
+module _ (few last : Members) (lists : List (Arc Members Global)) (left : List Pair) where
+  all : length left ≡ 0 → joined (all_joined lists) (joined last (members_data left)) ≡ few
+      → joined (all_joined lists) last ≡ few
+  all none is =
+      ap (joined (all_joined lists))
+      (sym (joined-none last) ∙ ap (λ xs. joined last (members_data xs)) (sym (nil_from_length left none)))
+      ∙ is
+
 pub closed-requires : goal.closed-requires
 closed-requires c =
-    let all : joined (all_joined c.loop-name.lists.items) c.loop-name.last ≡ members_view c.args.map.entries =
-    search (rules, joined-none) in
-    subst AreOrdered (sym all) c.members_count.ensures.ordered
+    subst AreOrdered
+    (sym (all c.args.few c.loop-name.last c.loop-name.lists.items
+    (into_iter_items c.loop-name.name-iterator) (grind (arith, c.in-None.ensures.steps.0)) c.loop-name.invariant))
+    c.into_vec-name-items.ensures.ordered
 
 pub returns : goal.returns
 returns c =
-    let all : joined (all_joined c.loop-name.lists.items) c.loop-name.last ≡ members_view c.args.map.entries =
-    search (rules, joined-none) in
-    search (rules, all)
+    subst (λ ms. IfOk c.closed.result (λ members. members ≡ ms))
+    (all c.args.few c.loop-name.last c.loop-name.lists.items
+    (into_iter_items c.loop-name.name-iterator) (grind (arith, c.in-None.ensures.steps.0)) c.loop-name.invariant) c.closed.ensures
