@@ -1,18 +1,18 @@
 -- Members put and taken out, over one of the name or without one.
 use Rattle.city_model.proofs.Prelude.{◌≡◌, ℕ, List, true, Option, None, Some, Ordering, Less, Equal, arith}
 use Rattle.city_model.proofs.Prelude.{refl, sym, ap, ◌∙◌, slice_cmp, nat_cmp, no_members, member}
-use Rattle.city_model.proofs.Prelude.{nat_list_cmp_total, is_some, members_integral, same_id, subst}
+use Rattle.city_model.proofs.Prelude.{nat_list_cmp_total}
 use Rattle.std.proofs.Common.{Greater}
 use Rattle.serde_json.specs.Data.{Data, object, Members, put}
-use Rattle.serde_json.specs.Find.{as_object, get_member}
+use Rattle.serde_json.specs.Find.{get_member}
 use Rattle.serde_json.proofs.Views.{get_member-put}
 use Rattle.city_model.specs.Attributes.{attributes, attributes_in, put_each, with_attributes, with_set, with_unset}
 use Rattle.city_model.specs.Attributes.{members_or_none}
 use Rattle.city_model.specs.Kept.{has_no_member, kept_at_object}
-use Rattle.city_model.specs.Members.{without, without_each, members_count, AreOrdered}
+use Rattle.city_model.specs.Members.{without, without_each, AreOrdered}
 use Rattle.city_model.specs.internal.KeptIn.{found_integral, with_own}
 use Rattle.std.proofs.lemmas.Cmp.{tied_itself}
-use Rattle.city_model.proofs.Ids.{same_id_itself, same_id_true}
+use Rattle.city_model.proofs.Ids.{same_id_itself}
 use Rattle.city_model.proofs.AttributeLaws.{kept_with, put-without}
 use Rattle.city_model.proofs.MemberLists.{get_member-above, above_below, ordered_put, ordered_without}
 

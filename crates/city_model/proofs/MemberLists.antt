@@ -1,5 +1,5 @@
 -- Lists of members one behind the other: finding, putting and taking out a name at the list that reaches it.
-use Rattle.city_model.proofs.Prelude.{◌≡◌, ℕ, ◌<◌, ◌==◌, ◌-◌, ◌+◌, List, [], ◌∷◌, ◌++◌, Bool, true, false, length}
+use Rattle.city_model.proofs.Prelude.{◌≡◌, ℕ, ◌<◌, ◌==◌, ◌-◌, List, [], ◌∷◌, ◌++◌, Bool, true, false, length}
 use Rattle.city_model.proofs.Prelude.{get_or}
 use Rattle.city_model.proofs.Prelude.{take, drop, refl, sym, ap, ◌∙◌, arith, None, Ordering, Less, Equal}
 use Rattle.city_model.proofs.Prelude.{no_members, member, slice_cmp, nat_cmp, is_lt, nat_list_cmp_total, same_id}
@@ -8,7 +8,7 @@ use Rattle.std.proofs.Common.{String, Global, Greater}
 use Rattle.std.specs.Ordering.{ordering_reverse, is_ge}
 use Rattle.std.specs.declared.sync.Arc.{Arc}
 use Rattle.city_model.specs.Kept.{has_no_member}
-use Rattle.std.proofs.lemmas.List.{take-append-drop, drop_more}
+use Rattle.std.proofs.lemmas.List.{take-append-drop}
 use Rattle.serde_json.specs.Data.{Data, Members, put}
 use Rattle.city_model.specs.declared.kept.kept_value.KeptValue.{KeptValue}
 use Rattle.city_model.specs.internal.KeptValues.{value_data}

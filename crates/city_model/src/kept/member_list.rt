@@ -35,7 +35,7 @@ impl Model for MemberList {
     ghost coded = { coded_members };
 
     ghost use Rattle.city_model.specs.internal.KeptValues.{value_data};
-ghost use Rattle.city_model.specs.internal.MemberLists.{entries_view};
+    ghost use Rattle.city_model.specs.internal.MemberLists.{entries_view};
 
     ghost view = { λ a. entries_view a.entries.items };
 }

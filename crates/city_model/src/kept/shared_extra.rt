@@ -363,11 +363,7 @@ fn unset_few(
 }
 
 /// Members and their attributes; copies share them if they are many now.
-fn few(
-    alloc: Global,
-    others: Map<String, Value>,
-    own: FewMembers,
-) -> Result<Storage, OutOfMemory>
+fn few(alloc: Global, others: Map<String, Value>, own: FewMembers) -> Result<Storage, OutOfMemory>
     ensures { IfOk result (λ storage. kept_in storage ≡ put attributes (object own) (members_view others.entries)) }
 {
     // (called for the size)

@@ -46,7 +46,7 @@ impl Model for SharedMembers {
     ghost coded = { coded_members };
 
     ghost use Rattle.city_model.specs.internal.KeptValues.{value_data};
-ghost use Rattle.city_model.specs.internal.MemberLists.{all_joined};
+    ghost use Rattle.city_model.specs.internal.MemberLists.{all_joined};
 
     ghost view = { λ a. all_joined a.lists.items };
 

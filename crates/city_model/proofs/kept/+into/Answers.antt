@@ -46,12 +46,11 @@ few_members::FewMembers::into_map-into_value-requires t c =
     search (rules, within)
 
 pub few_members::FewMembers::into_map-loop-name-init : goal.few_members::FewMembers::into_map-loop-name-init
-few_members::FewMembers::into_map-loop-name-init t c =
-    (
-      subst AreOrdered c.self.view_is c.self.invariant,
-      rw c.new-map.ensures.empty
-          (ap members_data c.into_iter-name-iterator.ensures.into_iter_gives.0 ∙ c.self.view_is),
-    )
+few_members::FewMembers::into_map-loop-name-init t c = (
+  subst AreOrdered c.self.view_is c.self.invariant,
+  rw c.new-map.ensures.empty
+      (ap members_data c.into_iter-name-iterator.ensures.into_iter_gives.0 ∙ c.self.view_is),
+)
 
 pub few_members::FewMembers::into_map-loop-name-preserved : goal.few_members::FewMembers::into_map-loop-name-preserved
 few_members::FewMembers::into_map-loop-name-preserved t c =
@@ -60,8 +59,7 @@ few_members::FewMembers::into_map-loop-name-preserved t c =
     let is : joined map (member (string_bytes c.in-Some.name) (value_data c.in-Some.value) left) ≡ c.args.self =
     ap (λ ms. joined map (members_data ms)) (sym c.in-Some.ensures.steps.0) ∙ c.loop-name.invariant.1 in
     let done : members_view c.put.new.members.entries ≡ put (string_bytes c.in-Some.name) (value_data c.in-Some.value) map =
-    c.in_ok-put.ensures ∙ ap (λ d. put (string_bytes c.in-Some.name) d map) c.in_ok-value.ensures in
-    (
+    c.in_ok-put.ensures ∙ ap (λ d. put (string_bytes c.in-Some.name) d map) c.in_ok-value.ensures in (
       c.loop-name.invariant.0,
       ap (λ ms. joined ms left) done
           ∙ put_last (string_bytes c.in-Some.name) (value_data c.in-Some.value) map left

@@ -1,4 +1,4 @@
-use Rattle.city_model.proofs.Prelude.{◌≡◌, ◌∙◌, ◌+◌, ◌++◌, ap, drop, subst, sym, take}
+use Rattle.city_model.proofs.Prelude.{◌∙◌, ap, subst, sym}
 use Rattle.city_model.specs.internal.KeptValues.{members_data}
 use Rattle.city_model.specs.internal.MemberPlaces.{IsAt, IsPlaceFor}
 use Rattle.city_model.proofs.KeptLists.{data_left, place_left, without_free}

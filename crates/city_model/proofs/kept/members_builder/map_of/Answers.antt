@@ -10,12 +10,11 @@ use Rattle.city_model.proofs.MemberLists.{joined-none, put_last}
 use Rattle.city_model.proofs.kept.members_builder.map_of.Goals as goal
 
 pub loop-name-init : goal.loop-name-init
-loop-name-init c =
-    (
-      c.into_vec-name-items.ensures.ordered,
-      rw c.new-map.ensures.empty
-          (ap members_data c.into_iter-name-iterator.ensures.into_iter_gives.0 ∙ c.into_vec-name-items.ensures.members),
-    )
+loop-name-init c = (
+  c.into_vec-name-items.ensures.ordered,
+  rw c.new-map.ensures.empty
+      (ap members_data c.into_iter-name-iterator.ensures.into_iter_gives.0 ∙ c.into_vec-name-items.ensures.members),
+)
 
 pub loop-name-preserved : goal.loop-name-preserved
 loop-name-preserved c =
@@ -26,8 +25,7 @@ loop-name-preserved c =
     let is : joined (members_data map) (member name value left) ≡ c.args.members =
     ap (λ ms. joined (members_data map) (members_data ms)) (sym c.in-Some.ensures.steps.0) ∙ c.loop-name.invariant.1 in
     let done : members_data c.insert.new.self.entries ≡ put name value (members_data map) =
-    ap members_data c.in_ok-insert.ensures.entries ∙ data_inserted map c.in-Some.name c.in-Some.value in
-    (
+    ap members_data c.in_ok-insert.ensures.entries ∙ data_inserted map c.in-Some.name c.in-Some.value in (
       c.loop-name.invariant.0,
       ap (λ ms. joined ms left) done
           ∙ put_last name value (members_data map) left (subst AreOrdered (sym is) c.loop-name.invariant.0)

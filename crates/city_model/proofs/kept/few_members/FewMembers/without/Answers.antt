@@ -1,4 +1,4 @@
-use Rattle.city_model.proofs.Prelude.{ap, subst, sym, ◌∙◌}
+use Rattle.city_model.proofs.Prelude.{subst, sym}
 use Rattle.city_model.specs.Members.{AreOrdered}
 use Rattle.city_model.proofs.MemberLists.{ordered_without}
 use Rattle.city_model.proofs.kept.few_members.FewMembers.without.Goals as goal

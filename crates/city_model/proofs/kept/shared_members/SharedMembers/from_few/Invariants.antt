@@ -1,6 +1,5 @@
 use Rattle.city_model.proofs.Prelude.{◌≡◌}
 use Rattle.std.specs.Vec.Iter.{into_iter_items}
-use Rattle.city_model.specs.Members.{AreOrdered}
 use Rattle.city_model.specs.internal.KeptValues.{members_data}
 use Rattle.city_model.specs.internal.MemberLists.{all_joined, joined}
 use Rattle.city_model.proofs.kept.shared_members.SharedMembers.from_few.Given as goal
