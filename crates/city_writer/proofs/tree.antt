@@ -1,7 +1,10 @@
 -- Lemmas for several functions of src/tree/.
 pub mod Among
 pub mod Appended
+pub mod Beside
 pub mod CompactJson
 pub mod Integers
+pub mod JoinedLists
+pub mod KeptSizes
 pub mod ReadBack
 pub mod WrittenItems

@@ -1,11 +1,11 @@
 //! Writes the kept members of an object among its own.
 ghost use Rattle.std.specs.Prelude.{◌≡◌, ◌++◌, ◌∷◌, [], IfNone, MatchOption, OnOk, true};
 ghost use Rattle.json.specs.Token.{key, end_object};
-ghost use Rattle.serde_json.specs.Data.{no_members, member, object};
+ghost use Rattle.serde_json.specs.Data.{no_members, member, put};
 ghost use Rattle.serde_json.specs.View.{members_view};
 ghost use Rattle.city_model.specs.Integral.{is_integral, members_integral};
 ghost use Rattle.city_model.specs.internal.KeptIn.{lent};
-ghost use Rattle.city_writer.specs.internal.tree.MembersLeft.{members_left, others_left, value_of};
+ghost use Rattle.city_writer.specs.internal.tree.MembersLeft.{members_left, value_of, with_first};
 ghost use Rattle.city_writer.specs.internal.tree.Parted.{begins_before, members_before, members_from};
 ghost use Rattle.city_writer.specs.internal.tree.PartTokens.{tokens_of_members};
 ghost use Rattle.city_writer.specs.internal.tree.ReadsBack.{MembersReadBack};
@@ -62,6 +62,17 @@ fn take_first<'a>(members: &mut Iter<'a, String, Value>) -> Option<(&'a str, &'a
     Some((name.as_str(), value))
 }
 
+/// Whether there is a first one, with a name before this one.
+#[inline(always)]
+fn begins_before(first: &Option<(&str, &Value)>, name: &str) -> bool
+    ensures { result ≡ begins_before name.now (with_first first.now no_members) }
+{
+    match first {
+        None => false,
+        Some((first, _)) => first.cmp(name).is_lt(),
+    }
+}
+
 impl<'a> KeptMembers<'a> {
     /// All members of a map of `i64` numbers. Doesn't allocate.
     pub fn new(map: &'a Map<String, Value>) -> Self
@@ -80,7 +91,7 @@ impl<'a> KeptMembers<'a> {
     /// All members of a map, and one of this name and value in its place, `i64` their numbers.
     fn beside(map: &'a Map<String, Value>, name: &'a str, value: MemberValue<'a>) -> Self
         requires integral { members_integral (put name.now (value_of value) (members_view map.now.entries)) ≡ true }
-        ensures { result ≡ put name.now (value_of value) (members_view map.now.entries) }
+        ensures { result ≡ put name.now (value_of value.entry) (members_view map.now.entries) }
     {
         let mut others = map.iter();
         let first = take_first(&mut others);
@@ -112,21 +123,10 @@ impl<'a> KeptMembers<'a> {
     fn begin_before(&self, name: &str) -> bool
         ensures { result ≡ begins_before name.now self.now }
     {
-        (match self.own {
-            None => false,
-            Some((own, _)) => own.cmp(name).is_lt(),
-        }) || (match self.first {
-            None => false,
-            Some((first, _)) => first.cmp(name).is_lt(),
-        })
-    }
-
-    /// Takes the first of the others.
-    #[inline(always)]
-    fn take_other(&mut self) -> Option<(&'a str, MemberValue<'a>)> {
-        let (name, value) = self.first?;
-        self.first = take_first(&mut self.others);
-        Some((name, MemberValue::Any(value)))
+        match self.own {
+            None => begins_before(&self.first, name),
+            Some((own, _)) => own.cmp(name).is_lt() || begins_before(&self.first, name),
+        }
     }
 
     /// Takes the first one left.
@@ -136,17 +136,29 @@ impl<'a> KeptMembers<'a> {
             (λ m. (self.old ≡ member m.0.now (value_of m.1) self.new) × (is_integral (value_of m.1) ≡ true)) }
     {
         let Some((own, value)) = self.own else {
-            return self.take_other();
+            let (name, first) = self.first?;
+            self.first = take_first(&mut self.others);
+            return Some((name, MemberValue::Any(first)));
         };
-        if let Some((first, _)) = self.first {
-            match first.cmp(own) {
-                Ordering::Less => return self.take_other(),
-                Ordering::Equal => self.first = take_first(&mut self.others),
-                Ordering::Greater => {}
+        let Some((name, first)) = self.first else {
+            self.own = None;
+            return Some((own, value));
+        };
+        match name.cmp(own) {
+            Ordering::Less => {
+                self.first = take_first(&mut self.others);
+                Some((name, MemberValue::Any(first)))
+            }
+            Ordering::Equal => {
+                self.first = take_first(&mut self.others);
+                self.own = None;
+                Some((own, value))
+            }
+            Ordering::Greater => {
+                self.own = None;
+                Some((own, value))
             }
         }
-        self.own = None;
-        Some((own, value))
     }
 
     /// Takes the first one left, if its name comes before this one.

@@ -1,4 +1,4 @@
-use Rattle.city_writer.proofs.Prelude.{with_points, ◌∙◌}
+use Rattle.city_writer.proofs.Prelude.{with_points}
 use Rattle.city_writer.proofs.tree.Among.{string_reads}
 use Rattle.city_writer.proofs.document.PutMembers.{put_written, put_reads, object_put, on_ok}
 use Rattle.city_writer.proofs.object.text.write_object.Goals as goal
@@ -10,8 +10,8 @@ returns-clause-pool c =
 
 pub returns-clause-tokens : goal.returns-clause-tokens
 returns-clause-tokens c =
-    let kept = c.lend.ensures in
-    let members = c.in_ok-lent.ensures.members in
+    let kept = c.lend-lent.ensures in
+    let members = kept.members in
     let o = c.args.object.now in
     let children = c.in_ok-write_relatives.ensures in
     let lists = c.in_ok-write_list.ensures in
@@ -26,8 +26,8 @@ returns-clause-tokens c =
 
 pub returns-clause-reads : goal.returns-clause-reads
 returns-clause-reads c =
-    let kept = c.lend.ensures in
-    let members = c.in_ok-lent.ensures.members in
+    let kept = c.lend-lent.ensures in
+    let members = kept.members in
     let o = c.args.object.now in
     on_ok c.write_last.result c.write_last.ensures.reads (λ e pool small.
     let left = c.in_ok-write_relatives.ensures.passed (c.in_ok-write_list.ensures.passed
