@@ -1,16 +1,19 @@
 -- Members put in among the ones found: the place of each, and the kept ones.
-use Rattle.city_tokens.proofs.Prelude.{arith, ◌≡◌, ℕ, List, [], ◌∷◌, true, false, Option, Some, Less, Equal, nat_cmp}
-use Rattle.city_tokens.proofs.Prelude.{refl, sym, ◌∙◌, codes, if◌then◌else◌, slice_cmp, exact_bytes, Data, Members}
+use Rattle.city_tokens.proofs.Prelude.{arith, ◌≡◌, ℕ, List, [], ◌∷◌, true, false, Option, None, Some, Less, Equal}
+use Rattle.city_tokens.proofs.Prelude.{nat_cmp, object, option_map}
+use Rattle.city_tokens.proofs.Prelude.{refl, sym, ap, ◌∙◌, codes, if◌then◌else◌, slice_cmp, exact_bytes, Data, Members}
 use Rattle.city_tokens.proofs.Prelude.{no_members, member, put, get_member, same_id, has_id, without, without_each}
 use Rattle.city_tokens.proofs.Prelude.{AllAbove, AreOrdered, by_id, same_id_back, IsListSlot, IsArrayOf, IsString}
 use Rattle.city_tokens.proofs.Prelude.{IsReadAs, IsTaken, IsPassed, Token, Geometry, ObjectParts, IsGeometry}
 use Rattle.city_tokens.proofs.Prelude.{IsObjectSoFar, Object, Vertex, IsVertex}
 use Rattle.std.proofs.lemmas.Bool.{or_parts}
 use Rattle.serde_json.proofs.Views.{get_member-put}
-use Rattle.city_tokens.specs.internal.Standing.{IsSlot}
-use Rattle.city_tokens.proofs.tree.Puts.{get_member-put_apart, without-put_own}
+use Rattle.city_tokens.specs.internal.Standing.{IsSlot, IsObjectOf}
+use Rattle.city_tokens.proofs.tree.Puts.{get_member-put_apart, without-absent, without-put_own}
+use Rattle.city_model.proofs.KeptIn.{put_back}
+use Rattle.city_model.specs.internal.KeptIn.{with_own}
 use Rattle.city_model.proofs.Puts.{all_above_lower, put_first, ordered_put}
-use Rattle.city_model.specs.Kept.{object_members, geometry_members}
+use Rattle.city_model.specs.Kept.{geometry_members}
 use Rattle.city_model.specs.declared.object_type.ObjectType.{ObjectType}
 use Rattle.city_model.specs.declared.shape_type.ShapeType.{ShapeType}
 use Rattle.city_tokens.specs.internal.Geometries.{IsKind, AreBoundaries, IsGeometrySoFar}
@@ -91,10 +94,29 @@ pub list_other : {A : Type 0} (R : A → Data → Type 0) (xs : List A) (q name 
     → IsListSlot R xs (get_member q (put name d ms))
 list_other R xs q name d ms apart h = rw (get_member-put_apart q name d ms apart) h
 
--- members so far, and one more of a literal name
-pub ruleset put_in = (slot_here, slot_other, list_here, list_other, ordered_put, put_own)
+-- the member itself
+pub member_here : (o : Option Data) (name : List ℕ) (d : Data) (ms : Members) → o ≡ Some d
+    → o ≡ get_member name (put name d ms)
+member_here o name d ms h = h ∙ sym (get_member-put name d ms)
 
-pub ruleset kept_in = (slot_other, list_other, ordered_put, kept_more, apart_back)
+pub member_other : (o : Option Data) (q name : List ℕ) (d : Data) (ms : Members) → same_id q name ≡ false
+    → o ≡ get_member q ms → o ≡ get_member q (put name d ms)
+member_other o q name d ms apart h = h ∙ sym (get_member-put_apart q name d ms apart)
+
+-- attributes taken out are put back
+pub own_back : (own : Option Members) (ms : Members) → AreOrdered ms
+    → option_map object own ≡ get_member (codes "attributes") ms → with_own (without (codes "attributes") ms) own ≡ ms
+own_back None ms h is = without-absent (codes "attributes") ms (sym is)
+own_back (Some found) ms h is = put_back (codes "attributes") (object found) ms h (sym is)
+
+-- members so far, and one more of a literal name
+pub ruleset put_in = (slot_here, slot_other, list_here, list_other, member_other, ordered_put, put_own)
+
+pub ruleset kept_in = (slot_other, list_other, member_other, ordered_put, kept_more, apart_back)
+
+abbrev object_names : List (List ℕ)
+object_names =
+    codes "type" ∷ codes "geometry" ∷ codes "parents" ∷ codes "children" ∷ codes "attributes" ∷ []
 
 module _ {old : ObjectParts} {name : List ℕ} {depth : ℕ} {before after : List Token} where
   pub object_kind : {k : ObjectType} → name ≡ codes "type" → IsReadAs IsType k depth before after
@@ -116,13 +138,20 @@ module _ {old : ObjectParts} {name : List ℕ} {depth : ℕ} {before after : Lis
       → IsTaken IsObjectSoFar old (record old { children = ids }) name depth before after
   object_children named read = (read.0, read.1, λ found kept h. rw named (search (put_in, h, read)))
 
+  pub object_attributes : {few : Members} → name ≡ codes "attributes" → IsReadAs IsObjectOf few depth before after
+      → IsTaken IsObjectSoFar old (record old { attributes = Some few }) name depth before after
+  object_attributes {few = few} named read =
+      let is : Some (object few) ≡ Some read.0 = ap Some (sym read.2) in
+      (read.0, read.1, λ found kept h. rw named (search (put_in, put_own object_names, member_here, h, is)))
+
 pub object_kept : {old : ObjectParts} {name : List ℕ} {before : List Token} → (name ≡ codes "type" → ⊥)
     → (name ≡ codes "geometry" → ⊥) → (name ≡ codes "parents" → ⊥) → (name ≡ codes "children" → ⊥)
-    → IsPassed IsObjectSoFar old old name before before
-object_kept {name = name} type geometry parents children =
+    → (name ≡ codes "attributes" → ⊥) → IsPassed IsObjectSoFar old old name before before
+object_kept {name = name} type geometry parents children attributes =
     let o = other_name name in
-    let others : has_id object_members name ≡ false = rw (o _ type, o _ geometry, o _ parents, o _ children) refl in
-    (refl, λ d found kept h. search (kept_in, others, h))
+    let others : has_id object_names name ≡ false =
+    rw (o _ type, o _ geometry, o _ parents, o _ children, o _ attributes) refl in
+    (refl, λ d found kept h. search (kept_in, kept_more object_names, others, h))
 
 module _ {old : GeometryParts} {name : List ℕ} {depth : ℕ} {before after : List Token} where
   pub geometry_kind : {k : ShapeType} → name ≡ codes "type" → IsReadAs IsKind k depth before after

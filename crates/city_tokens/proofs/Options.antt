@@ -28,6 +28,12 @@ pub ok_holds : {T E : Type 0} (r : Result T E) (o : Option T) (P : T → Type 0)
 ok_holds (Ok x) o P is h = rw is (h x refl)
 ok_holds (Err e) o P is h = rw is tt
 
+-- a consequence of a call's promise of its value
+pub ok_then : {T E : Type 0} (r : Result T E) (o : Option T) {P Q : T → Type 0} → o ≡ result_ok r → IfOk r P
+    → ((x : T) → P x → Q x) → IfSome o Q
+ok_then (Ok x) o is h f = rw is (f x h)
+ok_then (Err e) o is h f = rw is tt
+
 -- a call's promise of its value, if `ok` gave one
 pub given : {A E : Type 0} (r : Result A E) (o : Option A) (x : A) (P : A → Type 0) → o ≡ result_ok r → o ≡ Some x
     → IfOk r P → P x

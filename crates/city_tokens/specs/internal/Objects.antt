@@ -5,7 +5,6 @@ use Rattle.serde_json.specs.Find.{get_member, as_str}
 use Rattle.city_model.specs.declared.object.Object.{Object}
 use Rattle.city_model.specs.declared.object.Point.{Point}
 use Rattle.city_model.specs.declared.object_type.ObjectType.{ObjectType}
-use Rattle.city_model.specs.Attributes.{attributes}
 use Rattle.city_model.specs.Kept.{kept_at_object}
 use Rattle.city_model.specs.Members.{without, AreOrdered}
 use Rattle.city_model.specs.Shells.{body_fault}
@@ -36,9 +35,9 @@ pub record IsObjectSoFar (parts : ObjectParts) (found kept : Members) : Type 0 w
   pub geometry : IsListSlot IsGeometry parts.geometry (get_member (codes "geometry") found)
   pub parents : IsListSlot IsString parts.parents (get_member (codes "parents") found)
   pub children : IsListSlot IsString parts.children (get_member (codes "children") found)
-  pub attributes : option_map object parts.attributes ≡ get_member attributes found
+  pub attributes : option_map object parts.attributes ≡ get_member (codes "attributes") found
   pub ordered : AreOrdered found
-  pub extra : kept ≡ without attributes (without_object_members found)
+  pub extra : kept ≡ without (codes "attributes") (without_object_members found)
 
 -- ---- objects by their ids, as a text lists them
 

@@ -5,4 +5,4 @@ pub returns : goal.returns
 returns c =
     let read = c.in_ok-parts.ensures in
     IfSome_then c.object_of.result c.object_of.ensures
-    (λ o made. (object read.0, read.1, made read.0 (read.2 (search (c.new.ensures, c.new-2.ensures, c.new-3.ensures)))))
+    (λ o made. (object read.0, read.1, made read.0 (read.2 c.new.ensures)))

@@ -1,7 +1,6 @@
-use Rattle.city_tokens.proofs.Prelude.{◌≡◌, ◌++◌, true, refl, sym, ap, ◌∙◌, arith, token_of, array, object, items_of}
-use Rattle.city_tokens.proofs.Prelude.{members_view}
+use Rattle.city_tokens.proofs.Prelude.{◌≡◌, ◌++◌, true, refl, sym, ap, ◌∙◌, arith, rules, token_of, array, object}
+use Rattle.city_tokens.proofs.Prelude.{items_of}
 use Rattle.city_model.specs.Kept.{kept_at_attributes}
-use Rattle.city_tokens.proofs.Options.{given}
 use Rattle.city_tokens.proofs.Reading.{seen_token, array_value, object_value}
 use Rattle.city_tokens.proofs.other.read_attributes.Goals as goal
 
@@ -9,13 +8,11 @@ pub returns-in_ok-values-in-BeginObject-clause-read : goal.returns-in_ok-values-
 returns-in_ok-values-in-BeginObject-clause-read c =
     let read = c.in_ok-members-in-BeginObject in
     let values = c.in_ok-values-in-BeginObject in
-    let members = members_view read.members.entries in
-    let is : values.values ≡ members = given c.new.result c.ok.result values.values (λ e. e ≡ members)
-    c.ok.ensures.value values.was c.new.ensures.kept in
-    let kept : kept_at_attributes values.values ≡ true = rw is (grind arith) in
+    let is : values.values ≡ read.members = search rules in
+    let kept : kept_at_attributes values.values ≡ true = rw is read.ensures.whole in
     let seen = seen_token c.in_ok-opened.ensures (ap token_of c.in-BeginObject.is) refl
     (object_value c.args.depth _ _ _ (omega arith) read.ensures) in
-    (object members, seen, (ap object (sym is), kept))
+    (object read.members, seen, (ap object (sym is), kept))
 
 pub returns-in_ok-names-in-BeginArray-clause-read : goal.returns-in_ok-names-in-BeginArray-clause-read
 returns-in_ok-names-in-BeginArray-clause-read c =

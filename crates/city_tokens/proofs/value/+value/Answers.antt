@@ -1,10 +1,9 @@
 use Rattle.city_tokens.proofs.Prelude.{◌≡◌, [], ◌∷◌, ◌++◌, Some, refl, ap, ◌∙◌, arith, rules, read_key, token_of, put}
-use Rattle.city_tokens.proofs.Prelude.{view, members_view}
 use Rattle.std.proofs.Common.{string_bytes}
 use Rattle.std.proofs.lemmas.List.{map-append}
-use Rattle.serde_json.specs.declared.value.Value.{the_lemmas}
-use Rattle.serde_json.proofs.Views.{view-Array, view-Object, members_view-insert_entry}
+use Rattle.city_model.specs.internal.KeptValues.{value_data, members_built}
 use Rattle.city_reader.specs.Taken.{IsWholeTaken}
+use Rattle.city_tokens.proofs.Options.{ok_then}
 use Rattle.city_tokens.proofs.Reading.{value_shorter, member_shorter, seen_token, seen_value, null_value, boolean_value}
 use Rattle.city_tokens.proofs.Reading.{string_value, whole_value, array_value, object_value, items_begin, items_next}
 use Rattle.city_tokens.proofs.Reading.{items_end, members_next, members_end}
@@ -19,33 +18,31 @@ pub read_items-items-preserved : goal.read_items-items-preserved
 read_items-items-preserved t c =
     let same : c.take_end_array.new.self ≡ c.items.reader = grind arith in
     let pushed : c.push.new.self.items ≡ c.items.found.items ++ c.in_ok-item.item ∷ [] = grind arith in
-    rw (pushed, map-append view c.items.found.items) (items_next c.items.invariant (rw same at c.in_ok-item.ensures))
+    rw (pushed, map-append value_data c.items.found.items)
+    (items_next c.items.invariant (rw same at c.in_ok-item.ensures))
 
 pub read_items-returns : goal.read_items-returns
-read_items-returns t c = rw c.shrink_to_fit.ensures.items (items_end c.items.invariant (grind arith))
+read_items-returns t c =
+    rw (c.from_vec.ensures, c.shrink_to_fit.ensures.items) (items_end c.items.invariant (grind arith))
 
 pub read_members-members-smaller : goal.read_members-members-smaller
 read_members-members-smaller t c =
     let named : read_key c.members.reader ≡ Some (Some c.in-Some.name.now, c.next_key.new.self) = grind arith in
-    member_shorter _ named c.in_ok-read_member.ensures.1
+    member_shorter _ named c.in_ok-member.ensures
 
 pub read_members-members-preserved : goal.read_members-members-preserved
 read_members-members-preserved t c =
-    let read = c.in_ok-read_member.ensures in
     let named : read_key c.members.reader ≡ Some (Some c.in-Some.name.now, c.next_key.new.self) = grind arith in
-    rw read.2 (members_next c.members.invariant named read.1)
-
-pub read_member-returns : goal.read_member-returns
-read_member-returns t c =
-    let v = c.in_ok-member.member in
-    let members = c.args.members.now.entries in
-    let copied : string_bytes c.in_ok-key.key ≡ c.args.name.now = search rules in
-    let inserted : members_view c.insert.new.self.entries ≡ put c.args.name.now (view v) (members_view members) =
-    ap members_view (grind arith) ∙ members_view-insert_entry members c.in_ok-key.key v ∙ rw copied refl in
-    (view v, c.in_ok-member.ensures, inserted)
+    let copied : string_bytes c.in_ok-key.key ≡ c.in-Some.name.now = search rules in
+    let built : members_built c.in_ok-found.found
+    ≡ put (string_bytes c.in_ok-key.key) (value_data c.in_ok-member.member) (members_built c.members.found) =
+    search rules in
+    rw (built, copied) (members_next c.members.invariant named c.in_ok-member.ensures)
 
 pub read_members-returns : goal.read_members-returns
-read_members-returns t c = members_end c.members.invariant (grind arith)
+read_members-returns t c =
+    ok_then c.finish.result c.ok-2.result c.ok-2.ensures.value c.finish.ensures
+    (λ members is. rw is (members_end c.members.invariant (grind arith)))
 
 pub read_value-returns-in-Some : goal.read_value-returns-in-Some
 read_value-returns-in-Some t c =
@@ -56,13 +53,12 @@ read_value-returns-in-Some t c =
 pub read_value-returns-in-Null : goal.read_value-returns-in-Null
 read_value-returns-in-Null t c =
     let same : c.args.reader.now ≡ c.take_whole.new.self = grind arith in
-    seen_token (same ∙ c.in_ok-next.ensures) (ap token_of c.in-Null.is) (search (rules, the_lemmas)) (null_value _ _)
+    seen_token (same ∙ c.in_ok-next.ensures) (ap token_of c.in-Null.is) refl (null_value _ _)
 
 pub read_value-returns-in-Bool : goal.read_value-returns-in-Bool
 read_value-returns-in-Bool t c =
     let same : c.args.reader.now ≡ c.take_whole.new.self = grind arith in
-    seen_token (same ∙ c.in_ok-next.ensures) (ap token_of c.in-Bool.is) (search (rules, the_lemmas))
-    (boolean_value _ _ _)
+    seen_token (same ∙ c.in_ok-next.ensures) (ap token_of c.in-Bool.is) refl (boolean_value _ _ _)
 
 pub read_value-returns-in_ok-n-in-Number : goal.read_value-returns-in_ok-n-in-Number
 read_value-returns-in_ok-n-in-Number t c =
@@ -74,21 +70,20 @@ read_value-returns-in_ok-n-in-Number t c =
 pub read_value-returns-in_ok-copy-in-String : goal.read_value-returns-in_ok-copy-in-String
 read_value-returns-in_ok-copy-in-String t c =
     let same : c.args.reader.now ≡ c.take_whole.new.self = grind arith in
-    seen_token (same ∙ c.in_ok-next.ensures) (ap token_of c.in-String.is) (search (rules, the_lemmas))
-    (string_value _ _ _)
+    seen_token (same ∙ c.in_ok-next.ensures) (ap token_of c.in-String.is) (search rules) (string_value _ _ _)
 
 pub read_value-returns-in_ok-items-in-BeginArray : goal.read_value-returns-in_ok-items-in-BeginArray
 read_value-returns-in_ok-items-in-BeginArray t c =
     let same : c.args.reader.now ≡ c.take_whole.new.self = grind arith in
     let found = c.in_ok-items-in-BeginArray in
-    seen_token (same ∙ c.in_ok-next.ensures) (ap token_of c.in-BeginArray.is) (view-Array found.items)
+    seen_token (same ∙ c.in_ok-next.ensures) (ap token_of c.in-BeginArray.is) refl
     (array_value _ _ _ _ (omega arith) found.ensures)
 
 pub read_value-returns-in_ok-members-in-BeginObject : goal.read_value-returns-in_ok-members-in-BeginObject
 read_value-returns-in_ok-members-in-BeginObject t c =
     let same : c.args.reader.now ≡ c.take_whole.new.self = grind arith in
     let found = c.in_ok-members-in-BeginObject in
-    seen_token (same ∙ c.in_ok-next.ensures) (ap token_of c.in-BeginObject.is) (view-Object found.members)
+    seen_token (same ∙ c.in_ok-next.ensures) (ap token_of c.in-BeginObject.is) refl
     (object_value _ _ _ _ (omega arith) found.ensures)
 
 pub read_items-items-init : goal.read_items-items-init

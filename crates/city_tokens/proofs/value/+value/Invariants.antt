@@ -1,5 +1,5 @@
-use Rattle.city_tokens.proofs.Prelude.{◌+◌, ◌*◌, length, view, members_view}
-use Rattle.std.specs.Prelude.{map}
+use Rattle.city_tokens.proofs.Prelude.{◌+◌, ◌*◌, length, map}
+use Rattle.city_model.specs.internal.KeptValues.{value_data, members_built}
 use Rattle.city_tokens.proofs.Reading.{AreRead, AreFound}
 use Rattle.city_tokens.proofs.value.+value.Given as goal
 
@@ -10,19 +10,16 @@ abbrev pub decreases-read_items : goal.decreases-read_items
 decreases-read_items l = 3 * l.depth + 1
 
 abbrev pub decreases-read_members : goal.decreases-read_members
-decreases-read_members l = 3 * l.depth + 2
-
-abbrev pub decreases-read_member : goal.decreases-read_member
-decreases-read_member l = 3 * l.depth + 1
+decreases-read_members l = 3 * l.depth + 1
 
 abbrev pub invariant-read_items-items : goal.invariant-read_items-items
-invariant-read_items-items l = AreRead l.depth l.initial.reader l.reader (map view l.found.items)
+invariant-read_items-items l = AreRead l.depth l.initial.reader l.reader (map value_data l.found.items)
 
 abbrev pub decreases-read_items-items : goal.decreases-read_items-items
 decreases-read_items-items l = length l.reader
 
 abbrev pub invariant-read_members-members : goal.invariant-read_members-members
-invariant-read_members-members l = AreFound l.depth l.initial.reader l.reader (members_view l.found.entries)
+invariant-read_members-members l = AreFound l.depth l.initial.reader l.reader (members_built l.found)
 
 abbrev pub decreases-read_members-members : goal.decreases-read_members-members
 decreases-read_members-members l = length l.reader
