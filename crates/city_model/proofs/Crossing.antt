@@ -45,11 +45,13 @@ members_syncs = search (list_sends, list_syncs, values.crosses, sendable) depth 
 
 pub extra_sends : IsSend SharedExtra.the_field.row
 extra_sends =
-    search (members_sends, members_syncs, maps.crosses, values.crosses, json.crosses, kept.crosses, sendable) depth 60 fits 20000
+    search (members_sends, members_syncs, maps.crosses, values.crosses, json.crosses, kept.crosses, sendable)
+    depth 60 fits 20000
 
 pub extra_syncs : IsSync SharedExtra.the_field.row
 extra_syncs =
-    search (members_sends, members_syncs, maps.crosses, values.crosses, json.crosses, kept.crosses, sendable) depth 60 fits 20000
+    search (members_sends, members_syncs, maps.crosses, values.crosses, json.crosses, kept.crosses, sendable)
+    depth 60 fits 20000
 
 pub body_sends : IsSend Body.the_field.row
 body_sends = search (

@@ -158,8 +158,12 @@ module _ (xs : List Pair) (name : List ℕ) (i : ℕ) where
         let first : length (take i xs) ≡ i = length-take-le i xs (omega (arith, h.within)) in
         record {
           within = omega (arith, length-append (take i xs) (drop (i + 1) xs), first);
-          below = subst (λ ys. AllBelow (members_data ys) name) (sym (take_at (take i xs) (drop (i + 1) xs) i first)) h.below;
-          above = subst (λ ys. AllAbove name (members_data ys)) (sym (drop_at (take i xs) (drop (i + 1) xs) i first)) h.above;
+          below =
+              subst (λ ys. AllBelow (members_data ys) name)
+              (sym (take_at (take i xs) (drop (i + 1) xs) i first)) h.below;
+          above =
+              subst (λ ys. AllAbove name (members_data ys))
+              (sym (drop_at (take i xs) (drop (i + 1) xs) i first)) h.above;
         }
 
     pub data_left : members_data left ≡ without name (members_data xs)

@@ -54,18 +54,6 @@ pub(crate) fn put(
     Ok(())
 }
 
-/// Gives the members a copy of one.
-pub(crate) fn put_copy_of(
-    members: &mut Map<String, Value>,
-    name: &String,
-    value: &Value,
-) -> Result<(), OutOfMemory>
-    ensures { OnOk result (members_view members.new.entries
-        ≡ put (string_bytes name.now) (view value.now) (members_view members.old.entries)) }
-{
-    put(members, name.clone()?, value.clone()?)
-}
-
 /// A copy of a map of members.
 pub(crate) fn copy_of(members: &Map<String, Value>) -> Result<Map<String, Value>, OutOfMemory>
     ensures { IfOk result (λ copy. members_view copy.entries ≡ members_view members.now.entries) }

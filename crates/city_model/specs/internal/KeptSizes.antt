@@ -5,8 +5,10 @@ use Rattle.std.proofs.Common.{arith}
 use denote.Param.Weighed.{most}
 use Rattle.city_model.specs.declared.kept.few_members.FewMembers.TheDeep.{deep-KeptValue}
 use Rattle.city_model.specs.declared.kept.kept_value.KeptValue.{KeptValue}
-use Rattle.city_model.specs.declared.kept.kept_value.KeptValue.TheVariants.{Null, Bool, Number, String as Text, Array, Object}
-use Rattle.city_model.specs.internal.KeptValues.{value_data, items_data, members_data, data_size, items_size, members_size}
+use Rattle.city_model.specs.declared.kept.kept_value.KeptValue.TheVariants.{Null, Bool, Number, String as Text, Array}
+use Rattle.city_model.specs.declared.kept.kept_value.KeptValue.TheVariants.{Object}
+use Rattle.city_model.specs.internal.KeptValues.{value_data, items_data, members_data, data_size, items_size}
+use Rattle.city_model.specs.internal.KeptValues.{members_size}
 
 -- the depth of a value that is an array or an object
 deep_value : (v : KeptValue) → deep-KeptValue v ≤ data_size (value_data v)
@@ -21,7 +23,8 @@ pub most_items : (vs : List KeptValue) → max (most (λ v. deep-KeptValue v) vs
 most_items [] = omega arith
 most_items (v ∷ vs) = omega (arith, deep_value v, most_items vs)
 
-pub most_members : (weight : String Global × KeptValue → ℕ) → ((m : String Global × KeptValue) → weight m ≤ deep-KeptValue m.1)
+pub most_members : (weight : String Global × KeptValue → ℕ)
+    → ((m : String Global × KeptValue) → weight m ≤ deep-KeptValue m.1)
     → (ms : List (String Global × KeptValue)) → max (most weight ms) 0 ≤ members_size (members_data ms)
 most_members weight h [] = omega arith
 most_members weight h (m ∷ ms) = omega (arith, h m, deep_value m.1, most_members weight h ms)

@@ -5,7 +5,8 @@ use Rattle.serde_json.specs.Data.{Data, null, boolean, number, string, array, ob
 use Rattle.serde_json.specs.Data.{Items, no_items, item, Members, no_members, member}
 use Rattle.serde_json.specs.View.{number_view, items_of}
 use Rattle.city_model.specs.declared.kept.kept_value.KeptValue.{KeptValue}
-use Rattle.city_model.specs.declared.kept.kept_value.KeptValue.TheVariants.{Null, Bool, Number, String as Text, Array, Object}
+use Rattle.city_model.specs.declared.kept.kept_value.KeptValue.TheVariants.{Null, Bool, Number, String as Text, Array}
+use Rattle.city_model.specs.declared.kept.kept_value.KeptValue.TheVariants.{Object}
 use Rattle.city_model.specs.declared.kept.members_builder.MembersBuilder.{MembersBuilder}
 use Rattle.city_model.specs.declared.kept.members_builder.MembersBuilder.TheVariants.{Few, Many}
 

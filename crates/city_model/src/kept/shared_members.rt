@@ -69,16 +69,6 @@ fn room_for(count: usize) -> usize {
 }
 
 impl SharedMembers {
-    /// No members. Doesn't allocate.
-    pub fn new(alloc: Global) -> Self
-        ensures { result ≡ no_members }
-    {
-        SharedMembers {
-            lists: Vec::new(alloc),
-            room: room_for(0),
-        }
-    }
-
     /// The members of one list. Takes over its values.
     pub fn from_few(alloc: Global, few: FewMembers) -> Result<Self, OutOfMemory>
         ensures { IfOk result (λ members. members ≡ few) }

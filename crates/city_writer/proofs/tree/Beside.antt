@@ -50,7 +50,8 @@ put_before o d k e ms greater = rw (back k o greater) refl
 
 pub parts_integral : (k : List ℕ) (d : Data) (ms all : Members) → all ≡ member k d ms → members_integral all ≡ true
     → (is_integral d ≡ true) × (members_integral ms ≡ true)
-parts_integral k d ms all is whole = and_parts (is_integral d) (members_integral ms) (subst (λ ns. members_integral ns ≡ true) is whole)
+parts_integral k d ms all is whole =
+    and_parts (is_integral d) (members_integral ms) (subst (λ ns. members_integral ns ≡ true) is whole)
 
 -- one of the same name is replaced
 pub put_over : (o : List ℕ) (d : Data) (k : List ℕ) (e : Data) (ms : Members) → cmp k o ≡ Equal

@@ -15,15 +15,18 @@ few_members::FewMembers::from_map-loop-name-preserved t c = search (rules, pair_
 
 pub few_members::FewMembers::from_map-invariant_of-result : goal.few_members::FewMembers::from_map-invariant_of-result
 few_members::FewMembers::from_map-invariant_of-result t c =
-    let last : joined (members_data c.loop-name.members.items) no_members ≡ members_view c.args.map.entries = search rules in
+    let last : joined (members_data c.loop-name.members.items) no_members ≡ members_view c.args.map.entries =
+    search rules in
     subst AreOrdered (sym last ∙ joined-none _) c.members_count-count.ensures.ordered
 
 pub few_members::FewMembers::from_map-returns : goal.few_members::FewMembers::from_map-returns
 few_members::FewMembers::from_map-returns t c =
-    let last : joined (members_data c.loop-name.members.items) no_members ≡ members_view c.args.map.entries = search rules in
+    let last : joined (members_data c.loop-name.members.items) no_members ≡ members_view c.args.map.entries =
+    search rules in
     sym (joined-none _) ∙ last
 
-pub kept_items::KeptItems::from_values-loop-value-preserved : goal.kept_items::KeptItems::from_values-loop-value-preserved
+pub kept_items::KeptItems::from_values-loop-value-preserved :
+    goal.kept_items::KeptItems::from_values-loop-value-preserved
 kept_items::KeptItems::from_values-loop-value-preserved t c =
     let items = c.loop-value.items.items in
     let pushed : c.push.new.self.items ≡ items ++ c.in_ok-item.item ∷ [] = grind arith in
@@ -34,5 +37,6 @@ kept_items::KeptItems::from_values-loop-value-preserved t c =
 pub kept_items::KeptItems::from_values-returns : goal.kept_items::KeptItems::from_values-returns
 kept_items::KeptItems::from_values-returns t c =
     let done = map value_data c.loop-value.items.items in
-    let over : into_iter_items c.loop-value.value-iterator ≡ [] = nil_from_length _ (grind (arith, c.in-None.ensures.steps.0)) in
+    let over : into_iter_items c.loop-value.value-iterator ≡ [] =
+    nil_from_length _ (grind (arith, c.in-None.ensures.steps.0)) in
     ap items_of (sym (append-nil done) ∙ ap (λ vs. done ++ map view vs) (sym over) ∙ c.loop-value.invariant)

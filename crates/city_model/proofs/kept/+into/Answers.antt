@@ -1,4 +1,5 @@
-use Rattle.city_model.proofs.Prelude.{◌≡◌, ◌≤◌, ◌∙◌, ◌++◌, ◌∷◌, [], ap, append-nil, arith, map, members_view, rules, string_bytes, subst, sym}
+use Rattle.city_model.proofs.Prelude.{◌≡◌, ◌≤◌, ◌∙◌, ◌++◌, ◌∷◌, [], ap, append-nil, arith, map, members_view, rules}
+use Rattle.city_model.proofs.Prelude.{string_bytes, subst, sym}
 use Rattle.serde_json.specs.Data.{member, put}
 use Rattle.std.proofs.lemmas.List.{nil_from_length}
 use Rattle.std.specs.Vec.Iter.{into_iter_items}
@@ -21,7 +22,8 @@ kept_items::KeptItems::into_values-loop-item-preserved t c =
 pub kept_items::KeptItems::into_values-returns : goal.kept_items::KeptItems::into_values-returns
 kept_items::KeptItems::into_values-returns t c =
     let done = map view c.loop-item.values.items in
-    let over : into_iter_items c.loop-item.item-iterator ≡ [] = nil_from_length _ (grind (arith, c.in-None.ensures.steps.0)) in
+    let over : into_iter_items c.loop-item.item-iterator ≡ [] =
+    nil_from_length _ (grind (arith, c.in-None.ensures.steps.0)) in
     ap items_of (sym (append-nil done) ∙ ap (λ vs. done ++ map value_data vs) (sym over)) ∙ c.loop-item.invariant
 
 pub kept_items::KeptItems::into_values-into_value-requires : goal.kept_items::KeptItems::into_values-into_value-requires
@@ -58,7 +60,8 @@ few_members::FewMembers::into_map-loop-name-preserved t c =
     let left = members_data (into_iter_items c.next.new.self) in
     let is : joined map (member (string_bytes c.in-Some.name) (value_data c.in-Some.value) left) ≡ c.args.self =
     ap (λ ms. joined map (members_data ms)) (sym c.in-Some.ensures.steps.0) ∙ c.loop-name.invariant.1 in
-    let done : members_view c.put.new.members.entries ≡ put (string_bytes c.in-Some.name) (value_data c.in-Some.value) map =
+    let done : members_view c.put.new.members.entries
+    ≡ put (string_bytes c.in-Some.name) (value_data c.in-Some.value) map =
     c.in_ok-put.ensures ∙ ap (λ d. put (string_bytes c.in-Some.name) d map) c.in_ok-value.ensures in (
       c.loop-name.invariant.0,
       ap (λ ms. joined ms left) done
@@ -70,5 +73,6 @@ few_members::FewMembers::into_map-loop-name-preserved t c =
 pub few_members::FewMembers::into_map-returns : goal.few_members::FewMembers::into_map-returns
 few_members::FewMembers::into_map-returns t c =
     let map = members_view c.loop-name.map.entries in
-    let over : into_iter_items c.loop-name.name-iterator ≡ [] = nil_from_length _ (grind (arith, c.in-None.ensures.steps.0)) in
+    let over : into_iter_items c.loop-name.name-iterator ≡ [] =
+    nil_from_length _ (grind (arith, c.in-None.ensures.steps.0)) in
     sym (joined-none map) ∙ ap (λ ms. joined map (members_data ms)) (sym over) ∙ c.loop-name.invariant.1

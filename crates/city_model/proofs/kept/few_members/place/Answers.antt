@@ -1,4 +1,5 @@
-use Rattle.city_model.proofs.Prelude.{◌≡◌, Equal, Less, arith, length, nat_cmp, rules, slice_cmp, string_bytes, subst, sym, take}
+use Rattle.city_model.proofs.Prelude.{◌≡◌, Equal, Less, arith, length, nat_cmp, rules, slice_cmp, string_bytes, subst}
+use Rattle.city_model.proofs.Prelude.{sym, take}
 use Rattle.std.proofs.Common.{Greater}
 use Rattle.std.proofs.lemmas.List.{drop_all}
 use Rattle.city_model.specs.Members.{AllAbove}

@@ -35,5 +35,6 @@ loop-name-preserved c =
 pub returns : goal.returns
 returns c =
     let map = members_data c.loop-name.map.entries in
-    let over : into_iter_items c.loop-name.name-iterator ≡ [] = nil_from_length _ (grind (arith, c.in-None.ensures.steps.0)) in
+    let over : into_iter_items c.loop-name.name-iterator ≡ [] =
+    nil_from_length _ (grind (arith, c.in-None.ensures.steps.0)) in
     sym (joined-none map) ∙ ap (λ ms. joined map (members_data ms)) (sym over) ∙ c.loop-name.invariant.1

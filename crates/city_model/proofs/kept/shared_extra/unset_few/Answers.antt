@@ -31,7 +31,8 @@ returns c =
     let names = c.args.names.now in
     let is : attributes_in all ≡ Some own = search rules in
     ap Some
-    (c.stored-made.ensures ∙ c.in_ok-storage.ensures ∙ ap (λ ms. with_attributes ms c.without_each-left.result) c.in_ok-copy.ensures
+    (c.stored-made.ensures ∙ c.in_ok-storage.ensures
+    ∙ ap (λ ms. with_attributes ms c.without_each-left.result) c.in_ok-copy.ensures
     ∙ ap (with_attributes others) c.without_each-left.ensures
     ∙ unset_own others c.args.found.now names own)
     ∙ ap (option_map (with_unset all names)) (sym is)

@@ -35,5 +35,6 @@ pub write_kept-returns-in_ok-begin_object-in-Object-clause-reads :
     goal.write_kept-returns-in_ok-begin_object-in-Object-clause-reads
 write_kept-returns-in_ok-begin_object-in-Object-clause-reads t c =
     on_ok_weaker c.write_members.result (λ h. rw c.in-Object.is
-    (object_reads _ c.as_slice-in-Object.ensures.ordered (subst MembersReadBack c.as_slice-in-Object.ensures.members h)))
+    (object_reads _ c.as_slice-in-Object.ensures.ordered
+    (subst MembersReadBack c.as_slice-in-Object.ensures.members h)))
     c.write_members.ensures.reads

@@ -11,10 +11,12 @@ loop-name-preserved c = search (rules, pair_last)
 
 pub invariant_of-result : goal.invariant_of-result
 invariant_of-result c =
-    let last : joined (members_data c.loop-name.members.items) no_members ≡ members_data c.args.map.entries = search rules in
+    let last : joined (members_data c.loop-name.members.items) no_members ≡ members_data c.args.map.entries =
+    search rules in
     subst AreOrdered (sym last ∙ joined-none _) (ordered_data c.args.map.entries c.len.ensures.ordered)
 
 pub returns : goal.returns
 returns c =
-    let last : joined (members_data c.loop-name.members.items) no_members ≡ members_data c.args.map.entries = search rules in
+    let last : joined (members_data c.loop-name.members.items) no_members ≡ members_data c.args.map.entries =
+    search rules in
     sym (joined-none _) ∙ last

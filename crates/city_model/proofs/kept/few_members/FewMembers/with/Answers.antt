@@ -8,7 +8,8 @@ use Rattle.city_model.proofs.KeptLists.{put_free}
 use Rattle.city_model.proofs.MemberLists.{ordered_put}
 use Rattle.city_model.proofs.kept.few_members.FewMembers.with.Goals as goal
 
-all : (c : goal.In_ok-insert) → members_data c.insert.new.self.items ≡ put (string_bytes c.args.name) (value_data c.args.value) c.args.self
+all : (c : goal.In_ok-insert) → members_data c.insert.new.self.items
+    ≡ put (string_bytes c.args.name) (value_data c.args.value) c.args.self
 all c =
     let left = c.clear-at.new.members.items in
     let at = c.clear-at.result in

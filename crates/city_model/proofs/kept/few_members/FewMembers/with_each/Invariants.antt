@@ -6,4 +6,5 @@ use Rattle.city_model.proofs.kept.few_members.FewMembers.with_each.Given as goal
 -- the members so far, with the rest put
 abbrev pub invariant-loop-name : goal.invariant-loop-name
 invariant-loop-name l =
-    put_each (members_view l.fn.named.entries) l.fn.self ≡ put_each (members_view l.name-iterator) (members_built l.built)
+    put_each (members_view l.fn.named.entries) l.fn.self
+    ≡ put_each (members_view l.name-iterator) (members_built l.built)

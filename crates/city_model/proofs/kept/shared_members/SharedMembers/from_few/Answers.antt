@@ -31,4 +31,5 @@ pub returns : goal.returns
 returns c =
     subst (λ ms. IfOk c.closed.result (λ members. members ≡ ms))
     (all c.args.few c.loop-name.last c.loop-name.lists.items
-    (into_iter_items c.loop-name.name-iterator) (grind (arith, c.in-None.ensures.steps.0)) c.loop-name.invariant) c.closed.ensures
+    (into_iter_items c.loop-name.name-iterator) (grind (arith, c.in-None.ensures.steps.0)) c.loop-name.invariant)
+    c.closed.ensures

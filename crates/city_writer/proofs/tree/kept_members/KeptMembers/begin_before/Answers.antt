@@ -10,7 +10,8 @@ pub returns-then-is_lt : goal.returns-then-is_lt
 returns-then-is_lt c =
     let name = c.args.name.now in
     let others = with_first c.self.inside.first (members_view c.self.inside.others) in
-    let is : begins_before name c.args.self.now ≡ (is_lt (slice_cmp nat_cmp c.in-Some.own.now name) || begins_before name others) =
+    let is : begins_before name c.args.self.now
+    ≡ (is_lt (slice_cmp nat_cmp c.in-Some.own.now name) || begins_before name others) =
     ap (begins_before name) (sym (rw c.in-Some.is at c.self.view_is))
     ∙ begins_beside name c.in-Some.own.now (value_of c.in-Some.field-0-1) others in
     grind (arith, is, c.cmp.ensures, c.is_lt.ensures, c.if-is_lt.true)
@@ -19,7 +20,8 @@ pub returns-else-is_lt : goal.returns-else-is_lt
 returns-else-is_lt c =
     let name = c.args.name.now in
     let others = with_first c.self.inside.first (members_view c.self.inside.others) in
-    let is : begins_before name c.args.self.now ≡ (is_lt (slice_cmp nat_cmp c.in-Some.own.now name) || begins_before name others) =
+    let is : begins_before name c.args.self.now
+    ≡ (is_lt (slice_cmp nat_cmp c.in-Some.own.now name) || begins_before name others) =
     ap (begins_before name) (sym (rw c.in-Some.is at c.self.view_is))
     ∙ begins_beside name c.in-Some.own.now (value_of c.in-Some.field-0-1) others in
     let first = begins_first name c.self.inside.first (members_view c.self.inside.others) c.self.invariant.0 in
