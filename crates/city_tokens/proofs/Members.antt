@@ -1,17 +1,20 @@
 -- Members put in among the ones found: the place of each, and the kept ones.
 use Rattle.city_tokens.proofs.Prelude.{arith, ◌≡◌, ℕ, List, [], ◌∷◌, true, false, Option, None, Some, Less, Equal}
-use Rattle.city_tokens.proofs.Prelude.{nat_cmp, object, option_map}
-use Rattle.city_tokens.proofs.Prelude.{refl, sym, ap, ◌∙◌, codes, if◌then◌else◌, slice_cmp, exact_bytes, Data, Members}
+use Rattle.city_tokens.proofs.Prelude.{nat_cmp, option_map}
+use Rattle.city_tokens.proofs.Prelude.{refl, sym, ◌∙◌, codes, if◌then◌else◌, slice_cmp, exact_bytes, Data, Members}
 use Rattle.city_tokens.proofs.Prelude.{no_members, member, put, get_member, same_id, has_id, without, without_each}
 use Rattle.city_tokens.proofs.Prelude.{AllAbove, AreOrdered, by_id, same_id_back, IsListSlot, IsArrayOf, IsString}
 use Rattle.city_tokens.proofs.Prelude.{IsReadAs, IsTaken, IsPassed, Token, Geometry, ObjectParts, IsGeometry}
 use Rattle.city_tokens.proofs.Prelude.{IsObjectSoFar, Object, Vertex, IsVertex}
 use Rattle.std.proofs.lemmas.Bool.{or_parts}
 use Rattle.serde_json.proofs.Views.{get_member-put}
-use Rattle.city_tokens.specs.internal.Standing.{IsSlot, IsObjectOf}
+use Rattle.city_tokens.specs.internal.Standing.{IsSlot}
+use Rattle.city_tokens.specs.internal.Taken.{IsValue}
 use Rattle.city_tokens.proofs.tree.Puts.{get_member-put_apart, without-absent, without-put_own}
 use Rattle.city_model.proofs.KeptIn.{put_back}
-use Rattle.city_model.specs.internal.KeptIn.{with_own}
+use Rattle.city_model.specs.internal.KeptIn.{with_value}
+use Rattle.city_model.specs.internal.KeptValues.{value_data}
+use Rattle.city_model.specs.declared.kept.kept_value.KeptValue.{KeptValue}
 use Rattle.city_model.proofs.Puts.{all_above_lower, put_first, ordered_put}
 use Rattle.city_model.specs.Kept.{geometry_members}
 use Rattle.city_model.specs.declared.object_type.ObjectType.{ObjectType}
@@ -104,10 +107,11 @@ pub member_other : (o : Option Data) (q name : List ℕ) (d : Data) (ms : Member
 member_other o q name d ms apart h = h ∙ sym (get_member-put_apart q name d ms apart)
 
 -- attributes taken out are put back
-pub own_back : (own : Option Members) (ms : Members) → AreOrdered ms
-    → option_map object own ≡ get_member (codes "attributes") ms → with_own (without (codes "attributes") ms) own ≡ ms
+pub own_back : (own : Option KeptValue) (ms : Members) → AreOrdered ms
+    → option_map value_data own ≡ get_member (codes "attributes") ms
+    → with_value (without (codes "attributes") ms) own ≡ ms
 own_back None ms h is = without-absent (codes "attributes") ms (sym is)
-own_back (Some found) ms h is = put_back (codes "attributes") (object found) ms h (sym is)
+own_back (Some v) ms h is = put_back (codes "attributes") (value_data v) ms h (sym is)
 
 -- members so far, and one more of a literal name
 pub ruleset put_in = (slot_here, slot_other, list_here, list_other, member_other, ordered_put, put_own)
@@ -138,11 +142,10 @@ module _ {old : ObjectParts} {name : List ℕ} {depth : ℕ} {before after : Lis
       → IsTaken IsObjectSoFar old (record old { children = ids }) name depth before after
   object_children named read = (read.0, read.1, λ found kept h. rw named (search (put_in, h, read)))
 
-  pub object_attributes : {few : Members} → name ≡ codes "attributes" → IsReadAs IsObjectOf few depth before after
-      → IsTaken IsObjectSoFar old (record old { attributes = Some few }) name depth before after
-  object_attributes {few = few} named read =
-      let is : Some (object few) ≡ Some read.0 = ap Some (sym read.2) in
-      (read.0, read.1, λ found kept h. rw named (search (put_in, put_own object_names, member_here, h, is)))
+  pub object_attributes : {v : KeptValue} → name ≡ codes "attributes" → IsValue depth before (value_data v) after
+      → IsTaken IsObjectSoFar old (record old { attributes = Some v }) name depth before after
+  object_attributes {v = v} named read =
+      (value_data v, read, λ found kept h. rw named (search (put_in, put_own object_names, member_here, h)))
 
 pub object_kept : {old : ObjectParts} {name : List ℕ} {before : List Token} → (name ≡ codes "type" → ⊥)
     → (name ≡ codes "geometry" → ⊥) → (name ≡ codes "parents" → ⊥) → (name ≡ codes "children" → ⊥)

@@ -3,13 +3,13 @@ ghost use Rattle.std.specs.Prelude.{◌≡◌, ℕ, Some, IfSome};
 ghost use Rattle.serde_json.specs.Data.{Members, no_members, object};
 ghost use Rattle.serde_json.specs.View.{members_view};
 ghost use Rattle.city_tokens.specs.internal.Objects.{IsObject, IsObjectSoFar};
-ghost use Rattle.city_tokens.specs.internal.Standing.{IsArrayOf, IsObjectOf, IsReadAs, IsString};
+ghost use Rattle.city_tokens.specs.internal.Standing.{IsArrayOf, IsReadAs, IsString};
 
 use crate::list::FromTokens;
 use crate::member_visitor::{MemberVisitor, read_object as read_all_members};
 use crate::text::{is_name, read_str};
-use crate::value::read_members;
-use city_model::kept::few_members::FewMembers;
+use crate::value::read_value;
+use city_model::kept::kept_value::KeptValue;
 use city_model::kept::shared_extra::SharedExtra;
 use city_model::object::{Body, Geometry};
 use city_model::object_type::{ObjectType, type_named};
@@ -18,7 +18,6 @@ use city_model::shared::Shared;
 use city_model::shared_ids::SharedIds;
 use city_model::text::Id;
 use city_reader::Reader;
-use json::Token;
 use serde_json::{Map, Value};
 use std::alloc::Global;
 use std::marker::Model;
@@ -30,8 +29,8 @@ pub struct ObjectParts {
     pub geometry: Sequence<Geometry>,
     pub parents: SharedIds,
     pub children: SharedIds,
-    /// The members of `attributes`, in the place that they are kept in.
-    pub attributes: Option<FewMembers>,
+    /// The value of `attributes`: most objects keep nothing else.
+    pub attributes: Option<KeptValue>,
 }
 
 impl ObjectParts {
@@ -72,7 +71,7 @@ impl MemberVisitor for ObjectParts {
             let children = read_ids(alloc, reader, depth)?;
             self.children = children;
         } else if is_name(name, "attributes") {
-            let attributes = read_attributes(alloc, reader, depth)?;
+            let attributes = read_value(alloc, reader, depth)?;
             self.attributes = Some(attributes);
         } else {
             return Some(false);
@@ -87,19 +86,6 @@ fn read_ids(alloc: Global, reader: &mut Reader<'_>, depth: usize) -> Option<Shar
 {
     let ids = Sequence::<Id>::from_tokens(alloc, reader, depth)?;
     SharedIds::from_sequence(alloc, ids).ok()
-}
-
-/// The next value, an object.
-fn read_attributes(alloc: Global, reader: &mut Reader<'_>, depth: usize) -> Option<FewMembers>
-    ensures { IfSome result (λ members. IsReadAs IsObjectOf members depth reader.old reader.new) }
-{
-    let Token::BeginObject = reader.next()? else {
-        return None;
-    };
-    if depth == 0 {
-        return None;
-    }
-    read_members(alloc, reader, depth - 1)
 }
 
 /// An object before points replace its positions, with a body of its own. Contracts see the object.

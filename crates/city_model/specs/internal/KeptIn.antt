@@ -5,6 +5,8 @@ use Rattle.serde_json.specs.Data.{object, Members, put}
 use Rattle.serde_json.specs.View.{members_view}
 use Rattle.city_model.specs.Attributes.{attributes}
 use Rattle.city_model.specs.Integral.{members_integral}
+use Rattle.city_model.specs.declared.kept.kept_value.KeptValue.{KeptValue}
+use Rattle.city_model.specs.internal.KeptValues.{value_data}
 use Rattle.city_model.specs.declared.kept.shared_extra.Storage.{Storage}
 use Rattle.city_model.specs.declared.kept.shared_extra.Storage.TheVariants.{Few, Many}
 use Rattle.city_model.specs.declared.kept.shared_extra.LentMembers.{LentMembers}
@@ -15,6 +17,11 @@ use Rattle.city_model.specs.declared.kept.shared_extra.LentMembers.TheVariants a
 abbrev pub with_own : Members → Option Members → Members
 with_own ms None = ms
 with_own ms (Some found) = put attributes (object found) ms
+
+-- the members, and `attributes` of this value
+abbrev pub with_value : Members → Option KeptValue → Members
+with_value ms None = ms
+with_value ms (Some v) = put attributes (value_data v) ms
 
 -- every number of the attributes is an `i64`
 abbrev pub found_integral : Option Members → Bool

@@ -7,7 +7,7 @@ ghost use Rattle.city_model.specs.Attributes.{attributes, attributes_in, has_att
 ghost use Rattle.city_model.specs.Attributes.{with_set, with_unset};
 ghost use Rattle.city_model.specs.Kept.{kept_at_object};
 ghost use Rattle.city_model.specs.Members.{AreOrdered};
-ghost use Rattle.city_model.specs.internal.KeptIn.{kept_in, lent, found_integral, with_own};
+ghost use Rattle.city_model.specs.internal.KeptIn.{kept_in, lent, found_integral, with_own, with_value};
 
 use crate::OutOfMemory;
 use crate::attributes::has_attributes;
@@ -16,6 +16,7 @@ use crate::copied::Copied;
 use crate::integral::have_integral;
 use crate::kept::extra::Extra;
 use crate::kept::few_members::FewMembers;
+use crate::kept::kept_value::KeptValue;
 use crate::kept::shared_members::SharedMembers;
 use crate::kept::site::{AtObject, Site};
 use crate::kept::size::Size;
@@ -93,25 +94,26 @@ impl SharedExtra {
         Ok(SharedExtra { storage })
     }
 
-    /// These members and `attributes`, for all copies to share if they are many; `None` if an
-    /// object doesn't keep them.
+    /// These members, and this value of `attributes` in its place, for all copies to share if they
+    /// are many; `None` if an object doesn't keep them. Fails only when out of memory.
     pub fn from_parts(
         alloc: Global,
         others: Map<String, Value>,
-        found: Option<FewMembers>,
+        attributes: Option<KeptValue>,
     ) -> Result<Option<Self>, OutOfMemory>
         ensures { IfOk result (λ made. IfSome made (λ shared.
-            (shared ≡ with_own (members_view others.entries) found) × (kept_at_object shared ≡ true))) }
+            (shared ≡ with_value (members_view others.entries) attributes) × (kept_at_object shared ≡ true))) }
     {
-        // (called for its contract: the names ascend)
-        let _count = members_count(&others);
-        let mut size = Size::new();
-        if !AtObject::admits(&others, &mut size) || !are_integral(&found, &mut size) {
-            return Ok(None);
+        match attributes {
+            None => of_parts(alloc, others, None),
+            Some(KeptValue::Object(found)) => of_parts(alloc, others, Some(found)),
+            Some(odd) => {
+                let mut all = others;
+                let value = odd.into_value(alloc)?;
+                put(&mut all, "attributes".to_string(alloc)?, value)?;
+                of_parts(alloc, all, None)
+            }
         }
-        let storage = storage_of(alloc, others, found, size.is_large())?;
-        let made = stored(storage);
-        Ok(Some(made))
     }
 
     /// The members. Doesn't allocate.
@@ -170,6 +172,26 @@ impl Copied for SharedExtra {
             }),
         }
     }
+}
+
+/// These members, and those of `attributes` in its place; `None` if an object doesn't keep them.
+fn of_parts(
+    alloc: Global,
+    others: Map<String, Value>,
+    found: Option<FewMembers>,
+) -> Result<Option<SharedExtra>, OutOfMemory>
+    ensures { IfOk result (λ made. IfSome made (λ shared.
+        (shared ≡ with_own (members_view others.entries) found) × (kept_at_object shared ≡ true))) }
+{
+    // (called for its contract: the names ascend)
+    let _count = members_count(&others);
+    let mut size = Size::new();
+    if !AtObject::admits(&others, &mut size) || !are_integral(&found, &mut size) {
+        return Ok(None);
+    }
+    let storage = storage_of(alloc, others, found, size.is_large())?;
+    let made = stored(storage);
+    Ok(Some(made))
 }
 
 /// Whether every number of the members is an `i64`. If so, their size is counted.

@@ -9,6 +9,7 @@ use Rattle.city_model.specs.Kept.{kept_at_object}
 use Rattle.city_model.specs.Members.{without, AreOrdered}
 use Rattle.city_model.specs.Shells.{body_fault}
 use Rattle.city_model.specs.Types.{type_named}
+use Rattle.city_model.specs.internal.KeptValues.{value_data}
 use Rattle.city_tokens.specs.declared.object.ObjectParts.{ObjectParts}
 use Rattle.city_tokens.specs.declared.objects.Listing.{Listing}
 use Rattle.city_tokens.specs.object.Bodies.{without_object_members, object_of}
@@ -35,7 +36,7 @@ pub record IsObjectSoFar (parts : ObjectParts) (found kept : Members) : Type 0 w
   pub geometry : IsListSlot IsGeometry parts.geometry (get_member (codes "geometry") found)
   pub parents : IsListSlot IsString parts.parents (get_member (codes "parents") found)
   pub children : IsListSlot IsString parts.children (get_member (codes "children") found)
-  pub attributes : option_map object parts.attributes ≡ get_member (codes "attributes") found
+  pub attributes : option_map value_data parts.attributes ≡ get_member (codes "attributes") found
   pub ordered : AreOrdered found
   pub extra : kept ≡ without (codes "attributes") (without_object_members found)
 

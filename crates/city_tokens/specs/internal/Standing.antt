@@ -1,7 +1,7 @@
 -- Values as read, and their trees: alone, as items of an array, or as members.
 use Rattle.std.specs.Prelude.{◌≡◌, ℕ, List, [], ◌∷◌, Option, Some, None}
 use Rattle.json.specs.Token.{Token}
-use Rattle.serde_json.specs.Data.{Data, array, object, Members, put}
+use Rattle.serde_json.specs.Data.{Data, array, Members, put}
 use Rattle.serde_json.specs.Find.{as_str}
 use Rattle.serde_json.specs.View.{items_of}
 use Rattle.city_tokens.specs.internal.Taken.{IsValue}
@@ -46,7 +46,3 @@ abbrev pub IsPassed : {A : Type 0} → (A → Members → Members → Type 0) �
 IsPassed stands old new name before after =
     (after ≡ before)
     × ((d : Data) (found kept : Members) → stands old found kept → stands new (put name d found) (put name d kept))
-
--- an object of these members
-abbrev pub IsObjectOf : Members → Data → Type 0
-IsObjectOf ms d = d ≡ object ms

@@ -1,7 +1,7 @@
 use Rattle.city_tokens.proofs.Prelude.{◌≡◌, ◌∙◌, refl, sym, codes, get_member, true, rules, AreOrdered, members_view}
 use Rattle.city_tokens.proofs.Prelude.{Some}
 use Rattle.city_model.specs.Kept.{object_members, kept_at_object}
-use Rattle.city_model.specs.internal.KeptIn.{with_own}
+use Rattle.city_model.specs.internal.KeptIn.{with_value}
 use Rattle.city_tokens.proofs.Members.{own_back, ordered_without}
 use Rattle.city_tokens.proofs.tree.Puts.{get_member-without_each}
 use Rattle.city_tokens.specs.internal.Objects.{IsType}
@@ -13,7 +13,7 @@ use Rattle.city_tokens.proofs.object.object_of.Goals as goal
 pub returns : goal.returns
 returns c found h =
     let parts = c.args.parts in
-    let made : (c.in_ok-extra.extra ≡ with_own (members_view c.args.kept.entries) parts.attributes)
+    let made : (c.in_ok-extra.extra ≡ with_value (members_view c.args.kept.entries) parts.attributes)
     × (kept_at_object c.in_ok-extra.extra ≡ true) = search rules in
     let ordered : AreOrdered (without_object_members found) = search (ordered_without, h.ordered) in
     let same = get_member-without_each object_members (codes "attributes") found refl in

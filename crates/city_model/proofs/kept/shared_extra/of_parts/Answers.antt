@@ -3,7 +3,7 @@ use Rattle.city_model.specs.Kept.{kept_at_object}
 use Rattle.city_model.specs.Members.{AreOrdered}
 use Rattle.city_model.specs.internal.KeptIn.{found_integral}
 use Rattle.city_model.proofs.KeptIn.{kept_own, ordered_own}
-use Rattle.city_model.proofs.kept.shared_extra.SharedExtra.from_parts.Goals as goal
+use Rattle.city_model.proofs.kept.shared_extra.of_parts.Goals as goal
 
 pub stored-made-requires-clause-kept : goal.stored-made-requires-clause-kept
 stored-made-requires-clause-kept c =
