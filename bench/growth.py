@@ -84,6 +84,11 @@ def many_members(count):
     return model({"a": {"type": "Road", "attributes": {name: 1 for name in shuffled(count)}}}), []
 
 
+def inner_members(count):
+    """Members of an object inside an attribute, the last name first."""
+    return model({"a": {"type": "Road", "attributes": {"k": {name: 1 for name in sorted(shuffled(count), reverse=True)}}}}), []
+
+
 def many_scripts(count):
     return model({}), [script([{"put": f"r{n}", "object": {"type": "Road"}}]) for n in range(count)]
 
@@ -226,6 +231,7 @@ KINDS = {
     one_ring: 250_000,
     many_objects: 50_000,
     many_members: 50_000,
+    inner_members: 50_000,
     many_scripts: 1_000,
     attached_children: 127,
     deleted_children: 255,

@@ -10,18 +10,18 @@ full. Each script has to commit, the two kinds that have a fault have to be refu
 --check has to tell each.
 
 - Scripts that lock ids of their own may have 1.05 times as much allocated at once as scripts that lock the same ids.
-- An object that is put may take 4 allocations for each attribute: its name, its text, its share and its copy in the
-  map that is written.
+- An object that is put may take 4 allocations for each attribute: its name, its text, its share, and one for the lists
+  and maps that it passes through.
 - Sets on an object of 10,000 points may ask for twice the bytes of sets on one of 10, since they share its geometry.
 - A text of one long attribute may ask for 4.6 times its bytes: it is read into memory that doubles, the attribute is
   one more copy, and the model is written where the text was.
-- An object of one attribute may hold 200 bytes more at once than one without, its text among them. A map has room for
-  eleven members, which would be 848 bytes.
+- An object of one attribute may hold 200 bytes more at once than one without, its text among them, and one whose
+  attribute is an object of one member 300. A map has room for eleven members, which would be 848 bytes.
 - Where scripts meet, sixteen workers may take 1.5 times the processor time of one.
 - Four workers may leave their cores to wait 200 times in a run of many scripts, long ones or short.
-- Where valgrind is installed, the instructions of texts whose points would collide are counted too, and may grow six
-  times. So are those of files that end in a newline, with `--decimals`: they may take 1.05 times those of files
-  without one.
+- Where valgrind is installed, the instructions of texts whose points would collide are counted too, and of objects of
+  many members in no order and in falling order. They may grow six times. So are those of files that end in a newline,
+  with `--decimals`: they may take 1.05 times those of files without one.
 
 Prints one line for each kind, and ends with status 1 where one took more or ended otherwise.
 """
@@ -51,9 +51,10 @@ MOST_OF_POINTS = 2
 OF_AN_EMPTY_RUN = 100
 MOST_OF_A_NEWLINE = 1.05
 MOST_OF_A_TEXT = 4.6
-OF_ONE_ATTRIBUTE = 200
+OF_ONE_ATTRIBUTE = {"an attribute": ({"n": 1}, 200), "a member inside an attribute": ({"k": {"n": 1}}, 300)}
 REFUSED = (growth.repeated_child, growth.open_solid)
 COLLIDING = {growth.colliding_points: 2_000, growth.colliding_replies: 500}
+UNORDERED = {growth.many_members: 3_000, growth.inner_members: 3_000}
 FIRST_STATES = {"without a seed": growth.FIRST_STATE, "by the fixed seed": growth.FIXED_STATE}
 
 
@@ -168,18 +169,19 @@ def model_takes_the_text(program, length, *options):
     return say(asked <= MOST_OF_A_TEXT * length and committed(ran, []), f"{told}, {asked / length:.2f} times")
 
 
-def few_take_little_room(program, count, *options):
-    """Whether a few attributes are held in no more room than they need."""
+def few_take_little_room(program, count, what, *options):
+    """Whether a few attributes, and values inside them, are held in no more room than they need."""
+    attributes, limit = OF_ONE_ATTRIBUTE[what]
 
     def at_once(road):
         texts = growth.model({f"r{number:06}": road for number in range(count)}), []
         ran, (_, _, most) = program.counts(texts, *options)
         return most, committed(ran, [])
 
-    (few, first), (many, last) = (at_once({"type": "Road", **more}) for more in ({}, {"attributes": {"n": 1}}))
+    (few, first), (many, last) = (at_once({"type": "Road", **more}) for more in ({}, {"attributes": attributes}))
     each = (many - few) / count
-    name = f"{count:,} roads with one attribute{' by ' + ' '.join(options) if options else ''}"
-    return say(each <= OF_ONE_ATTRIBUTE and first and last, f"{name}: {each:.0f} bytes more at once for each")
+    name = f"{count:,} roads with {what}{' by ' + ' '.join(options) if options else ''}"
+    return say(each <= limit and first and last, f"{name}: {each:.0f} bytes more at once for each")
 
 
 def geometries_are_shared(program, sets, edit, *options):
@@ -205,6 +207,13 @@ def colliding_are_quick(program, kind, count):
         told = f"{kind.__name__} {name}: {few:,} to {many:,} instructions, {many / few:.2f} times"
         kept = say(many <= MOST_INSTRUCTIONS * few, told) and kept
     return kept
+
+
+def unordered_are_quick(program, kind, count):
+    """Whether no text is slow because its members are in no order, or the last come first."""
+    few, many = (program.instructions(kind(size)) for size in (count, 4 * count))
+    told = f"{kind.__name__}: {few:,} to {many:,} instructions, {many / few:.2f} times"
+    return say(many <= MOST_INSTRUCTIONS * few, told)
 
 
 def newline_is_quick(program, count):
@@ -257,13 +266,15 @@ def main():
             kept += [geometries_are_shared(program, 1_000, edit, *options) for options in ((), ("--watch", "1"))]
         for options in ((), ("--workers", "4"), ("--watch", "1")):
             kept += [model_takes_the_text(program, length, *options) for length in (1_000_000, 8_000_000)]
-            kept += [few_take_little_room(program, count, *options) for count in (1_000, 20_000)]
+            for what in OF_ONE_ATTRIBUTE:
+                kept += [few_take_little_room(program, count, what, *options) for count in (1_000, 20_000)]
         kept += [workers_sleep(program, count, scripts) for count, scripts in ((300, 200), (900, 60))]
         kept += [workers_seldom_switch(program, count, scripts) for count, scripts in ((1_000, 100), (8, 4_000))]
         if shutil.which("valgrind") is None:
             print("instructions aren't counted: valgrind isn't installed")
         else:
             kept += [colliding_are_quick(program, kind, count) for kind, count in COLLIDING.items()]
+            kept += [unordered_are_quick(program, kind, count) for kind, count in UNORDERED.items()]
             kept += [newline_is_quick(program, count) for count in (300, 3_000)]
     return 0 if all(kept) else 1
 

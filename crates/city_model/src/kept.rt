@@ -10,3 +10,4 @@ pub mod shared_extra;
 pub mod shared_members;
 pub mod site;
 pub mod size;
+mod storage;

@@ -7,8 +7,8 @@ use Rattle.city_model.specs.Attributes.{attributes}
 use Rattle.city_model.specs.Integral.{members_integral}
 use Rattle.city_model.specs.declared.kept.kept_value.KeptValue.{KeptValue}
 use Rattle.city_model.specs.internal.KeptValues.{value_data}
-use Rattle.city_model.specs.declared.kept.shared_extra.Storage.{Storage}
-use Rattle.city_model.specs.declared.kept.shared_extra.Storage.TheVariants.{Few, Many}
+use Rattle.city_model.specs.declared.kept.storage.Storage.{Storage}
+use Rattle.city_model.specs.declared.kept.storage.Storage.TheVariants.{Few, Many}
 use Rattle.city_model.specs.declared.kept.shared_extra.LentMembers.{LentMembers}
 use Rattle.city_model.specs.declared.kept.shared_extra.LentMembers.TheVariants.{Together, Shared}
 use Rattle.city_model.specs.declared.kept.shared_extra.LentMembers.TheVariants as members

@@ -1,39 +1,31 @@
 //! The kept members of an object; copies share them if they are many.
 ghost use Rattle.std.specs.Prelude.{◌≡◌, true, option_map, IfOk, IfSome};
 ghost use Rattle.std.specs.Arc.{arc_value};
-ghost use Rattle.serde_json.specs.Data.{object, put};
-ghost use Rattle.serde_json.specs.View.{view, members_view};
-ghost use Rattle.city_model.specs.Attributes.{attributes, attributes_in, has_attributes, with_attributes};
-ghost use Rattle.city_model.specs.Attributes.{with_set, with_unset};
+ghost use Rattle.serde_json.specs.View.{members_view};
+ghost use Rattle.city_model.specs.Attributes.{attributes_in, has_attributes, with_set, with_unset};
 ghost use Rattle.city_model.specs.Kept.{kept_at_object};
 ghost use Rattle.city_model.specs.Members.{AreOrdered};
-ghost use Rattle.city_model.specs.internal.KeptIn.{kept_in, lent, found_integral, with_own, with_value};
+ghost use Rattle.city_model.specs.internal.KeptIn.{kept_in, lent, with_own, with_value};
 
 use crate::OutOfMemory;
-use crate::attributes::has_attributes;
 use crate::command::Attributes;
 use crate::copied::Copied;
-use crate::integral::have_integral;
 use crate::kept::extra::Extra;
 use crate::kept::few_members::FewMembers;
 use crate::kept::kept_value::KeptValue;
 use crate::kept::shared_members::SharedMembers;
 use crate::kept::site::{AtObject, Site};
 use crate::kept::size::Size;
-use crate::members::{copy_of, member, members_count, put, take};
+use crate::kept::storage::{
+    Storage, are_integral, attributes_of_few, attributes_of_many, few, few_have, few_left, many,
+    many_have, storage_from, storage_left, storage_of,
+};
+use crate::members::{copy_of, members_count, put};
 use crate::text::Text;
 use serde_json::{Map, Value};
 use std::alloc::Global;
 use std::marker::Model;
 use std::sync::Arc;
-
-#[derive(Drop)]
-pub(crate) enum Storage {
-    /// All but `attributes`, and the attributes if they are an object. A copy copies them.
-    Few(Map<String, Value>, Option<FewMembers>),
-    /// The same. Copies share them.
-    Many(Arc<Map<String, Value>>, Option<SharedMembers>),
-}
 
 /// The kept members of an object. A copy shares them if they are many: each edit of an object
 /// writes the object anew, and a set of one attribute leaves all others as they are.
@@ -194,76 +186,6 @@ fn of_parts(
     Ok(Some(made))
 }
 
-/// Whether every number of the members is an `i64`. If so, their size is counted.
-fn are_integral(found: &Option<FewMembers>, size: &mut Size) -> bool
-    ensures { result ≡ found_integral found.now }
-{
-    match found {
-        None => true,
-        Some(found) => found.are_integral(size),
-    }
-}
-
-/// Members as they are stored: `attributes` apart, if it is an object.
-fn storage_from(
-    alloc: Global,
-    members: Map<String, Value>,
-    is_large: bool,
-) -> Result<Storage, OutOfMemory>
-    requires { AreOrdered (members_view members.entries) }
-    ensures { IfOk result (λ storage. kept_in storage ≡ members_view members.entries) }
-{
-    let mut others = members;
-    match take(&mut others, "attributes") {
-        None => storage_of(alloc, others, None, is_large),
-        Some(value) => storage_with(alloc, others, value, is_large),
-    }
-}
-
-/// Members and the value of `attributes`, as they are stored.
-fn storage_with(
-    alloc: Global,
-    others: Map<String, Value>,
-    value: Value,
-    is_large: bool,
-) -> Result<Storage, OutOfMemory>
-    ensures { IfOk result (λ storage. kept_in storage ≡ put attributes (view value) (members_view others.entries)) }
-{
-    match value {
-        Value::Object(found) => {
-            let found = FewMembers::from_map(alloc, found)?;
-            storage_of(alloc, others, Some(found), is_large)
-        }
-        odd => {
-            let mut all = others;
-            put(&mut all, "attributes".to_string(alloc)?, odd)?;
-            storage_of(alloc, all, None, is_large)
-        }
-    }
-}
-
-/// Members and those of `attributes`, for copies to share if they are large.
-fn storage_of(
-    alloc: Global,
-    others: Map<String, Value>,
-    found: Option<FewMembers>,
-    is_large: bool,
-) -> Result<Storage, OutOfMemory>
-    ensures { IfOk result (λ storage. kept_in storage ≡ with_own (members_view others.entries) found) }
-{
-    if !is_large {
-        return Ok(Storage::Few(others, found));
-    }
-    let others = Arc::new(alloc, others)?;
-    match found {
-        None => Ok(Storage::Many(others, None)),
-        Some(found) => {
-            let found = SharedMembers::from_few(alloc, found)?;
-            Ok(Storage::Many(others, Some(found)))
-        }
-    }
-}
-
 /// Few members, lent.
 fn lend_few<'a>(others: &'a Map<String, Value>, found: &'a Option<FewMembers>) -> LentMembers<'a>
     ensures { lent result ≡ with_own (members_view others.now.entries) found.now }
@@ -284,57 +206,6 @@ fn lend_many<'a>(
     match found {
         None => LentMembers::Together(others),
         Some(found) => LentMembers::Shared(others, found),
-    }
-}
-
-/// The attributes of many members: no members if they have none, and `None` if `attributes` is no
-/// object.
-fn attributes_of_many(
-    alloc: Global,
-    others: &Map<String, Value>,
-    found: &Option<SharedMembers>,
-) -> Result<Option<SharedMembers>, OutOfMemory>
-    ensures { IfOk result (λ own. own ≡ attributes_in (with_own (members_view others.now.entries) found.now)) }
-{
-    match found {
-        Some(found) => Ok(Some(found.copy(alloc)?)),
-        None => match attributes_of_others(alloc, others)? {
-            None => Ok(None),
-            Some(own) => Ok(Some(SharedMembers::from_few(alloc, own)?)),
-        },
-    }
-}
-
-/// The attributes of few members, likewise.
-fn attributes_of_few(
-    alloc: Global,
-    others: &Map<String, Value>,
-    found: &Option<FewMembers>,
-) -> Result<Option<FewMembers>, OutOfMemory>
-    ensures { IfOk result (λ own. own ≡ attributes_in (with_own (members_view others.now.entries) found.now)) }
-{
-    match found {
-        Some(found) => Ok(Some(found.copy(alloc)?)),
-        None => attributes_of_others(alloc, others),
-    }
-}
-
-/// The attributes among members, likewise.
-fn attributes_of_others(
-    alloc: Global,
-    others: &Map<String, Value>,
-) -> Result<Option<FewMembers>, OutOfMemory>
-    ensures { IfOk result (λ own. own ≡ attributes_in (members_view others.now.entries)) }
-{
-    let Some(value) = member(others, "attributes") else {
-        return Ok(Some(FewMembers::new(alloc)));
-    };
-    match value.as_object() {
-        None => Ok(None),
-        Some(found) => {
-            let own = FewMembers::from_map(alloc, copy_of(found)?)?;
-            Ok(Some(own))
-        }
     }
 }
 
@@ -384,32 +255,6 @@ fn unset_few(
     Ok(Some(made))
 }
 
-/// Members and their attributes; copies share them if they are many now.
-fn few(alloc: Global, others: Map<String, Value>, own: FewMembers) -> Result<Storage, OutOfMemory>
-    ensures { IfOk result (λ storage. kept_in storage ≡ put attributes (object own) (members_view others.entries)) }
-{
-    // (called for the size)
-    let mut size = Size::new();
-    let _whole = have_integral(&others, &mut size) && own.are_integral(&mut size);
-    storage_of(alloc, others, Some(own), size.is_large())
-}
-
-/// Members with these attributes, if there are any left.
-fn few_left(
-    alloc: Global,
-    mut others: Map<String, Value>,
-    left: FewMembers,
-) -> Result<Storage, OutOfMemory>
-    ensures { IfOk result (λ storage. kept_in storage
-        ≡ with_attributes (members_view others.entries) left) }
-{
-    if !left.is_empty() {
-        return few(alloc, others, left);
-    }
-    drop(take(&mut others, "attributes"));
-    Ok(Storage::Few(others, None))
-}
-
 /// Many members with these attributes set.
 fn set_many(
     alloc: Global,
@@ -454,15 +299,6 @@ fn unset_many(
     Ok(Some(made))
 }
 
-/// Members and their attributes, for copies to share.
-fn many(others: &Arc<Map<String, Value>>, own: SharedMembers) -> Result<Storage, OutOfMemory>
-    ensures { IfOk result (λ storage. kept_in storage
-        ≡ put attributes (object own) (members_view (arc_value others.now).entries)) }
-{
-    let others = others.clone()?;
-    Ok(Storage::Many(others, Some(own)))
-}
-
 /// The stored members, as an object may keep them.
 fn stored(storage: Storage) -> SharedExtra
     requires kept { kept_at_object (kept_in storage) ≡ true }
@@ -470,45 +306,4 @@ fn stored(storage: Storage) -> SharedExtra
     ensures { result ≡ kept_in storage }
 {
     SharedExtra { storage }
-}
-
-/// Members with these attributes, if there are any left.
-fn storage_left(
-    alloc: Global,
-    others: &Arc<Map<String, Value>>,
-    left: SharedMembers,
-) -> Result<Storage, OutOfMemory>
-    ensures { IfOk result (λ storage. kept_in storage
-        ≡ with_attributes (members_view (arc_value others.now).entries) left) }
-{
-    if !left.is_empty() {
-        let storage = many(others, left)?;
-        return Ok(storage);
-    }
-    if member(others, "attributes").is_none() {
-        return Ok(Storage::Many(others.clone()?, None));
-    }
-    let mut rest = copy_of(others)?;
-    drop(take(&mut rest, "attributes"));
-    Ok(Storage::Many(Arc::new(alloc, rest)?, None))
-}
-
-/// Whether few members have these attributes.
-fn few_have(others: &Map<String, Value>, found: &Option<FewMembers>, named: &Attributes) -> bool
-    ensures { result ≡ has_attributes (with_own (members_view others.now.entries) found.now) named.now }
-{
-    match found {
-        None => has_attributes(member(others, "attributes"), named.map()),
-        Some(found) => found.have(named.map()),
-    }
-}
-
-/// Whether many members have these attributes.
-fn many_have(others: &Map<String, Value>, found: &Option<SharedMembers>, named: &Attributes) -> bool
-    ensures { result ≡ has_attributes (with_own (members_view others.now.entries) found.now) named.now }
-{
-    match found {
-        None => has_attributes(member(others, "attributes"), named.map()),
-        Some(found) => found.have(named.map()),
-    }
 }

@@ -5,7 +5,7 @@ use Rattle.serde_json.specs.View.{view}
 use Rattle.city_model.specs.Attributes.{attributes}
 use Rattle.city_model.specs.internal.KeptIn.{kept_in}
 use Rattle.city_model.proofs.KeptIn.{without_absent, put_back}
-use Rattle.city_model.proofs.kept.shared_extra.storage_from.Goals as goal
+use Rattle.city_model.proofs.kept.storage.storage_from.Goals as goal
 
 pub returns-in-None : goal.returns-in-None
 returns-in-None c =

@@ -2,7 +2,7 @@ use Rattle.city_model.proofs.Prelude.{◌∙◌, ap, sym, Some, members_view}
 use Rattle.city_model.specs.Attributes.{attributes_in}
 use Rattle.city_model.specs.internal.KeptIn.{with_own}
 use Rattle.city_model.proofs.KeptIn.{attributes_own}
-use Rattle.city_model.proofs.kept.shared_extra.attributes_of_many.Goals as goal
+use Rattle.city_model.proofs.kept.storage.attributes_of_many.Goals as goal
 
 pub returns-in_ok-copy-in-Some : goal.returns-in_ok-copy-in-Some
 returns-in_ok-copy-in-Some c =

@@ -2,7 +2,7 @@ use Rattle.city_model.proofs.Prelude.{◌∙◌, ap, members_view, sym}
 use Rattle.city_model.specs.Attributes.{are_among, has_attributes, members_of}
 use Rattle.city_model.specs.internal.KeptIn.{with_own}
 use Rattle.city_model.proofs.KeptIn.{attributes_own}
-use Rattle.city_model.proofs.kept.shared_extra.few_have.Goals as goal
+use Rattle.city_model.proofs.kept.storage.few_have.Goals as goal
 
 pub returns-in-Some : goal.returns-in-Some
 returns-in-Some c =

@@ -3,7 +3,7 @@ use Rattle.serde_json.specs.Find.{get_member}
 use Rattle.city_model.specs.Attributes.{attributes, with_attributes}
 use Rattle.city_model.specs.Kept.{has_no_member}
 use Rattle.city_model.proofs.KeptIn.{none_left, without_absent}
-use Rattle.city_model.proofs.kept.shared_extra.storage_left.Goals as goal
+use Rattle.city_model.proofs.kept.storage.storage_left.Goals as goal
 
 pub returns-then-is_none : goal.returns-then-is_none
 returns-then-is_none c =
