@@ -10,8 +10,7 @@ full. Each script has to commit, the two kinds that have a fault have to be refu
 --check has to tell each.
 
 - Scripts that lock ids of their own may have 1.05 times as much allocated at once as scripts that lock the same ids.
-- An object that is put may take 4 allocations for each attribute: its name, its text, its share, and one for the lists
-  and maps that it passes through.
+- An object that is put may take 3 allocations for each attribute: its name, its text and its share.
 - Sets on an object of 10,000 points may ask for twice the bytes of sets on one of 10, since they share its geometry.
 - A text of one long attribute may ask for 4.6 times its bytes: it is read into memory that doubles, the attribute is
   one more copy, and the model is written where the text was.
@@ -46,7 +45,7 @@ MOST_OF_WORKERS = 1.5
 MOST_SWITCHES = 200
 MOST_AT_ONCE = 1.05
 EACH_ROAD = 2.1
-EACH_ATTRIBUTE = 4
+EACH_ATTRIBUTE = 3
 MOST_OF_POINTS = 2
 OF_AN_EMPTY_RUN = 100
 MOST_OF_A_NEWLINE = 1.05
