@@ -12,8 +12,8 @@ use crate::scans::{blanks_end, byte_at, plain_end};
 use crate::small::small_whole;
 use std::marker::Model;
 
-/// Whether the bytes are the same.
-fn are_same(left: &[u8], right: &[u8]) -> bool
+/// Whether two texts are the same. Texts are compared many bytes at a time, lists of bytes aren't.
+fn are_same(left: &str, right: &str) -> bool
     ensures { IsTrue result → left.now ≡ right.now }
 {
     left == right
@@ -56,15 +56,14 @@ impl<'t> Cursor<'t> {
         Some(Cursor { text, at })
     }
 
-    /// Whether it stands at this byte of this text. The rest of the texts is compared only if the
-    /// bytes agree.
+    /// Whether it stands at this byte of this text. The texts are compared only if the bytes agree.
     pub fn is_at(&self, text: &str, at: usize) -> bool
         ensures { IsTrue result → self.now ≡ drop at text.now }
     {
         if self.at != at || at > text.len() {
             return false;
         }
-        are_same(&self.text.as_bytes()[self.at..], &text.as_bytes()[at..])
+        are_same(self.text, text)
     }
 
     /// Goes from one byte of this text to a later one, if it stands at the first.
