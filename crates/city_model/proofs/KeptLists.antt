@@ -1,13 +1,13 @@
 -- The lists of kept values: read, pushed, and put in their places.
 use Rattle.city_model.proofs.Prelude.{◌≡◌, ℕ, ◌<◌, ◌≤◌, ◌+◌, ◌==◌, List, [], ◌∷◌, ◌++◌, length, get_or, drop, map, take}
 use Rattle.city_model.proofs.Prelude.{refl, sym, ap, ◌∙◌, arith, member, no_members, string_bytes}
-use Rattle.city_model.proofs.Prelude.{Less, Equal, Ordering, exact_bytes, nat_cmp, nat_list_cmp_total, slice_cmp, subst}
+use Rattle.city_model.proofs.Prelude.{Less, Equal, Ordering, exact_bytes, nat_cmp, slice_cmp, subst}
 use Rattle.std.proofs.Common.{Greater, String, Global, length-append}
 use Rattle.std.specs.BTreeMap.{insert_entry}
 use Rattle.std.specs.List.{AllByRecursion}
 use Rattle.std.specs.List.Sorted.{IsStrictlySortedBy}
 use Rattle.std.specs.Map.{keys_of}
-use Rattle.std.specs.Ordering.{match_ordering, ordering_reverse}
+use Rattle.std.specs.Ordering.{match_ordering}
 use Rattle.std.specs.String.{string_cmp}
 use Rattle.std.proofs.lemmas.List.{drop_at, drop_more, length-take-le, take_at, take_more, take-append-drop}
 use Rattle.serde_json.specs.Data.{Data, Members, put}
@@ -21,6 +21,7 @@ use Rattle.city_model.specs.Members.{without, AllAbove, AreOrdered}
 use Rattle.city_model.proofs.Ids.{same_id_itself}
 use Rattle.city_model.proofs.MemberLists.{above_below, ordered_right, put-above, put-joined_below}
 use Rattle.city_model.proofs.MemberLists.{without-above, without-joined_below}
+use Rattle.city_model.proofs.Puts.{back}
 
 abbrev pub Pair : Type 0
 Pair = String Global × KeptValue
@@ -78,9 +79,6 @@ below_last : (xs : List Pair) (x : Pair) (name : List ℕ) → AllBelow (members
 below_last [] x name h below = (below, tt)
 below_last (y ∷ xs) x name h below = (h.0, below_last xs x name h.1 below)
 
-turned_back : (k l : List ℕ) → slice_cmp nat_cmp k l ≡ Greater → slice_cmp nat_cmp l k ≡ Less
-turned_back k l h = nat_list_cmp_total.antisymm l k ∙ ap ordering_reverse h
-
 without_same : (name k : List ℕ) (d : Data) (ms : Members) → k ≡ name → without name (member k d ms) ≡ without name ms
 without_same name k d ms same = rw (same, same_id_itself name) refl
 
@@ -90,7 +88,7 @@ pub below_next : (xs : List Pair) (i : ℕ) (x : Pair) (name : List ℕ) → i <
 below_next xs i x name within is greater below =
     subst (λ ys. AllBelow (members_data ys) name)
     (ap (λ y. take i xs ++ y ∷ []) is ∙ sym (take_more xs i x within))
-    (below_last (take i xs) x name below (turned_back name (string_bytes x.0) greater))
+    (below_last (take i xs) x name below (back name (string_bytes x.0) greater))
 
 module _ (xs : List Pair) (name : List ℕ) (i : ℕ) (below : AllBelow (members_data (take i xs)) name) where
   without_behind : without name (members_data xs)

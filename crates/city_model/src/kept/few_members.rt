@@ -58,7 +58,7 @@ impl Model for FewMembers {
 
 impl FewMembers {
     /// No members. Doesn't allocate.
-    pub fn new(alloc: Global) -> Self
+    pub(crate) fn new(alloc: Global) -> Self
         ensures { result ≡ no_members }
     {
         FewMembers {
@@ -67,7 +67,7 @@ impl FewMembers {
     }
 
     /// How many members there are.
-    pub fn len(&self) -> usize {
+    pub(crate) fn len(&self) -> usize {
         self.members.len()
     }
 
@@ -86,8 +86,8 @@ impl FewMembers {
         self.members.as_slice()
     }
 
-    /// The members in an order of their own.
-    pub fn into_vec(self) -> Vec<(String, KeptValue)>
+    /// The members by their names. Gives them over.
+    pub(crate) fn into_vec(self) -> Vec<(String, KeptValue)>
         ensures members { members_data result.items ≡ self }
         ensures ordered { AreOrdered self }
     {
@@ -95,7 +95,7 @@ impl FewMembers {
     }
 
     /// The value of a name. Doesn't allocate.
-    pub fn get(&self, name: &str) -> Option<&KeptValue>
+    pub(crate) fn get(&self, name: &str) -> Option<&KeptValue>
         ensures { option_map (λ v. value_data v.now) result ≡ get_member name.now self.now }
     {
         for (other, value) in &self.members {
@@ -108,7 +108,7 @@ impl FewMembers {
 
     /// The members, and one of this name in its place. It takes a walk, and moves the members
     /// behind it.
-    pub fn with(self, name: String, value: KeptValue) -> Result<Self, OutOfMemory>
+    pub(crate) fn with(self, name: String, value: KeptValue) -> Result<Self, OutOfMemory>
         ensures { IfOk result (λ few. few ≡ put (string_bytes name) (value_data value) self) }
     {
         let FewMembers { mut members } = self;
@@ -154,7 +154,7 @@ impl FewMembers {
     }
 
     /// Gives back the room that nothing is in.
-    pub fn shrink_to_fit(&mut self)
+    pub(crate) fn shrink_to_fit(&mut self)
         ensures { self.new ≡ self.old }
     {
         self.members.shrink_to_fit()
@@ -162,7 +162,7 @@ impl FewMembers {
 
     /// The members of a tree. Takes over their texts.
     #[cycle(from)]
-    pub fn from_map(alloc: Global, map: Map<String, Value>) -> Result<Self, OutOfMemory>
+    pub(crate) fn from_map(alloc: Global, map: Map<String, Value>) -> Result<Self, OutOfMemory>
         ensures { IfOk result (λ few. few ≡ members_view map.entries) }
     {
         // (by its contract the names ascend)
@@ -216,7 +216,7 @@ impl FewMembers {
     }
 
     /// Whether each of the named members is among these, with the same value. Doesn't allocate.
-    pub fn have(&self, named: &Map<String, Value>) -> bool
+    pub(crate) fn have(&self, named: &Map<String, Value>) -> bool
         ensures { result ≡ are_among (members_view named.now.entries) self.now }
     {
         for (name, value) in named.iter() {
