@@ -49,7 +49,7 @@ pub use Rattle.city_writer.specs.tree.Lists.{list_data, put_list, triple_data}
 pub use Rattle.city_writer.specs.Pool.{city_points, number_of, object_points, pool_of, with_point, without_repeats}
 pub use Rattle.city_writer.specs.document.Canonical.{numbered_tree, transform_data, tree_of}
 pub use Rattle.city_writer.specs.document.Ranges.{IsInRange}
-pub use Rattle.city_writer.specs.internal.Pool.{with_points}
+pub use Rattle.city_writer.specs.internal.Pool.{is_new, new_points, with_points}
 pub use Rattle.city_writer.specs.internal.document.KeptMembers.{IsKeptCity, are_kept_objects}
 pub use Rattle.city_writer.specs.internal.tree.PartTokens.{closing_items, closing_members, listed, tokens_of_members}
 pub use Rattle.city_writer.specs.internal.tree.PartTokens.{tokens_of_own}

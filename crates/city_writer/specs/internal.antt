@@ -1,5 +1,6 @@
 -- Words for private clauses and proofs alone: nothing here has to be believed.
-pub mod KnownNumbers
+pub mod PiecePoints
+pub mod PointNumbers
 pub mod Pieces
 pub mod Pool
 pub mod Reports

@@ -8,11 +8,13 @@
 //! - `document`: whole documents, at once or in pieces
 //! - `report`: the report of a run: ends and replies
 //! - `pool`: points, each with a number
+//! - `piece_points`: the points of one piece, for other pieces to look up
 //! - `point_numbers`: the numbers of points, as they are met or as they were given beforehand
 #![tactic(auto)]
 
 mod document;
 mod object;
+mod piece_points;
 mod point_numbers;
 mod pool;
 mod report;

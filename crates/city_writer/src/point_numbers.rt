@@ -4,17 +4,21 @@ ghost use Rattle.std.specs.List.{IsDistinct};
 ghost use Rattle.city_model.specs.Shells.{same_point};
 ghost use Rattle.city_writer.specs.Pool.{number_of, with_point};
 
-use crate::pool::{VertexPool, is_numbered};
+use crate::pool::{PLACES, VertexPool, is_numbered, place_of};
 use city_model::OutOfMemory;
 use city_model::object::Point;
 use std::alloc::Global;
 use std::marker::Model;
 
-/// Numbered points, and the numbers of the points of one worker, in the order of its meeting them.
+/// Points numbered beforehand, and the numbers of those of one piece. Contracts see the numbered points.
+///
+/// It remembers numbers given lately, as a pool does.
 #[derive(Drop)]
-struct KnownPoints<'a> {
+pub struct KnownPoints<'a> {
     all: &'a [Point],
+    piece: &'a VertexPool,
     numbers: &'a [usize],
+    lately: [usize; PLACES],
 }
 
 impl<'a> Model for KnownPoints<'a> {
@@ -32,25 +36,51 @@ impl<'a> Model for KnownPoints<'a> {
 }
 
 impl<'a> KnownPoints<'a> {
-    /// The number noted for the point met after so many others; none unless that number is this point's.
-    fn number(&self, met: usize, point: &Point) -> Option<usize>
-        ensures number { IfSome result (λ n. n ≡ number_of self.now point.now) }
-        ensures there { IfSome result (λ _. with_point self.now point.now ≡ self.now) }
+    /// The number of a point; none unless the number noted for it is its own.
+    #[inline(always)]
+    fn number(&mut self, point: &Point) -> Option<usize>
+        ensures number { IfSome result (λ n. n ≡ number_of self.old point.now) }
+        ensures there { IfSome result (λ _. with_point self.old point.now ≡ self.old) }
+        ensures same { self.new ≡ self.old }
     {
-        let number = *self.numbers.get(met)?;
-        if is_numbered(self.all, point, number) {
-            Some(number)
-        } else {
-            None
+        let place = place_of(point);
+        let lately = self.lately[place as usize];
+        if is_numbered(self.all, point, lately) {
+            return Some(lately);
         }
+        self.number_by_table(point, place)
+    }
+
+    /// The same, by the piece's table alone; the number is remembered at this place. Never inlined: that keeps the
+    /// callers small.
+    #[inline(never)]
+    fn number_by_table(&mut self, point: &Point, place: u8) -> Option<usize>
+        ensures number { IfSome result (λ n. n ≡ number_of self.old point.now) }
+        ensures there { IfSome result (λ _. with_point self.old point.now ≡ self.old) }
+        ensures same { self.new ≡ self.old }
+    {
+        let number = *self.numbers.get(self.piece.number(point)?)?;
+        if !is_numbered(self.all, point, number) {
+            return None;
+        }
+        self.lately[place as usize] = number;
+        Some(number)
     }
 }
 
-/// The numbers of points: as they are met, or as they were given beforehand, by one worker to many.
+/// Where numbers come from.
+#[derive(Drop)]
+enum Source<'a> {
+    /// Points are numbered as they are met.
+    Met(VertexPool),
+    /// They were numbered beforehand.
+    Known(KnownPoints<'a>),
+}
+
+/// The numbers of points: as they are met, or as they were given beforehand, to a piece by several workers.
 #[derive(Drop)]
 pub struct PointNumbers<'a> {
-    met: VertexPool,
-    known: Option<KnownPoints<'a>>,
+    source: Source<'a>,
 }
 
 impl<'a> Model for PointNumbers<'a> {
@@ -59,9 +89,9 @@ impl<'a> Model for PointNumbers<'a> {
 
     ghost Value = { List Point };
 
-    ghost use Rattle.city_writer.specs.internal.KnownNumbers.{known_or};
+    ghost use Rattle.city_writer.specs.internal.PointNumbers.{points_of};
 
-    ghost view = { λ a. known_or a.met a.known };
+    ghost view = { λ a. points_of a.source };
 }
 
 impl<'a> PointNumbers<'a> {
@@ -70,20 +100,23 @@ impl<'a> PointNumbers<'a> {
         ensures { result ≡ [] }
     {
         PointNumbers {
-            met: VertexPool::with_seed(alloc, seed),
-            known: None,
+            source: Source::Met(VertexPool::with_seed(alloc, seed)),
         }
     }
 
-    /// Points with numbers; `numbers` guesses the numbers of the points to come, in the order of meeting them.
+    /// Points with numbers; `numbers` guesses the numbers of a piece's points, by their numbers in the piece.
     /// Doesn't allocate.
-    pub fn known(alloc: Global, seed: u64, all: &'a [Point], numbers: &'a [usize]) -> Self
+    pub fn known(all: &'a [Point], piece: &'a VertexPool, numbers: &'a [usize]) -> Self
         requires { IsDistinct same_point all.now }
         ensures { result ≡ all.now }
     {
         PointNumbers {
-            met: VertexPool::with_seed(alloc, seed),
-            known: Some(KnownPoints { all, numbers }),
+            source: Source::Known(KnownPoints {
+                all,
+                piece,
+                numbers,
+                lately: [0; PLACES],
+            }),
         }
     }
 
@@ -96,10 +129,9 @@ impl<'a> PointNumbers<'a> {
         ensures number { IfOk result (λ i. i ≡ number_of self.old point) }
         ensures added { OnOk result (self.new ≡ with_point self.old point) }
     {
-        let met = self.met.add(point)?;
-        match &self.known {
-            None => Ok(met),
-            Some(known) => known.number(met, &point).ok_or(OutOfMemory),
+        match &mut self.source {
+            Source::Met(pool) => pool.add(point),
+            Source::Known(known) => known.number(&point).ok_or(OutOfMemory),
         }
     }
 
@@ -107,9 +139,9 @@ impl<'a> PointNumbers<'a> {
     pub fn as_slice(&self) -> &[Point]
         ensures { result.now ≡ self.now }
     {
-        match &self.known {
-            None => self.met.as_slice(),
-            Some(known) => known.all,
+        match &self.source {
+            Source::Met(pool) => pool.as_slice(),
+            Source::Known(known) => known.all,
         }
     }
 }

@@ -1,6 +1,6 @@
 //! Numbers points in the order of their first occurrence.
-ghost use Rattle.std.specs.Prelude.{◌≡◌, [], IfOk, OnOk, OnErr, true};
-ghost use Rattle.std.specs.List.{IsDistinct};
+ghost use Rattle.std.specs.Prelude.{◌≡◌, [], IfOk, OnOk, OnErr, is_some, true};
+ghost use Rattle.std.specs.List.{IsDistinct, list_any};
 ghost use Rattle.city_model.specs.Shells.{same_point};
 ghost use Rattle.city_writer.specs.Pool.{number_of, with_point};
 
@@ -39,7 +39,7 @@ impl BuildHasher for SeededHasher {
 }
 
 /// How many numbers a pool remembers beside its table.
-const PLACES: usize = 256;
+pub const PLACES: usize = 256;
 
 /// The points met so far, each once; numbered from 0 in that order.
 ///
@@ -54,7 +54,7 @@ pub struct VertexPool {
 /// The place of a point's remembered number. The factors are odd and their bits are spread, so points near each other
 /// mostly have different places.
 #[inline(always)]
-fn place_of(point: &Point) -> u8 {
+pub fn place_of(point: &Point) -> u8 {
     let x = point.x.wrapping_mul(0x1E37_79B9_7F4A_7C15);
     let y = point.y.wrapping_mul(0x42B2_AE3D_27D4_EB4F);
     let z = point.z.wrapping_mul(0x1656_67B1_9E37_79F9);
@@ -110,17 +110,6 @@ impl VertexPool {
         }
     }
 
-    /// The same, with room for so many points.
-    pub fn with_room(alloc: Global, seed: u64, room: usize) -> Result<Self, OutOfMemory>
-        ensures { IfOk result (λ pool. pool ≡ []) }
-    {
-        let points = IndexSet::with_capacity_and_hasher(alloc, room, SeededHasher::new(seed))?;
-        Ok(VertexPool {
-            points,
-            lately: [0; PLACES],
-        })
-    }
-
     /// Adds a point, and gives its number. A point of the pool keeps its number.
     ///
     /// If memory runs out, the pool is unchanged.
@@ -149,6 +138,13 @@ impl VertexPool {
         let (number, _) = self.points.insert_full(point)?;
         self.lately[place as usize] = number;
         Ok(number)
+    }
+
+    /// The number of a point; `None` if the pool doesn't have it. Doesn't allocate.
+    pub fn number(&self, point: &Point) -> Option<usize>
+        ensures { is_some result ≡ list_any (same_point point.now) self.now }
+    {
+        self.points.get_index_of(point)
     }
 
     /// The points by their numbers. Doesn't allocate.

@@ -3,7 +3,7 @@ use Rattle.city_writer.proofs.Prelude.{◌≡◌, ℕ, List, [], ◌∷◌, ◌+
 use Rattle.city_writer.proofs.Prelude.{ap, ◌∙◌, subst, append_assoc, entries, entries_ascend, CityValue, Frame, Members}
 use Rattle.city_writer.proofs.Prelude.{Point, pool_of, city_points, tree_of, tokens_of, transform_data, vertices_data}
 use Rattle.city_writer.proofs.Prelude.{AreOrdered, kept_at_top, kept_at_transform, members_from, IsInRange}
-use Rattle.city_writer.proofs.Prelude.{MembersReadBack, ReadsBack, with_points, objects_data, end_object}
+use Rattle.city_writer.proofs.Prelude.{MembersReadBack, ReadsBack, new_points, objects_data, end_object}
 use Rattle.std.proofs.Common.{codes, length, ◌<◌, ◌^◌}
 use Rattle.std.specs.Str.{IsUtf8}
 use Rattle.json.specs.Lex.{tokens}
@@ -23,19 +23,21 @@ use Rattle.city_writer.proofs.document.OwnMembers.{city_own}
 use Rattle.city_writer.proofs.document.PiecesWritten.{each_known, pieces_written, city_printed, city_reads}
 use Rattle.city_writer.proofs.document.PutMembers.{IsPut, city_put}
 use Rattle.city_writer.proofs.pool.NumberedPoints.{are_in, points_in_pool}
-use Rattle.city_writer.proofs.pool.PointsAgain.{points_joined}
+use Rattle.city_writer.proofs.pool.NewPoints.{all_new}
+use Rattle.city_writer.proofs.pool.PointsAgain.{listed_once, points_joined}
 use Rattle.city_writer.proofs.pool.Repeats.{pool_is_without_repeats}
 use Rattle.city_writer.proofs.tree.CompactJson.{lexed_again}
 use Rattle.city_writer.proofs.tree.ReadBack.{object_reads}
 
--- the points of all pieces are the points of the city
-pub all_pooled : {A : Type 0} (f : A → List Point) (len : ℕ) (city : CityValue) (os : List (Option A))
-    (first pool points : List Point) → first ≡ [] → pool ≡ with_points first (joined os f) → points ≡ pool
-    → list_all is_some os ≡ true → EachPiece len (entries city.1) os (λ es a. IsListed es (f a)) → points ≡ pool_of city
-all_pooled f len city os first pool points none added same all each =
-    let made = all_made (λ es a. IsListed es (f a)) len (entries city.1) os all each in
-    same ∙ added ∙ ap (λ ps. with_points ps (joined os f)) none ∙ points_joined f len (entries city.1) os [] made
-    ∙ pool_is_without_repeats (city_points city)
+-- the new points of all pieces are the points of the city
+pub numbered_points : (len : ℕ) (city : CityValue) (pieces : List (Option (List Point)))
+    → list_all is_some pieces ≡ true → EachPiece len (entries city.1) pieces IsListed
+    → new_points [] pieces ≡ pool_of city
+numbered_points len city pieces all each =
+    let made = all_made IsListed len (entries city.1) pieces all each in
+    sym (all_new [] pieces (listed_once len (entries city.1) pieces made))
+    ∙ sym (pool_is_without_repeats (joined pieces (λ ps. ps)))
+    ∙ points_joined (λ ps. ps) len (entries city.1) pieces [] made ∙ pool_is_without_repeats (city_points city)
 
 -- the objects as they are written
 pub objects_written : {A : Type 0} (f : A → List ℕ) (len : ℕ) (city : CityValue) (os : List (Option A))

@@ -1,10 +1,10 @@
 -- An added point keeps its number, whatever points come after it.
 use Rattle.city_writer.proofs.Prelude.{◌≡◌, ◌<◌, length, arith, Bool, true, false, List, [], ◌∷◌, ◌++◌, append_assoc}
 use Rattle.city_writer.proofs.Prelude.{filter, list_any, Decides-int_eq, prefix_len-le-length, Point, same_point}
-use Rattle.city_writer.proofs.Prelude.{number_of, with_point, without_repeats, with_points}
+use Rattle.city_writer.proofs.Prelude.{number_of, with_point, without_repeats, is_new, with_points}
 use Rattle.std.proofs.Common.{◌^◌}
 use Rattle.std.specs.List.{position_or_len}
-use Rattle.city_writer.proofs.pool.Repeats.{is_new, with_points-is}
+use Rattle.city_writer.proofs.pool.Repeats.{with_points-is}
 
 module _ (test : Point → Bool) where
   place_kept : (xs ys : List Point) → list_any test xs ≡ true

@@ -1,10 +1,10 @@
 -- Points added piece by piece, each once for a piece.
 use Rattle.city_writer.proofs.Prelude.{◌≡◌, ℕ, Bool, true, not, List, [], ◌∷◌, ◌++◌, Option, Some, None, refl, sym, ap}
 use Rattle.city_writer.proofs.Prelude.{◌∙◌, arith, drop}
-use Rattle.city_writer.proofs.Prelude.{filter, and_parts, Entries, Point, same_point, without_repeats}
-use Rattle.city_writer.proofs.Prelude.{with_points}
+use Rattle.city_writer.proofs.Prelude.{AllByRecursion, filter, and_parts, Entries, Point, same_point, without_repeats}
+use Rattle.city_writer.proofs.Prelude.{is_new, with_points}
 use Rattle.city_writer.proofs.Prelude.{object_points}
-use Rattle.std.proofs.Common.{take}
+use Rattle.std.proofs.Common.{IfSome, take}
 use Rattle.std.proofs.lemmas.Grind.{flat_map-append}
 use Rattle.std.proofs.lemmas.List.{take-append-drop}
 use Rattle.city_writer.specs.internal.Pieces.{joined}
@@ -12,7 +12,7 @@ use Rattle.city_writer.proofs.EachPiece.{EachMade}
 use Rattle.city_writer.specs.internal.document.Pieces.{IsListed}
 use Rattle.city_writer.specs.internal.object.InTurn.{entry_points}
 use Rattle.city_writer.proofs.pool.NumberedPoints.{is_in, are_in}
-use Rattle.city_writer.proofs.pool.Repeats.{differs, is_new, same_point-alike, with_points-is, pool_is_without_repeats}
+use Rattle.city_writer.proofs.pool.Repeats.{differs, same_point-alike, with_points-is, pool_is_without_repeats}
 use Rattle.city_writer.proofs.pool.Walks.{with_points-append}
 
 filter_twice : (f : Point → Bool) (xs : List Point) → filter f (filter f xs) ≡ filter f xs
@@ -74,9 +74,15 @@ points_joined f len es (Some a ∷ os) pool h =
     ∙ sym (with_points-append pool first (entry_points (drop len es)))
     ∙ ap (with_points pool) (points_parted len es)
 
--- the points of one more piece are added
-pub piece_added : {A : Type 0} (f : A → List Point) (items left : List (Option A)) (piece : Option A) (points : A)
-    (pool new ps : List Point) → items ≡ piece ∷ left → piece ≡ Some points → new ≡ with_points pool ps → ps ≡ f points
-    → with_points pool (joined items f) ≡ with_points new (joined left f)
-piece_added f items left piece points pool new ps items_are piece_is added ps_are =
-    rw (items_are, piece_is, added, ps_are) (with_points-append pool (f points) (joined left f))
+-- the points of each piece stand there once
+abbrev pub AreOnce : List (Option (List Point)) → Type 0
+AreOnce pieces = AllByRecursion (λ o. IfSome o (λ ps. without_repeats ps ≡ ps)) pieces
+
+pub listed_once : (len : ℕ) (es : Entries) (pieces : List (Option (List Point))) → EachMade len es pieces IsListed
+    → AreOnce pieces
+listed_once len es [] h = tt
+listed_once len es (None ∷ pieces) h = absurd h.0
+listed_once len es (Some ps ∷ pieces) h =
+    let points = entry_points (take len es) in
+    let is = h.0 ∙ pool_is_without_repeats points in
+    (ap without_repeats is ∙ once_again points ∙ sym is, listed_once len (drop len es) pieces h.1)

@@ -1,7 +1,7 @@
 -- Points added one after the other make the list of all of them with later repeats taken out.
 use Rattle.city_writer.proofs.Prelude.{◌≡◌, Bool, true, not, List, ◌∷◌, ◌++◌, refl, sym, ap, ◌∙◌, append_assoc, []}
 use Rattle.city_writer.proofs.Prelude.{append-nil, arith, filter, list_any, Point, same_point, without_repeats}
-use Rattle.city_writer.proofs.Prelude.{with_points, fun_ext, and_parts}
+use Rattle.city_writer.proofs.Prelude.{with_points, is_new, fun_ext, and_parts}
 use Rattle.std.proofs.Common.{◌&&◌}
 use Rattle.std.proofs.lemmas.List.Folds.{list_any-append}
 use Rattle.std.proofs.lemmas.Cmp.{int_eq_equiv}
@@ -23,9 +23,6 @@ same_point-congr p q r h =
 
 pub same_point-alike : (p q : Point) → same_point p q ≡ true → same_point p ≡ same_point q
 same_point-alike p q h = fun_ext (λ r. same_point-congr p q r h)
-
-abbrev pub is_new : List Point → Point → Bool
-is_new pool q = not (list_any (same_point q) pool)
 
 abbrev pub differs : Point → Point → Bool
 differs p q = not (same_point p q)

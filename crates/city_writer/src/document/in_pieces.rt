@@ -20,10 +20,11 @@ ghost use Rattle.city_writer.specs.internal.tree.ReadsBack.{MembersReadBack, Rea
 ghost use Rattle.city_writer.specs.report.JsonLines.{IsCompactJson};
 ghost use Rattle.city_writer.specs.shape.Vertices.{vertices_data};
 
+use crate::document::points_in_pieces::{NumberedPoints, objects_from};
 use crate::document::text::write_rest;
-use crate::object::text::{add_first, write_first};
+use crate::object::text::write_first;
+use crate::piece_points::PiecePoints;
 use crate::point_numbers::PointNumbers;
-use crate::pool::VertexPool;
 use crate::tree::kept_members::KeptMembers;
 use city_model::OutOfMemory;
 use city_model::city::City;
@@ -35,119 +36,19 @@ use std::alloc::Global;
 use std::collections::btree_map::Iter;
 use std::thread::{Threads, map_indices};
 
-/// For how many lists of points there is room at most.
-const MOST_LISTS: usize = 8;
-
-/// The objects behind the first `from`.
-fn objects_from(city: &City, mut from: usize) -> Iter<'_, Id, Object>
-    ensures { result ≡ drop from (entries city.now.1) }
-{
-    let mut left = city.iter();
-    'passed: while from > 0 {
-        let _ = left.next();
-        from -= 1;
-    }
-    left
-}
-
-/// The points of a piece, each once; none if memory runs out.
-fn points_of_piece(
-    alloc: Global,
-    seed: u64,
-    city: &City,
-    from: usize,
-    len: usize,
-) -> Option<Vec<Point>>
-    ensures { IfSome result (λ ps. IsListed (take len (drop from (entries city.now.1))) ps.items) }
-{
-    let mut pool = VertexPool::with_seed(alloc, seed);
-    add_first(objects_from(city, from), len, &mut pool).ok()?;
-    let mut points = Vec::new(alloc);
-    points.extend_from_slice(pool.as_slice()).ok()?;
-    Some(points)
-}
-
-/// The points of each piece, by a thread for each.
-fn points_of_pieces<R: Threads + Sync>(
-    rt: &R,
-    alloc: Global,
-    seed: u64,
-    city: &City,
-    len: usize,
-) -> Result<Vec<Option<Vec<Point>>>, OutOfMemory>
-    requires { 0 < len }
-    ensures { IfOk result (λ os. EachPiece len (entries city.now.1) os.items (λ es ps. IsListed es ps.items)) }
-{
-    let points = move |i: usize| -> Option<Vec<Point>>
-        requires { i * len < 2 ^ 64 }
-        ensures { IfSome result (λ ps. IsListed (slice_chunk (entries city.entry.now.1) len i) ps.items) }
-    { points_of_piece(alloc, seed, city, i * len, len) };
-    let pieces = map_indices(rt, alloc, city.len().div_ceil(len), &points)?;
-    Ok(pieces)
-}
-
-/// Room for the points of all pieces. Pieces may share points, so it is at most `MOST_LISTS` times the longest list.
-fn room_for(pieces: &[Option<Vec<Point>>]) -> usize {
-    let mut all = 0_usize;
-    let mut longest = 0_usize;
-    for piece in pieces {
-        if let Some(points) = piece {
-            all = all.saturating_add(points.len());
-            longest = longest.max(points.len());
-        }
-    }
-    all.min(longest.saturating_mul(MOST_LISTS))
-}
-
-/// Adds points to a pool, and gives their numbers.
-fn numbers_of_points(
-    alloc: Global,
-    points: &[Point],
-    pool: &mut VertexPool,
-) -> Result<Vec<usize>, OutOfMemory>
-    ensures { OnOk result (pool.new ≡ with_points pool.old points.now) }
-{
-    let mut numbers = Vec::with_capacity(alloc, points.len())?;
-    for point in points {
-        let number = pool.add(*point)?;
-        numbers.push(number)?;
-    }
-    Ok(numbers)
-}
-
-/// Adds the points of each piece to a pool, and gives their numbers.
-fn numbers_of_pieces(
-    alloc: Global,
-    pieces: Vec<Option<Vec<Point>>>,
-    pool: &mut VertexPool,
-) -> Result<Vec<Vec<usize>>, OutOfMemory>
-    ensures pool { OnOk result (pool.new ≡ with_points pool.old (joined pieces.items (λ ps. ps.items))) }
-    ensures all { OnOk result (list_all is_some pieces.items ≡ true) }
-{
-    let mut all = Vec::new(alloc);
-    for piece in pieces {
-        let Some(points) = piece else {
-            return Err(OutOfMemory);
-        };
-        let numbers = numbers_of_points(alloc, points.as_slice(), pool)?;
-        all.push(numbers)?;
-    }
-    Ok(all)
-}
-
 /// The text of a piece, without braces. Its points have the numbers.
 fn text_of_piece(
     alloc: Global,
-    seed: u64,
     objects: Iter<'_, Id, Object>,
     len: usize,
     points: &[Point],
+    piece: &PiecePoints,
     numbers: &[usize],
 ) -> Result<Vec<u8>, OutOfMemory>
     requires { IsDistinct same_point points.now }
     ensures { IfOk result (λ text. IsWrittenIfKnown points.now (take len objects.entry) text.items) }
 {
-    let mut known = PointNumbers::known(alloc, seed, points, numbers);
+    let mut known = PointNumbers::known(points, piece.pool(), numbers);
     let mut out = Writer::new(Vec::new(alloc));
     write_first(objects, len, &mut known, &mut out)?;
     let text = out.into_inner();
@@ -158,11 +59,11 @@ fn text_of_piece(
 fn texts_of_pieces<R: Threads + Sync>(
     rt: &R,
     alloc: Global,
-    seed: u64,
     city: &City,
     len: usize,
     points: &[Point],
-    numbers: &[Vec<usize>],
+    pieces: &[Option<PiecePoints>],
+    numbers: &[Option<Vec<usize>>],
 ) -> Result<Vec<Option<Vec<u8>>>, OutOfMemory>
     requires len { 0 < len }
     requires distinct { IsDistinct same_point points.now }
@@ -174,13 +75,14 @@ fn texts_of_pieces<R: Threads + Sync>(
         ensures { IfSome result (λ text. IsWrittenIfKnown points.entry.now
             (slice_chunk (entries city.entry.now.1) len i) text.items) }
     {
-        let mine = numbers.get(i)?;
+        let piece = pieces.get(i)?.as_ref()?;
+        let mine = numbers.get(i)?.as_ref()?;
         text_of_piece(
             alloc,
-            seed,
             objects_from(city, i * len),
             len,
             points,
+            piece,
             mine.as_slice(),
         )
         .ok()
@@ -248,8 +150,7 @@ fn append_rest(
 
 /// The bytes, and after them the canonical text of a city, without a newline. Each thread writes `len` objects.
 ///
-/// Points are numbered first, piece by piece: a point's number depends on the points before it. Then each worker
-/// meets the points of its piece in the order of their numbering.
+/// Points are numbered first: a point's number depends on the points before it.
 pub fn append_in_pieces<R: Threads + Sync>(
     rt: &R,
     alloc: Global,
@@ -263,11 +164,10 @@ pub fn append_in_pieces<R: Threads + Sync>(
     ensures written { IfOk result (λ _. IsTextOf (city_text city.now) city.now) }
     ensures json { IfOk result (λ _. IsCompactJson (city_text city.now)) }
 {
-    let pieces = points_of_pieces(rt, alloc, seed, city, len)?;
-    let mut pool = VertexPool::with_room(alloc, seed, room_for(pieces.as_slice()))?;
-    let numbers = numbers_of_pieces(alloc, pieces, &mut pool)?;
-    let points = pool.as_slice();
-    let texts = texts_of_pieces(rt, alloc, seed, city, len, points, numbers.as_slice())?;
+    let numbered = NumberedPoints::of(rt, alloc, seed, city, len)?;
+    let points = numbered.all.as_slice();
+    let pieces = numbered.pieces.as_slice();
+    let texts = texts_of_pieces(rt, alloc, city, len, points, pieces, numbered.numbers.as_slice())?;
     let frame = city.frame();
     let members = frame.extra.map();
     let mut kept = KeptMembers::new(members);

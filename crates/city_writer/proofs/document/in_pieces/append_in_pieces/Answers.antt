@@ -1,5 +1,5 @@
 use Rattle.city_writer.proofs.Prelude.{◌∙◌}
-use Rattle.city_writer.proofs.document.CityInPieces.{all_pooled, objects_written, is_text, is_json, is_written}
+use Rattle.city_writer.proofs.document.CityInPieces.{objects_written, is_text, is_json, is_written}
 use Rattle.city_writer.proofs.document.in_pieces.append_in_pieces.Goals as goal
 
 pub returns : goal.returns
@@ -10,8 +10,7 @@ returns g c =
     let points = c.as_slice-points.result.now in
     let head = c.in_ok-head.ensures in
     let all = c.in_ok-all.ensures in
-    let pooled = all_pooled (λ ps. ps.items) c.args.len city c.in_ok-pieces.pieces.items _ _ points c.in_ok-pool.ensures
-    c.in_ok-numbers.ensures.pool c.as_slice-points.ensures.points c.in_ok-numbers.ensures.all c.in_ok-pieces.ensures in
+    let pooled = c.as_slice-points.ensures.value ∙ c.in_ok-numbered.ensures.points in
     let objects = objects_written (λ text. text.items) c.args.len city c.in_ok-texts.texts.items points pooled
     all.in_range.fewer c.in_ok-objects.ensures.all c.in_ok-texts.ensures in
     record {

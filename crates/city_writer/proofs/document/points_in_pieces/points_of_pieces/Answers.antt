@@ -7,7 +7,7 @@ use Rattle.std.specs.FinMap.{len-entries}
 use Rattle.city_model.proofs.Crossing.{city_field_syncs}
 use Rattle.city_writer.specs.internal.document.Pieces.{IsListed}
 use Rattle.city_writer.proofs.EachPiece.{each_made}
-use Rattle.city_writer.proofs.document.in_pieces.points_of_pieces.Goals as goal
+use Rattle.city_writer.proofs.document.points_in_pieces.points_of_pieces.Goals as goal
 
 pub map_indices-requires-sync-F : goal.map_indices-requires-sync-F
 map_indices-requires-sync-F g c κs within =
@@ -18,7 +18,7 @@ returns g c =
     let city = c.args.city.now in
     let made = c.in_ok-pieces.ensures in
     let all = c.in_ok-pieces.pieces in
-    each_made (λ es ps. IsListed es ps.items) c.args.len c.len.result c.div_ceil.result
+    each_made (λ es ps. IsListed es ps) c.args.len c.len.result c.div_ceil.result
     (entries city.1) all.items c.requires
     (c.len.ensures ∙ len-entries city.1) c.div_ceil.ensures (omega (arith, made.len, all.ok.0))
     (λ i d less. (made.each i d less).1.met)

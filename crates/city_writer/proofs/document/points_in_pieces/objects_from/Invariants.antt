@@ -1,5 +1,5 @@
 use Rattle.city_writer.proofs.Prelude.{◌≡◌, drop}
-use Rattle.city_writer.proofs.document.in_pieces.objects_from.Given as goal
+use Rattle.city_writer.proofs.document.points_in_pieces.objects_from.Given as goal
 
 -- the objects still to pass
 abbrev pub invariant-passed : goal.invariant-passed
