@@ -5,4 +5,5 @@ pub mod Pool
 pub mod Reports
 pub mod document
 pub mod object
+pub mod shape
 pub mod tree
