@@ -1,6 +1,6 @@
 -- Lists in pieces.
-use Rattle.city_writer.proofs.Prelude.{◌≡◌, true, Some, None, is_some, list_all, ℕ, suc, ◌+◌, ◌<◌, ◌≤◌, List, [], ◌∷◌, ◌++◌}
-use Rattle.city_writer.proofs.Prelude.{Option, length, get_or, drop, refl, sym, ap, ◌∙◌, subst}
+use Rattle.city_writer.proofs.Prelude.{◌≡◌, true, Some, None, is_some, list_all, ℕ, suc, ◌+◌, ◌<◌, ◌≤◌, List, [], ◌∷◌}
+use Rattle.city_writer.proofs.Prelude.{◌++◌, Option, length, get_or, drop, refl, sym, ap, ◌∙◌, subst}
 use Rattle.city_writer.proofs.Prelude.{arith}
 use Rattle.std.proofs.Common.{◌*◌, ◌/◌, ◌%◌, min, IfSome, take, length-drop}
 use Rattle.std.proofs.lemmas.Grind.{div_ceil_times}

@@ -66,7 +66,8 @@ module _ (pool : List Point) where
           f (λ es a written. written.printed) len es os h;
       reads = holds_of_all (λ es. MembersReadBack (in_turn pool es)) tt reads-append (λ es a written. written.reads)
           len es os h;
-      kept = holds_of_all (λ es. are_kept_objects es ≡ true) refl kept-append (λ es a written. written.kept) len es os h;
+      kept = holds_of_all (λ es. are_kept_objects es ≡ true) refl kept-append (λ es a written. written.kept)
+          len es os h;
     }
 
 -- the text of a piece, if its points are known

@@ -1,6 +1,6 @@
 -- Vertices one after another, and pieces of them put together.
-use Rattle.city_writer.proofs.Prelude.{◌≡◌, ℕ, Bool, true, false, List, [], ◌∷◌, ◌++◌, Option, refl, ◌∙◌, ap, map, subst}
-use Rattle.city_writer.proofs.Prelude.{append_assoc, list_all, list_all-append, is_some, Token, items_of, Point}
+use Rattle.city_writer.proofs.Prelude.{◌≡◌, ℕ, Bool, true, false, List, [], ◌∷◌, ◌++◌, Option, refl, ◌∙◌, ap, map}
+use Rattle.city_writer.proofs.Prelude.{subst, append_assoc, list_all, list_all-append, is_some, Token, items_of, Point}
 use Rattle.city_writer.proofs.Prelude.{tokens_of, closing_items, is_i64_point, vertex_data}
 use Rattle.std.proofs.Common.{◌||◌}
 use Rattle.std.specs.Str.{IsUtf8}

@@ -12,7 +12,8 @@ returns g c =
     let pieces = c.in_ok-vertices.ensures in
     let vertices = vertices_joined (λ text. text.items) _ points _ pieces.all c.in_ok-texts.ensures in
     record {
-      rest = rest_appended c.args.kept.now points c.args.frame.now _ _ _ _ _ _ before.before vertices.printed pieces.text before.left behind.behind;
+      rest = rest_appended c.args.kept.now points c.args.frame.now _ _ _ _ _ _ before.before vertices.printed
+          pieces.text before.left behind.behind;
       left = before.left_reads behind.reads;
       reads = (before.reads, array_reads _ vertices.reads);
       kept = before.kept;
