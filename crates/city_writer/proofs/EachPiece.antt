@@ -1,11 +1,11 @@
 -- Lists in pieces.
 use Rattle.city_writer.proofs.Prelude.{◌≡◌, true, Some, None, is_some, list_all, ℕ, suc, ◌+◌, ◌<◌, ◌≤◌, List, [], ◌∷◌}
-use Rattle.city_writer.proofs.Prelude.{Option, length, get_or, drop, refl, sym, ap, ◌∙◌, subst}
+use Rattle.city_writer.proofs.Prelude.{◌++◌, Option, length, get_or, drop, refl, sym, ap, ◌∙◌, subst}
 use Rattle.city_writer.proofs.Prelude.{arith}
 use Rattle.std.proofs.Common.{◌*◌, ◌/◌, ◌%◌, min, IfSome, take, length-drop}
 use Rattle.std.proofs.lemmas.Grind.{div_ceil_times}
 use native.Mathlib.Nat.{zero-mul}
-use Rattle.std.proofs.lemmas.List.{drop-drop}
+use Rattle.std.proofs.lemmas.List.{drop-drop, take-append-drop}
 use Rattle.std.specs.Fork.{slice_chunk}
 use Rattle.city_writer.specs.internal.Pieces.{EachPiece}
 
@@ -21,6 +21,16 @@ pub all_made : {X A : Type 0} (P : List X → A → Type 0) (len : ℕ) (xs : Li
 all_made P len xs [] all h = h
 all_made P len xs (None ∷ os) all h = absurd (cc)
 all_made P len xs (Some a ∷ os) all h = (h.0, all_made P len (drop len xs) os all h.1)
+
+-- what holds of no items, of each piece and of lists put together holds of the whole list
+pub holds_of_all : {X A : Type 0} {P : List X → A → Type 0} (Q : List X → Type 0) → Q []
+    → ((xs ys : List X) → Q xs → Q ys → Q (xs ++ ys)) → ((xs : List X) (a : A) → P xs a → Q xs)
+    → (len : ℕ) (xs : List X) (os : List (Option A)) → EachMade len xs os P → Q xs
+holds_of_all Q none both one len xs [] h = subst Q (sym h) none
+holds_of_all Q none both one len xs (None ∷ os) h = absurd h.0
+holds_of_all Q none both one len xs (Some a ∷ os) h =
+    subst Q (take-append-drop len xs)
+    (both (take len xs) (drop len xs) (one (take len xs) a h.0) (holds_of_all Q none both one len (drop len xs) os h.1))
 
 next_piece : {X : Type 0} (i len : ℕ) (xs : List X) → drop (suc i * len) xs ≡ drop (i * len) (drop len xs)
 next_piece i len xs =

@@ -5,3 +5,4 @@ pub mod Lacking
 pub mod OwnMembers
 pub mod PiecesWritten
 pub mod PutMembers
+pub mod RestInPieces

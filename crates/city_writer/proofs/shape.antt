@@ -1,3 +1,4 @@
 -- Lemmas for several functions of src/shape/.
 pub mod Bounded
 pub mod ShapeNames
+pub mod VerticesInTurn

@@ -7,4 +7,5 @@ pub mod Integers
 pub mod JoinedLists
 pub mod KeptSizes
 pub mod ReadBack
+pub mod TextsJoined
 pub mod WrittenItems

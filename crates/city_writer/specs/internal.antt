@@ -6,4 +6,5 @@ pub mod Pool
 pub mod Reports
 pub mod document
 pub mod object
+pub mod shape
 pub mod tree

@@ -2,3 +2,4 @@
 
 pub mod text;
 pub mod vertices;
+pub mod vertices_in_pieces;

@@ -5,16 +5,13 @@ use Rattle.city_writer.proofs.Prelude.{Entries, Point, are_kept_objects, and_par
 use Rattle.city_writer.proofs.Prelude.{tokens_of_members, MembersReadBack, with_points, keys_of, nat_cmp, slice_cmp}
 use Rattle.city_writer.proofs.Prelude.{entries, CityValue, tree_of, Members, members_before, members_from, Data}
 use Rattle.city_writer.proofs.Prelude.{objects_data, closing_members, Frame, ReadsBack, transform_data, vertices_data}
-use Rattle.std.proofs.Common.{length, ◌<◌, ◌^◌, take, ◌||◌, ◌&&◌, cond, codes, suc, zero, ◌-◌}
-use Rattle.std.proofs.lemmas.List.{take-append-drop}
+use Rattle.std.proofs.Common.{length, ◌<◌, ◌^◌, take, codes, suc, zero, ◌-◌}
 use Rattle.std.specs.List.Sorted.{IsStrictlySortedBy}
 use Rattle.std.specs.Str.{IsUtf8}
-use Rattle.std.proofs.lemmas.Str.{IsUtf8-append, IsUtf8-nil}
 use Rattle.json.specs.Lex.{tokens}
-use Rattle.json.specs.Print.{print, print_from, ArePrintableOrBad}
-use Rattle.json.proofs.Printed.Tokens.{print_from-append}
-use Rattle.city_writer.specs.internal.Pieces.{joined_by_commas, is_some_text}
-use Rattle.city_writer.proofs.EachPiece.{EachMade}
+use Rattle.json.specs.Print.{print, print_from}
+use Rattle.city_writer.specs.internal.Pieces.{joined_by_commas}
+use Rattle.city_writer.proofs.EachPiece.{EachMade, holds_of_all}
 use Rattle.city_writer.specs.internal.document.Pieces.{IsWritten, IsWrittenIfKnown, frame_own, head_tokens}
 use Rattle.city_writer.specs.internal.object.InTurn.{in_turn, entry_points}
 use Rattle.city_writer.specs.internal.tree.Appended.{IsPrinted}
@@ -25,8 +22,9 @@ use Rattle.city_writer.proofs.document.PutMembers.{IsPut, put_written, put_reads
 use Rattle.city_writer.proofs.tree.Among.{string_reads}
 use Rattle.city_writer.proofs.pool.NumberedPoints.{are_in}
 use Rattle.city_writer.proofs.pool.PointsAgain.{points_known, points_parted}
-use Rattle.city_writer.proofs.tree.Appended.{after, printed, members_after, utf8_comma, printable-append}
+use Rattle.city_writer.proofs.tree.Appended.{printed, members_after}
 use Rattle.city_writer.proofs.tree.Appended.{printed-append, after_begin, before_end, members-closed}
+use Rattle.city_writer.proofs.tree.TextsJoined.{texts_printed}
 
 module _ (pool : List Point) where
   -- the tokens of objects, each under its id
@@ -37,13 +35,14 @@ module _ (pool : List Point) where
   members-append [] ys = refl
   members-append (x ∷ xs) ys = simp (members-append xs ys, append_assoc)
 
-  pub members_parted : (n : ℕ) (es : Entries) → members (take n es) ++ members (drop n es) ≡ members es
-  members_parted n es = sym (members-append (take n es) (drop n es)) ∙ ap members (take-append-drop n es)
-
   reads-append : (xs ys : Entries) → MembersReadBack (in_turn pool xs) → MembersReadBack (in_turn pool ys)
       → MembersReadBack (in_turn pool (xs ++ ys))
   reads-append [] ys h k = k
   reads-append (x ∷ xs) ys h k = (h.0, reads-append xs ys h.1 k)
+
+  kept-append : (xs ys : Entries) → are_kept_objects xs ≡ true → are_kept_objects ys ≡ true
+      → are_kept_objects (xs ++ ys) ≡ true
+  kept-append xs ys h k = list_all-append _ xs ys ∙ rw (h, k) refl
 
   module _ {A : Type 0} (f : A → List ℕ) where
     -- a piece is written if its points are known
@@ -59,66 +58,16 @@ module _ (pool : List Point) where
         let parts = and_parts (are_in pool first) (are_in pool rest) both in
         (h.0 (points_known pool first parts.0) small, each_known len (drop len es) os small parts.1 h.1)
 
-    texts_are : (b : Bool) (len : ℕ) (es : Entries) (os : List (Option A))
-        → EachMade len es os (λ es a. IsWritten pool es (f a)) → joined_by_commas b os f ≡ print_from b (members es)
-    unfolding print_from
-    texts_are b len es [] h = ap (λ es. print_from b (members es)) (sym h)
-    texts_are b len es (None ∷ os) h = absurd h.0
-    texts_are b len es (Some a ∷ os) h =
-        let first = take len es in
-        let rest = drop len es in
-        let one = members_after b (in_turn pool first) (f a) h.0.printed.text_is in
-        let comma = cond (b && is_some_text (f a)) (44 ∷ []) [] in
-        sym (append_assoc comma (f a) _)
-        ∙ ap (λ t. t ++ joined_by_commas (b || is_some_text (f a)) os f) one.0
-        ∙ ap (λ c. print_from b (members first) ++ joined_by_commas c os f) (sym one.1)
-        ∙ ap (λ t. print_from b (members first) ++ t) (texts_are (after b (members first)) len rest os h.1)
-        ∙ sym (print_from-append b (members first) (members rest))
-        ∙ ap (print_from b) (members_parted len es)
-
-    texts_printable : (len : ℕ) (es : Entries) (os : List (Option A))
-        → EachMade len es os (λ es a. IsWritten pool es (f a)) → ArePrintableOrBad (members es)
-    texts_printable len es [] h = subst (λ es. ArePrintableOrBad (members es)) (sym h) tt
-    texts_printable len es (None ∷ os) h = absurd h.0
-    texts_printable len es (Some a ∷ os) h =
-        subst ArePrintableOrBad (members_parted len es)
-        (printable-append _ _ h.0.printed.printable (texts_printable len (drop len es) os h.1))
-
-    texts_utf8 : (b : Bool) (len : ℕ) (es : Entries) (os : List (Option A))
-        → EachMade len es os (λ es a. IsWritten pool es (f a)) → IsUtf8 (joined_by_commas b os f)
-    texts_utf8 b len es [] h = IsUtf8-nil
-    texts_utf8 b len es (None ∷ os) h = absurd h.0
-    texts_utf8 b len es (Some a ∷ os) h =
-        IsUtf8-append _ _ (utf8_comma (b && is_some_text (f a)))
-        (IsUtf8-append (f a) _ h.0.printed.utf8 (texts_utf8 (b || is_some_text (f a)) len (drop len es) os h.1))
-
-    texts_read : (len : ℕ) (es : Entries) (os : List (Option A))
-        → EachMade len es os (λ es a. IsWritten pool es (f a)) → MembersReadBack (in_turn pool es)
-    texts_read len es [] h = subst (λ es. MembersReadBack (in_turn pool es)) (sym h) tt
-    texts_read len es (None ∷ os) h = absurd h.0
-    texts_read len es (Some a ∷ os) h =
-        subst (λ es. MembersReadBack (in_turn pool es)) (take-append-drop len es)
-        (reads-append (take len es) (drop len es) h.0.reads (texts_read len (drop len es) os h.1))
-
-    texts_kept : (len : ℕ) (es : Entries) (os : List (Option A))
-        → EachMade len es os (λ es a. IsWritten pool es (f a)) → are_kept_objects es ≡ true
-    texts_kept len es [] h = ap are_kept_objects h
-    texts_kept len es (None ∷ os) h = absurd h.0
-    texts_kept len es (Some a ∷ os) h =
-        ap are_kept_objects (sym (take-append-drop len es)) ∙ list_all-append _ (take len es) (drop len es)
-        ∙ rw (h.0.kept, texts_kept len (drop len es) os h.1) refl
-
     -- the pieces, put together, are the objects
     pub pieces_written : (len : ℕ) (es : Entries) (os : List (Option A))
         → EachMade len es os (λ es a. IsWritten pool es (f a)) → IsWritten pool es (joined_by_commas false os f)
     pieces_written len es os h = record {
-      printed = record {
-        text_is = texts_are false len es os h;
-        printable = texts_printable len es os h;
-        utf8 = texts_utf8 false len es os h;
-      };
-      reads = texts_read len es os h;
-      kept = texts_kept len es os h;
+      printed = texts_printed members refl members-append (λ b es text. members_after b (in_turn pool es) text)
+          f (λ es a written. written.printed) len es os h;
+      reads = holds_of_all (λ es. MembersReadBack (in_turn pool es)) tt reads-append (λ es a written. written.reads)
+          len es os h;
+      kept = holds_of_all (λ es. are_kept_objects es ≡ true) refl kept-append (λ es a written. written.kept)
+          len es os h;
     }
 
 -- the text of a piece, if its points are known

@@ -11,6 +11,7 @@ use Rattle.std.proofs.lemmas.Grind.{fold-append}
 use Rattle.json.specs.Json as json
 use Rattle.json.specs.Lex.{tokens}
 use Rattle.json.specs.Print.{print, print_from, ends, ArePrintableOrBad}
+use Rattle.json.specs.Token.{begin_array, end_array}
 use Rattle.json.specs.Tree.{json_tokens, items_tokens, members_tokens}
 use Rattle.json.proofs.Numbered.{ArePrintableOrBad-tokens}
 use Rattle.json.proofs.Printed.Tokens.{print_from-append, ends_push}
@@ -23,7 +24,7 @@ abbrev pub after : Bool → List Token → Bool
 after = fold (λ _ t. ends t)
 
 mutual
-  value_ends : (b : Bool) (j : json.Json) → after b (json_tokens j) ≡ true
+  pub value_ends : (b : Bool) (j : json.Json) → after b (json_tokens j) ≡ true
   value_ends b json.null = refl
   value_ends b (json.boolean c) = refl
   value_ends b (json.number s) = refl
@@ -49,7 +50,7 @@ after_members (member k d ms) =
     fold-append (λ _ t. ends t) false (tokens_of d) (tokens_of_members ms)
     ∙ ap (λ b. after b (tokens_of_members ms)) (value_ends false (outline d)) ∙ after_members ms
 
-abbrev comma : Bool → List ℕ → List ℕ
+abbrev pub comma : Bool → List ℕ → List ℕ
 comma b text = cond (b && is_some_text text) (44 ∷ []) []
 
 -- a comma stands before the text of members, if it needs one
@@ -101,10 +102,18 @@ printed-append ts us a b h k none = record {
 pub after_begin : (ts us : List Token) → print_from (after false (ts ++ begin_object ∷ [])) us ≡ print us
 after_begin ts us = rw (ends_push false ts begin_object) refl
 
+pub after_begin_array : (ts us : List Token) → print_from (after false (ts ++ begin_array ∷ [])) us ≡ print us
+after_begin_array ts us = rw (ends_push false ts begin_array) refl
+
 pub before_end : (b : Bool) (us : List Token) → print_from b (end_object ∷ us) ≡ print (end_object ∷ us)
 unfolding print_from
 before_end true us = refl
 before_end false us = refl
+
+pub before_end_array : (b : Bool) (us : List Token) → print_from b (end_array ∷ us) ≡ print (end_array ∷ us)
+unfolding print_from
+before_end_array true us = refl
+before_end_array false us = refl
 
 pub members-closed : (ms : Members) → closing_members ms ≡ tokens_of_members ms ++ end_object ∷ []
 members-closed no_members = refl

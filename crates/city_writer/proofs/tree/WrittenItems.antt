@@ -1,10 +1,8 @@
 -- Items written one after the other, each with its points added to a pool.
-use Rattle.city_writer.proofs.Prelude.{◌≡◌, ℕ, ◌+◌, ◌<◌, ◌≤◌, List, ◌∷◌, ◌++◌, map, length, get_or, drop, sym, ap, ◌∙◌}
-use Rattle.city_writer.proofs.Prelude.{[]}
-use Rattle.city_writer.proofs.Prelude.{refl, subst, append_assoc, drop_all, Token, Data, items_of, Point, tokens_of}
-use Rattle.city_writer.proofs.Prelude.{closing_items, ReadsBack, ItemsReadBack, with_points}
+use Rattle.city_writer.proofs.Prelude.{◌≡◌, ℕ, ◌+◌, ◌<◌, List, ◌∷◌, ◌++◌, map, length, get_or, drop, sym, ap, ◌∙◌}
+use Rattle.city_writer.proofs.Prelude.{subst, append_assoc, Token, Data, items_of, Point, tokens_of}
+use Rattle.city_writer.proofs.Prelude.{closing_items, ItemsReadBack, with_points}
 use Rattle.std.proofs.lemmas.List.{drop_more}
-use Rattle.json.specs.Token.{end_array}
 use Rattle.city_writer.proofs.pool.Walks.{with_points-append}
 
 pub item_first : {X : Type 0} (xs : List X) (i : ℕ) (x : X) → i < length xs → x ≡ get_or xs i x
@@ -22,19 +20,8 @@ module _ {X : Type 0} (f : X → Data) where
   one_written xs i x start out next lt at left more =
       rw (left, item_first xs i x lt at, more) (simp append_assoc)
 
-  pub all_written : (xs : List X) (i : ℕ) (start out last : List Token) → length xs ≤ i
-      → start ++ closing xs ≡ out ++ closing (drop i xs) → last ≡ out ++ end_array ∷ [] → last ≡ start ++ closing xs
-  all_written xs i start out last le left end = rw (left, end, drop_all i xs le) refl
-
   abbrev pub ReadBack : List X → Type 0
   ReadBack xs = ItemsReadBack (items_of (map f xs))
-
-  pub one_reads : (xs : List X) (i : ℕ) (x : X) → i < length xs → x ≡ get_or xs i x
-      → (ReadBack (drop i xs) → ReadBack xs) → ReadsBack (f x) → ReadBack (drop (i + 1) xs) → ReadBack xs
-  one_reads xs i x lt at all one rest = all (subst ReadBack (sym (item_first xs i x lt at)) (one, rest))
-
-  pub all_read : (xs : List X) (i : ℕ) → length xs ≤ i → (ReadBack (drop i xs) → ReadBack xs) → ReadBack xs
-  all_read xs i le all = all (subst ReadBack (sym (drop_all i xs le)) tt)
 
 module _ {X : Type 0} (points : X → List Point) (written : List Point → X → Data) where
   pub numbered_written : (xs : List X) (i : ℕ) (x : X) (pool new : List Point) (start out next : List Token)

@@ -1,3 +1,4 @@
 -- Words for how documents are written.
 pub mod KeptMembers
 pub mod Pieces
+pub mod Rest

@@ -4,27 +4,30 @@ ghost use Rattle.std.specs.Prelude.{codes, drop, false, is_some, take, true};
 ghost use Rattle.std.specs.Fork.{slice_chunk};
 ghost use Rattle.std.specs.FinMap.{entries};
 ghost use Rattle.std.specs.List.{IsDistinct, list_all};
-ghost use Rattle.json.specs.Token.{end_object};
+ghost use Rattle.json.specs.Token.{begin_array, end_array, end_object};
 ghost use Rattle.city_model.specs.Kept.{kept_at_transform};
 ghost use Rattle.city_model.specs.Shells.{same_point};
 ghost use Rattle.city_writer.specs.document.Canonical.{city_text, transform_data};
 ghost use Rattle.city_writer.specs.document.Texts.{IsTextOf};
 ghost use Rattle.city_writer.specs.document.Ranges.{IsInRange};
-ghost use Rattle.city_writer.specs.internal.Pieces.{EachPiece, joined, joined_by_commas};
-ghost use Rattle.city_writer.specs.internal.Pool.{with_points};
-ghost use Rattle.city_writer.specs.internal.document.Pieces.{IsListed, IsWrittenIfKnown, frame_own, head_tokens};
+ghost use Rattle.city_writer.specs.internal.Pieces.{EachPiece, joined_by_commas};
+ghost use Rattle.city_writer.specs.internal.document.Pieces.{IsWrittenIfKnown, frame_own, head_tokens};
+ghost use Rattle.city_writer.specs.internal.document.Rest.{before_vertices, behind_vertices};
 ghost use Rattle.city_writer.specs.internal.tree.Appended.{IsAppended};
 ghost use Rattle.city_writer.specs.internal.tree.OwnMembers.{written};
+ghost use Rattle.city_writer.specs.internal.tree.PartTokens.{tokens_of_members};
 ghost use Rattle.city_writer.specs.internal.tree.Parted.{members_from};
 ghost use Rattle.city_writer.specs.internal.tree.ReadsBack.{MembersReadBack, ReadsBack};
 ghost use Rattle.city_writer.specs.report.JsonLines.{IsCompactJson};
 ghost use Rattle.city_writer.specs.shape.Vertices.{vertices_data};
+ghost use Rattle.city_writer.specs.tree.Ranges.{is_i64_triple};
 
 use crate::document::points_in_pieces::{NumberedPoints, objects_from};
-use crate::document::text::write_rest;
+use crate::document::text::write_before_vertices;
 use crate::object::text::write_first;
 use crate::piece_points::PiecePoints;
 use crate::point_numbers::PointNumbers;
+use crate::shape::vertices_in_pieces::texts_of_vertices;
 use crate::tree::kept_members::KeptMembers;
 use city_model::OutOfMemory;
 use city_model::city::City;
@@ -127,12 +130,54 @@ fn append_pieces(mut bytes: Vec<u8>, texts: Vec<Option<Vec<u8>>>) -> Result<Vec<
     Ok(bytes)
 }
 
-/// Everything behind the last object.
-fn append_rest(
+/// Everything behind the last object and before the first vertex.
+fn append_before_vertices(
+    bytes: Vec<u8>,
+    frame: &Frame,
+    kept: &mut KeptMembers<'_>,
+) -> Result<Vec<u8>, OutOfMemory>
+    ensures before { IfOk result (λ b. IsAppended bytes.items
+        (before_vertices kept.old frame.now (end_object ∷ []) ++ begin_array ∷ []) b.items) }
+    ensures left { OnOk result (kept.new ≡ behind_vertices kept.old) }
+    ensures left_reads { OnOk result (MembersReadBack kept.new → MembersReadBack kept.old) }
+    ensures reads { OnOk result (ReadsBack (transform_data frame.now)) }
+    ensures kept { OnOk result (kept_at_transform frame.now.more ≡ true) }
+    ensures in_range { OnOk result ((is_i64_triple frame.now.scale ≡ true)
+        × (is_i64_triple frame.now.translate ≡ true)) }
+{
+    let mut out = Writer::new(bytes);
+    out.end_object()?;
+    write_before_vertices(frame, kept, &mut out)?;
+    out.begin_array()?;
+    let bytes = out.into_inner();
+    Ok(bytes)
+}
+
+/// Everything behind the last vertex.
+fn append_behind_vertices(
+    bytes: Vec<u8>,
+    kept: &mut KeptMembers<'_>,
+) -> Result<Vec<u8>, OutOfMemory>
+    ensures behind { IfOk result (λ b. IsAppended bytes.items
+        (end_array ∷ (tokens_of_members kept.old ++ end_object ∷ [])) b.items) }
+    ensures reads { OnOk result (MembersReadBack kept.old) }
+{
+    let mut out = Writer::new(bytes);
+    out.end_array()?;
+    kept.write_last(&mut out)?;
+    let bytes = out.into_inner();
+    Ok(bytes)
+}
+
+/// Everything behind the last object. A thread for each of `count` pieces writes its vertices.
+fn append_rest<R: Threads + Sync>(
+    rt: &R,
+    alloc: Global,
     bytes: Vec<u8>,
     frame: &Frame,
     kept: &mut KeptMembers<'_>,
     points: &[Point],
+    count: usize,
 ) -> Result<Vec<u8>, OutOfMemory>
     ensures rest { IfOk result (λ b. IsAppended bytes.items
         (written kept.old 0 (frame_own points.now frame.now) (end_object ∷ [])) b.items) }
@@ -141,11 +186,12 @@ fn append_rest(
     ensures kept { OnOk result (kept_at_transform frame.now.more ≡ true) }
     ensures in_range { OnOk result (IsInRange points.now frame.now) }
 {
-    let mut out = Writer::new(bytes);
-    out.end_object()?;
-    write_rest(frame, kept, points, &mut out)?;
-    let bytes = out.into_inner();
-    Ok(bytes)
+    let before = append_before_vertices(bytes, frame, kept)?;
+    let len = points.len().div_ceil(count.max(1)).max(1);
+    let texts = texts_of_vertices(rt, alloc, points, len)?;
+    let vertices = append_pieces(before, texts)?;
+    let all = append_behind_vertices(vertices, kept)?;
+    Ok(all)
 }
 
 /// The bytes, and after them the canonical text of a city, without a newline. Each thread writes `len` objects.
@@ -173,6 +219,7 @@ pub fn append_in_pieces<R: Threads + Sync>(
     let mut kept = KeptMembers::new(members);
     let head = append_head(bytes, &mut kept)?;
     let objects = append_pieces(head, texts)?;
-    let all = append_rest(objects, frame, &mut kept, points)?;
+    let count = city.len().div_ceil(len);
+    let all = append_rest(rt, alloc, objects, frame, &mut kept, points, count)?;
     Ok(all)
 }

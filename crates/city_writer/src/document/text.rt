@@ -8,6 +8,7 @@ ghost use Rattle.city_writer.specs.document.Ranges.{IsInRange};
 ghost use Rattle.city_writer.specs.tree.Ranges.{is_i64_triple};
 ghost use Rattle.city_writer.specs.tree.Tokens.{tokens_of};
 ghost use Rattle.city_writer.specs.internal.document.Pieces.{frame_own};
+ghost use Rattle.city_writer.specs.internal.document.Rest.{before_vertices, behind_vertices};
 ghost use Rattle.city_writer.specs.internal.tree.OwnMembers.{written};
 ghost use Rattle.city_writer.specs.internal.tree.ReadsBack.{ReadsBack, MembersReadBack};
 ghost use Rattle.city_writer.specs.shape.Vertices.{vertices_data};
@@ -43,6 +44,30 @@ fn write_transform(frame: &Frame, out: &mut Writer) -> Result<(), OutOfMemory>
     kept.write_last(out)
 }
 
+/// Writes the members of a city behind its objects and before its vertices, and the name of the vertices.
+pub fn write_before_vertices(
+    frame: &Frame,
+    kept: &mut KeptMembers<'_>,
+    out: &mut Writer,
+) -> Result<(), OutOfMemory>
+    ensures before { OnOk result (out.new.before ≡ out.old.before) }
+    ensures tokens { OnOk result (out.new.tokens ≡ before_vertices kept.old frame.now out.old.tokens) }
+    ensures left { OnOk result (kept.new ≡ behind_vertices kept.old) }
+    ensures left_reads { OnOk result (MembersReadBack kept.new → MembersReadBack kept.old) }
+    ensures reads { OnOk result (ReadsBack (transform_data frame.now)) }
+    ensures kept { OnOk result (kept_at_transform frame.now.more ≡ true) }
+    ensures in_range { OnOk result ((is_i64_triple frame.now.scale ≡ true)
+        × (is_i64_triple frame.now.translate ≡ true)) }
+{
+    kept.write_name("transform", out)?;
+    write_transform(frame, out)?;
+    kept.write_name("type", out)?;
+    out.string("CityJSON")?;
+    kept.write_name("version", out)?;
+    out.string("2.0")?;
+    kept.write_name("vertices", out)
+}
+
 /// Writes the members of a city behind its objects, and the closing brace.
 pub fn write_rest(
     frame: &Frame,
@@ -58,13 +83,7 @@ pub fn write_rest(
     ensures kept { OnOk result (kept_at_transform frame.now.more ≡ true) }
     ensures in_range { OnOk result (IsInRange points.now frame.now) }
 {
-    kept.write_name("transform", out)?;
-    write_transform(frame, out)?;
-    kept.write_name("type", out)?;
-    out.string("CityJSON")?;
-    kept.write_name("version", out)?;
-    out.string("2.0")?;
-    kept.write_name("vertices", out)?;
+    write_before_vertices(frame, kept, out)?;
     write_vertices(points, out)?;
     kept.write_last(out)
 }

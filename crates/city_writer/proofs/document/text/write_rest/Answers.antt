@@ -4,17 +4,10 @@ use Rattle.city_writer.proofs.document.text.write_rest.Goals as goal
 
 pub returns-clause-tokens : goal.returns-clause-tokens
 returns-clause-tokens c =
-    let frame = c.in_ok-write_name.ensures in
-    let type = c.in_ok-write_name-2.ensures in
-    let version = c.in_ok-write_name-3.ensures in
-    let vertices = c.in_ok-write_name-4.ensures in
+    let before = c.in_ok-write_before_vertices.ensures in
     on_ok c.write_last.result c.write_last.ensures.tokens (λ e.
-    rw (e, c.in_ok-write_vertices.ensures.tokens, vertices.tokens, vertices.left, c.in_ok-string-2.ensures.ok)
-    (rw (version.tokens, version.left, c.in_ok-string.ensures.ok, type.tokens, type.left)
-    (rw (c.in_ok-write_transform.ensures.tokens, frame.tokens, frame.left) refl)))
+    rw (e, c.in_ok-write_vertices.ensures.tokens, before.tokens, before.left) refl)
 
 pub returns-clause-left : goal.returns-clause-left
 returns-clause-left c =
-    on_ok c.write_last.result c.write_last.ensures.reads (λ e.
-    c.in_ok-write_name.ensures.reads (c.in_ok-write_name-2.ensures.reads (c.in_ok-write_name-3.ensures.reads
-    (c.in_ok-write_name-4.ensures.reads e))))
+    on_ok c.write_last.result c.write_last.ensures.reads c.in_ok-write_before_vertices.ensures.left_reads

@@ -1,0 +1,2 @@
+-- Words for how geometries and vertices are written.
+pub mod InTurn
