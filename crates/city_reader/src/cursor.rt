@@ -56,14 +56,18 @@ impl<'t> Cursor<'t> {
         Some(Cursor { text, at })
     }
 
-    /// Whether it stands at this byte of this text. The texts are compared only if the bytes agree.
+    /// Whether it stands at this byte of this text. What is left of the texts is compared only if the
+    /// bytes agree.
     pub fn is_at(&self, text: &str, at: usize) -> bool
         ensures { IsTrue result → self.now ≡ drop at text.now }
     {
-        if self.at != at || at > text.len() {
+        if self.at != at {
             return false;
         }
-        are_same(self.text, text)
+        match (self.text.get(at..), text.get(at..)) {
+            (Some(left), Some(right)) => are_same(left, right),
+            _ => false,
+        }
     }
 
     /// Goes from one byte of this text to a later one, if it stands at the first.

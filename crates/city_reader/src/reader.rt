@@ -73,6 +73,16 @@ impl<'t> Reader<'t> {
         Some(Reader { source })
     }
 
+    /// Reads this text from its beginning, and gives up at an escape. Unlike `new`, it looks for none
+    /// beforehand, and takes no memory.
+    pub fn plain(text: &'t str) -> Reader<'t>
+        ensures { result ≡ tokens text.now }
+    {
+        Reader {
+            source: Source::Plain(PlainReader::new(text)),
+        }
+    }
+
     /// Reads this text on from a position, as far as it has no escape; `None` if the text has no
     /// such place.
     pub fn from(text: &'t str, position: Position) -> Option<Reader<'t>>

@@ -3,7 +3,7 @@
 
 use crate::pieces::Pieces;
 use city_reader::Position;
-use memchr::{memchr, memmem};
+use memchr::{memchr, memmem, memrchr_iter};
 use std::alloc::Global;
 
 /// How many bytes are searched for a cut.
@@ -314,13 +314,19 @@ fn count_of(bytes: &[u8], pieces: Pieces) -> Option<usize> {
     Some(count)
 }
 
+/// The place of the last such name, with its quotes. It goes from quote to quote: behind the name of
+/// the vertices there are many numbers, but few quotes.
+fn last_place(bytes: &[u8], name: &[u8]) -> Option<usize> {
+    memrchr_iter(b'"', bytes).find(|at| bytes.get(*at..).is_some_and(|rest| rest.starts_with(name)))
+}
+
 /// The cuts of a document; `None` if it is too short, has an escape or but one part, or doesn't
 /// look like one.
 pub fn cuts_of_document(alloc: Global, text: &str, pieces: Pieces) -> Option<Cuts> {
     let bytes = text.as_bytes();
     let count = count_of(bytes, pieces)?;
     let objects = memmem::find(bytes, b"\"CityObjects\"")?;
-    let vertices = memmem::rfind(bytes, b"\"vertices\"")?;
+    let vertices = last_place(bytes, b"\"vertices\"")?;
     let of_objects = stretch_of(bytes, objects, vertices, b'{')?;
     let of_vertices = stretch_of(bytes, vertices, objects, b'[')?;
     let cuts = Cuts {

@@ -21,7 +21,7 @@ use crate::whole_text::DEPTH;
 use city_model::sequence::Sequence;
 use city_model::text::Id;
 use city_reader::Reader;
-use json::{Scratch, Token};
+use json::Token;
 use std::alloc::Global;
 use std::thread::Threads;
 
@@ -133,8 +133,8 @@ pub fn top_in_pieces<R: Threads + Sync>(
     };
     let cuts = cuts_of_document(alloc, text, pieces)?;
     let runs = Runs::read(rt, alloc, text, &cuts)?;
-    let mut scratch = Scratch::new(alloc);
-    let mut reader = Reader::new(text, &mut scratch)?;
+    // Where cuts were found, the text has no escape.
+    let mut reader = Reader::plain(text);
     let top = read_top(alloc, &mut reader, runs)?;
     Some(top)
 }

@@ -19,7 +19,6 @@ use crate::whole_text::read_whole_text;
 use city_model::script::Script;
 use city_model::sequence::Sequence;
 use city_reader::Reader;
-use json::Scratch;
 use std::alloc::Global;
 use std::thread::Threads;
 
@@ -77,8 +76,8 @@ fn array_in_pieces<R: Threads + Sync>(
     };
     let cuts = cuts_of_scripts(alloc, text, pieces)?;
     let run = read_pieces(rt, alloc, text, &cuts)?;
-    let mut scratch = Scratch::new(alloc);
-    let mut reader = Reader::new(text, &mut scratch)?;
+    // Where cuts were found, the text has no escape.
+    let mut reader = Reader::plain(text);
     let scripts = read_array(alloc, &mut reader, text, run)?;
     Some(scripts)
 }
