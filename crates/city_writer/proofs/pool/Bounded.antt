@@ -1,5 +1,6 @@
 -- Points outside a box around others aren't among them.
-use Rattle.city_writer.proofs.Prelude.{◌≡◌, true, false, List, [], ◌∷◌, refl, arith, list_all, list_any, Point, same_point}
+use Rattle.city_writer.proofs.Prelude.{◌≡◌, true, false, List, [], ◌∷◌, refl, arith, list_all, list_any, Point}
+use Rattle.city_writer.proofs.Prelude.{same_point}
 use Rattle.city_writer.specs.declared.piece_points.Bounds.{Bounds}
 use Rattle.city_writer.specs.internal.PiecePoints.{is_within}
 use Rattle.city_writer.proofs.pool.NumberedPoints.{same_point-is}

@@ -1,12 +1,12 @@
 -- The points of each piece that no piece before it has: put together, they are the points of all pieces.
-use Rattle.city_writer.proofs.Prelude.{◌≡◌, ℕ, zero, suc, ◌<◌, Bool, true, false, not, List, [], ◌∷◌, ◌++◌, Option, Some}
-use Rattle.city_writer.proofs.Prelude.{None, refl, sym, ap, ◌∙◌, subst, arith, append_assoc, append-nil, length, get_or}
-use Rattle.city_writer.proofs.Prelude.{filter, is_some, list_all, list_any, slice_get, AllByRecursion, Point, same_point}
-use Rattle.city_writer.proofs.Prelude.{without_repeats, with_points, is_new, new_points, fun_ext}
+use Rattle.city_writer.proofs.Prelude.{◌≡◌, ℕ, suc, ◌<◌, Bool, true, false, not, List, [], ◌∷◌, ◌++◌, Option, Some, None}
+use Rattle.city_writer.proofs.Prelude.{refl, sym, ap, ◌∙◌, subst, arith, append_assoc, append-nil, length, get_or, filter}
+use Rattle.city_writer.proofs.Prelude.{is_some, list_all, slice_get, AllByRecursion, Point, same_point, without_repeats}
+use Rattle.city_writer.proofs.Prelude.{with_points, is_new, new_points, fun_ext}
 use Rattle.std.proofs.Common.{IfSome, ap₂, cond, take}
 use Rattle.std.specs.List.{IsDistinct}
 use Rattle.city_writer.specs.internal.Pieces.{joined}
-use Rattle.city_writer.specs.internal.Pool.{AreNew, AreNewAt}
+use Rattle.city_writer.specs.internal.Pool.{AreNew}
 use Rattle.city_writer.proofs.pool.NumberedPoints.{is_in, same_point-is, in_pool}
 use Rattle.city_writer.proofs.pool.PointsAgain.{AreOnce}
 use Rattle.city_writer.proofs.pool.Repeats.{differs, with_points-is, pool_is_without_repeats}
@@ -37,14 +37,14 @@ same_new ps = fun_ext (same_in ps)
 -- ---- each point once
 
 module _ (f : Point → Bool) where
-  kept_or : {P : Point → Type 0} (b : Bool) (p : Point) (ps : List Point) → P p → AllByRecursion P ps
+  kept_or : (P : Point → Type 0) (b : Bool) (p : Point) (ps : List Point) → P p → AllByRecursion P ps
       → AllByRecursion P (cond b (p ∷ ps) ps)
-  kept_or true p ps one rest = (one, rest)
-  kept_or false p ps one rest = rest
+  kept_or P true p ps one rest = (one, rest)
+  kept_or P false p ps one rest = rest
 
-  all_kept : {P : Point → Type 0} (ps : List Point) → AllByRecursion P ps → AllByRecursion P (filter f ps)
-  all_kept [] h = tt
-  all_kept (p ∷ ps) h = kept_or (f p) p (filter f ps) h.0 (all_kept ps h.1)
+  all_kept : (P : Point → Type 0) (ps : List Point) → AllByRecursion P ps → AllByRecursion P (filter f ps)
+  all_kept P [] h = tt
+  all_kept P (p ∷ ps) h = kept_or P (f p) p (filter f ps) h.0 (all_kept P ps h.1)
 
   distinct_or : (b : Bool) (p : Point) (ps : List Point) → AllByRecursion (λ q. same_point p q ≡ false) ps
       → IsDistinct same_point ps → IsDistinct same_point (cond b (p ∷ ps) ps)
@@ -55,7 +55,7 @@ module _ (f : Point → Bool) where
   distinct_kept : (ps : List Point) → IsDistinct same_point ps → IsDistinct same_point (filter f ps)
   unfolding IsDistinct
   distinct_kept [] h = tt
-  distinct_kept (p ∷ ps) h = distinct_or (f p) p (filter f ps) (all_kept ps h.0) (distinct_kept ps h.1)
+  distinct_kept (p ∷ ps) h = distinct_or (f p) p (filter f ps) (all_kept _ ps h.0) (distinct_kept ps h.1)
 
 apart_or : (p q : Point) (b : Bool) (qs : List Point) → same_point p q ≡ b
     → AllByRecursion (λ q. same_point p q ≡ false) qs

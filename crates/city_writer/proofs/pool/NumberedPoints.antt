@@ -27,7 +27,7 @@ still_in p q ps apart h =
     any_kept (same_point p) (λ r. not (same_point q r))
     (λ r e. ap not (same_point-symm q r ∙ sym (same_point-congr p r q e) ∙ apart)) ps ∙ h
 
-in_pool : (ps : List Point) (p : Point) → is_in ps p ≡ true → is_in (without_repeats ps) p ≡ true
+pub in_pool : (ps : List Point) (p : Point) → is_in ps p ≡ true → is_in (without_repeats ps) p ≡ true
 in_pool [] p h = h
 in_pool (q ∷ ps) p h =
     let rest = in_pool ps p in

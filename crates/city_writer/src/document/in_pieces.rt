@@ -213,7 +213,15 @@ pub fn append_in_pieces<R: Threads + Sync>(
     let numbered = NumberedPoints::of(rt, alloc, seed, city, len)?;
     let points = numbered.all.as_slice();
     let pieces = numbered.pieces.as_slice();
-    let texts = texts_of_pieces(rt, alloc, city, len, points, pieces, numbered.numbers.as_slice())?;
+    let texts = texts_of_pieces(
+        rt,
+        alloc,
+        city,
+        len,
+        points,
+        pieces,
+        numbered.numbers.as_slice(),
+    )?;
     let frame = city.frame();
     let members = frame.extra.map();
     let mut kept = KeptMembers::new(members);

@@ -125,11 +125,7 @@ fn new_among(
 }
 
 /// The new points of a piece; none if it isn't there, or memory runs out.
-fn new_points_at(
-    alloc: Global,
-    pieces: &[Option<PiecePoints>],
-    piece: usize,
-) -> Option<NewPoints>
+fn new_points_at(alloc: Global, pieces: &[Option<PiecePoints>], piece: usize) -> Option<NewPoints>
     ensures { IfSome result (λ new. AreNewAt pieces.now piece new.points.items) }
 {
     let points = pieces.get(piece)?.as_ref()?;
