@@ -1,8 +1,8 @@
 -- The points of each piece that no piece before it has: put together, they are the points of all pieces.
-use Rattle.city_writer.proofs.Prelude.{◌≡◌, ℕ, suc, ◌<◌, Bool, true, false, not, List, [], ◌∷◌, ◌++◌, Option, Some, None}
-use Rattle.city_writer.proofs.Prelude.{refl, sym, ap, ◌∙◌, subst, arith, append_assoc, append-nil, length, get_or, filter}
-use Rattle.city_writer.proofs.Prelude.{is_some, list_all, slice_get, AllByRecursion, Point, same_point, without_repeats}
-use Rattle.city_writer.proofs.Prelude.{with_points, is_new, new_points, fun_ext}
+use Rattle.city_writer.proofs.Prelude.{◌≡◌, ℕ, suc, ◌<◌, Bool, true, false, not, List, [], ◌∷◌, ◌++◌, Option, Some}
+use Rattle.city_writer.proofs.Prelude.{None, refl, sym, ap, ◌∙◌, subst, arith, append_assoc, append-nil, length, get_or}
+use Rattle.city_writer.proofs.Prelude.{filter, is_some, list_all, slice_get, AllByRecursion, Point, same_point}
+use Rattle.city_writer.proofs.Prelude.{without_repeats, with_points, is_new, new_points, fun_ext}
 use Rattle.std.proofs.Common.{IfSome, ap₂, cond, take}
 use Rattle.std.specs.List.{IsDistinct}
 use Rattle.city_writer.specs.internal.Pieces.{joined}
