@@ -12,7 +12,7 @@ use Rattle.city_model.specs.contracts.script.Script as Script
 use Rattle.city_reader.proofs.plain.Place.TheSendSync as place
 use Rattle.city_reader.specs.contracts.position.Position as Position
 use Rattle.city_tokens.specs.contracts.object.UnresolvedObject as UnresolvedObject
-use Rattle.city_tokens.specs.contracts.run.Run as Run
+use Rattle.city_tokens.specs.contracts.run.Piece as Piece
 
 pub unresolved_sends : IsSend UnresolvedObject.the_field.row
 unresolved_sends =
@@ -22,13 +22,13 @@ pub position_sends : IsSend Position.the_field.row
 position_sends = search (place.the_field_send, sendable) depth 60 fits 20000
 
 -- parts read, if each may
-run_field_sends : (T : RattleType) → IsSend T → IsSend (Run.the_field T).row
-run_field_sends T s = search (s, position_sends, values.crosses, sendable) depth 60 fits 20000
+piece_field_sends : (T : RattleType) → IsSend T → IsSend (Piece.the_field T).row
+piece_field_sends T s = search (s, position_sends, values.crosses, sendable) depth 60 fits 20000
 
-pub run_sends : (T : RattleType) → IsSend T → IsSend (Run.the_row T)
-run_sends T s =
-    let R = Run.the_type T in
-    recorded_send (field R).row R.D R.to R.to_one (run_field_sends T s)
+pub piece_sends : (T : RattleType) → IsSend T → IsSend (Piece.the_row T)
+piece_sends T s =
+    let P = Piece.the_type T in
+    recorded_send (field P).row P.D P.to P.to_one (piece_field_sends T s)
 
 geometry_sends : IsSend Geometry.the_field.row
 geometry_sends =

@@ -3,10 +3,13 @@ use Rattle.city_tokens.proofs.Prelude.{ℕ, ◌<◌, ◌≤◌, List, [], ◌∷
 use Rattle.city_tokens.proofs.Prelude.{subst, append_assoc, append-nil, arith, Token, Data, Members, put, Object}
 use Rattle.city_tokens.proofs.Prelude.{Pairs}
 use Rattle.std.proofs.Common.{inl, inr}
+use Rattle.std.proofs.lemmas.Grind.{flat_map-append}
+use Rattle.std.specs.Vec.{vec_items}
+use Rattle.city_tokens.specs.declared.run.Piece.{Piece}
 use Rattle.city_tokens.specs.declared.run.Run.{Run}
 use Rattle.city_tokens.specs.internal.Objects.{IsListing}
 use Rattle.city_tokens.specs.internal.Parts.{AreNext, IsNextObject, IsNextItem}
-use Rattle.city_tokens.specs.internal.Runs.{IsRun, IsAppended, IsLeft, ArePassed}
+use Rattle.city_tokens.specs.internal.Runs.{IsPiece, IsRun, IsAppended, IsLeft, ArePassed, parts_of}
 use Rattle.city_tokens.proofs.Reading.{AreFound, AreRead, members_next, items_next, member_shorter, value_shorter}
 use Rattle.city_tokens.proofs.Pairing.{pairs_push}
 use Rattle.city_tokens.proofs.document.Listings.{listed}
@@ -27,13 +30,14 @@ module _ {A : Type 0} (R : A → List Token → List Token → Type 0) where
   next_shorter less (x ∷ xs) old new h =
       omega (arith, less x old h.0 h.1, next_shorter less xs h.0 new h.2)
 
-  -- a run with the next one, or as it was
-  pub run_appended : (text : List ℕ) (o : Option (Unit {0})) (old next new : Run A) → IsAppended o old next new
-      → IsRun R text old → IsRun R text next → IsRun R text new
+  -- a run with the next piece, or as it was
+  pub run_appended : (text : List ℕ) (o : Option (Unit {0})) (old : Run A) (next : Piece A) (new : Run A)
+      → IsAppended o old next new → IsRun R text old → IsPiece R text next → IsRun R text new
   run_appended text None old next new is h k = rw (is.0, is.1, is.2) h
   run_appended text (Some _) old next new is h k =
       let more = rw (← is.1) at k in
-      rw (is.0, is.2, is.3) (next_append old.parts.items next.parts.items _ _ _ h more)
+      rw (is.0, is.2, is.3, flat_map-append vec_items old.pieces.items (next.parts ∷ []), append-nil next.parts.items)
+          (next_append (parts_of old) next.parts.items _ _ _ h more)
 
   -- the rest of a run is a run
   pub run_left : (text : List ℕ) (old new : Run A) → IsLeft old new → IsRun R text old → IsRun R text new

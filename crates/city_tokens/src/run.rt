@@ -1,7 +1,8 @@
 //! Parts of a text, read beforehand by several workers.
-ghost use Rattle.std.specs.Prelude.{◌≡◌, ◌++◌, ℕ, List, [], IfSome};
+ghost use Rattle.std.specs.Prelude.{◌≡◌, ◌++◌, ℕ, List, [], IfSome, flat_map};
 ghost use Rattle.std.specs.List.{AllByRecursion};
-ghost use Rattle.city_tokens.specs.internal.Runs.{IsRun, IsAppended, IsLeft, ArePassed};
+ghost use Rattle.std.specs.Vec.{vec_items};
+ghost use Rattle.city_tokens.specs.internal.Runs.{IsPiece, IsRun, IsAppended, IsLeft, ArePassed};
 
 use crate::part::{Part, read_between};
 use city_reader::{Position, Reader};
@@ -11,33 +12,56 @@ use std::thread::{Threads, map_indices};
 
 /// The parts between two positions of a text, one after another.
 #[derive(Drop)]
-pub struct Run<T> {
+pub struct Piece<T> {
     pub from: Position,
     pub to: Position,
     pub parts: Vec<T>,
 }
 
+/// The parts between two positions of a text, in pieces, one after another.
+#[derive(Drop)]
+pub struct Run<T> {
+    pub from: Position,
+    pub to: Position,
+    pub pieces: Vec<Vec<T>>,
+}
+
+/// Moves the parts of all pieces to the end of the others.
+fn append_each<T: Drop>(parts: &mut Vec<T>, pieces: Vec<Vec<T>>) -> Option<()>
+    ensures { IfSome result (λ _. parts.new.items ≡ parts.old.items ++ flat_map vec_items pieces.items) }
+{
+    let mut count = 0usize;
+    'lengths: for piece in &pieces {
+        count = count.saturating_add(piece.len());
+    }
+    parts.reserve(count).ok()?;
+    'pieces: for piece in pieces {
+        let mut piece = piece;
+        parts.append(&mut piece).ok()?;
+    }
+    Some(())
+}
+
 impl<T: Drop> Run<T> {
     /// No parts, at a position.
     fn at(alloc: Global, position: Position) -> Run<T>
-        ensures { (result.from ≡ position) × (result.to ≡ position) × (result.parts.items ≡ []) }
+        ensures { (result.from ≡ position) × (result.to ≡ position) × (result.pieces.items ≡ []) }
     {
         Run {
             from: position,
             to: position,
-            parts: Vec::new(alloc),
+            pieces: Vec::new(alloc),
         }
     }
 
-    /// Appends the parts of the next run, if it begins at the end of this one; `None` otherwise.
-    fn append(&mut self, next: Run<T>) -> Option<()>
+    /// Appends the next piece, if it begins at the end of these; `None` otherwise.
+    fn append(&mut self, next: Piece<T>) -> Option<()>
         ensures { IsAppended result self.old next self.new }
     {
         if !self.to.is(next.from) {
             return None;
         }
-        let mut parts = next.parts;
-        self.parts.append(&mut parts).ok()?;
+        self.pieces.push(next.parts).ok()?;
         self.to = next.to;
         Some(())
     }
@@ -60,14 +84,13 @@ impl<T: Drop> Run<T> {
         if !reader.pass(text, self.from, to) {
             return Some(());
         }
-        let mut run = replace(self, Run::at(alloc, to));
-        parts.append(&mut run.parts).ok()?;
-        Some(())
+        let run = replace(self, Run::at(alloc, to));
+        append_each(parts, run.pieces)
     }
 
     /// Whether all of these were passed.
     pub fn is_passed(&self) -> bool {
-        self.parts.is_empty()
+        self.pieces.is_empty()
     }
 }
 
@@ -87,46 +110,46 @@ fn cut_at(cuts: &[Position], i: usize) -> Position {
     }
 }
 
-/// The run between two cuts.
-fn read_run<T: Part>(alloc: Global, text: &str, cuts: &[Position], i: usize) -> Option<Run<T>>
-    ensures { IfSome result (IsRun T.stands text.now) }
+/// The piece between two cuts.
+fn read_piece<T: Part>(alloc: Global, text: &str, cuts: &[Position], i: usize) -> Option<Piece<T>>
+    ensures { IfSome result (IsPiece T.stands text.now) }
 {
     let from = cut_at(cuts, i);
     let to = cut_at(cuts, i.saturating_add(1));
     let parts = read_between(alloc, text, from, to)?;
-    Some(Run { from, to, parts })
+    Some(Piece { from, to, parts })
 }
 
-/// The run between each two cuts, read by a thread.
-fn read_runs<R: Threads + Sync, T: Part + Send>(
+/// The piece between each two cuts, read by a thread.
+fn read_each<R: Threads + Sync, T: Part + Send>(
     rt: &R,
     alloc: Global,
     text: &str,
     cuts: &[Position],
-) -> Option<Vec<Option<Run<T>>>>
-    ensures { IfSome result (λ rs. AllByRecursion (λ r. IfSome r (IsRun T.stands text.now)) rs.items) }
+) -> Option<Vec<Option<Piece<T>>>>
+    ensures { IfSome result (λ ps. AllByRecursion (λ p. IfSome p (IsPiece T.stands text.now)) ps.items) }
 {
     let count = cuts.len().saturating_sub(1);
     let read = |i|
-        ensures { IfSome result (IsRun T.stands text.entry.now) }
-    { read_run::<T>(alloc, text, cuts, i) };
-    let runs = map_indices(rt, alloc, count, &read).ok()?;
-    Some(runs)
+        ensures { IfSome result (IsPiece T.stands text.entry.now) }
+    { read_piece::<T>(alloc, text, cuts, i) };
+    let pieces = map_indices(rt, alloc, count, &read).ok()?;
+    Some(pieces)
 }
 
-/// The runs as one; `None` if they don't go from the first cut to the last.
+/// The pieces as one run; `None` if they don't go from the first cut to the last.
 fn joined<T: Part>(
     alloc: Global,
     text: &str,
     cuts: &[Position],
-    runs: Vec<Option<Run<T>>>,
+    pieces: Vec<Option<Piece<T>>>,
 ) -> Option<Run<T>>
-    requires { AllByRecursion (λ r. IfSome r (IsRun T.stands text.now)) runs.items }
+    requires { AllByRecursion (λ p. IfSome p (IsPiece T.stands text.now)) pieces.items }
     ensures { IfSome result (IsRun T.stands text.now) }
 {
     let mut all = Run::at(alloc, cut_at(cuts, 0));
-    for run in runs {
-        all.append(run?)?;
+    for piece in pieces {
+        all.append(piece?)?;
     }
     if !all.to.is(last_cut(cuts)) {
         return None;
@@ -144,6 +167,6 @@ pub fn read_pieces<R: Threads + Sync, T: Part + Send>(
 ) -> Option<Run<T>>
     ensures { IfSome result (IsRun T.stands text.now) }
 {
-    let runs = read_runs::<R, T>(rt, alloc, text, cuts)?;
-    joined(alloc, text, cuts, runs)
+    let pieces = read_each::<R, T>(rt, alloc, text, cuts)?;
+    joined(alloc, text, cuts, pieces)
 }
