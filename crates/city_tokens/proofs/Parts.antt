@@ -37,7 +37,7 @@ module _ {A : Type 0} (R : A → List Token → List Token → Type 0) where
   run_appended text (Some _) old next new is h k =
       let more = rw (← is.1) at k in
       rw (is.0, is.2, is.3, flat_map-append vec_items old.pieces.items (next.parts ∷ []), append-nil next.parts.items)
-          (next_append (parts_of old) next.parts.items _ _ _ h more)
+      (next_append (parts_of old) next.parts.items _ _ _ h more)
 
   -- the rest of a run is a run
   pub run_left : (text : List ℕ) (old new : Run A) → IsLeft old new → IsRun R text old → IsRun R text new
