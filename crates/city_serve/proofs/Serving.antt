@@ -1,6 +1,6 @@
 -- Output delivered from a run is served from its texts; and a property of two texts holds of the two parts of an input,
 -- if they are the parts of its bytes read.
-use Rattle.city_serve.proofs.Prelude.{◌≡◌, ◌++◌, ℕ, List, Bool, true, Option, Some, None, IfSome, sym, subst, take, drop}
+use Rattle.city_serve.proofs.Prelude.{◌≡◌, ◌++◌, ℕ, List, Bool, Option, Some, None, IfSome, sym, subst, take, drop}
 use Rattle.city_serve.proofs.Prelude.{Vec, Appends, End, ServeFault, AreServedBy, document_part, written_by, faults_by}
 use Rattle.std.proofs.lemmas.List.{take-append-drop}
 use Rattle.city_scheduler.specs.InTurn.{AreInTurn}

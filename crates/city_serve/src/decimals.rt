@@ -18,12 +18,14 @@ use city_decimals::{DecimalsFault, decode_lines_onto, encode};
 use city_desk::{Output, RunFault};
 use city_doc::MAX_TEXT;
 use city_model::OutOfMemory;
+use city_model::city::City;
 use city_options::Options;
 use std::alloc::Global;
 use std::sync::Wait;
 use std::thread::Threads;
 
-/// Runs the scripts on the document's city, both encoded, and decodes the output.
+/// Runs the scripts on the document's city, both encoded, decodes the output, and gives the final
+/// city, which is encoded, beside it.
 ///
 /// Each text is let go once it is encoded. A fault is the run's, on the encoded texts. A text is
 /// refused if it is too long or no JSON; no number is refused for its form.
@@ -34,28 +36,29 @@ pub(crate) fn run_decimals<R: Threads + Wait + Sync, G: Gate + Sync>(
     seed: u64,
     texts: &mut Texts,
     options: Options,
-) -> Result<Output, RunFault>
+) -> Result<(Output, City), RunFault>
     requires { AreWithin options }
-    ensures ran { IfOk result (λ o.
-        IsDecimalsRun texts.old.document.bytes.items texts.old.scripts.bytes.items o.ends o.bytes.items) }
-    ensures in_turn { IfOk result (λ o. WhereAlone options.workers options.viewers (AreInTurn 0 o.ends)) }
-    ensures seen { IfOk result (λ o. AreSeen options.viewers (commits_in o.ends) o.seen.items) }
-    ensures cut { IfOk result (λ o. IsCutAt true o.ends o.bytes.items o.report) }
+    ensures ran { IfOk result (λ r.
+        IsDecimalsRun texts.old.document.bytes.items texts.old.scripts.bytes.items r.0.ends r.0.bytes.items) }
+    ensures in_turn { IfOk result (λ r. WhereAlone options.workers options.viewers (AreInTurn 0 r.0.ends)) }
+    ensures seen { IfOk result (λ r. AreSeen options.viewers (commits_in r.0.ends) r.0.seen.items) }
+    ensures cut { IfOk result (λ r. IsCutAt true r.0.ends r.0.bytes.items r.0.report) }
     ensures fault { IfErr result (IsFaultOfDecimalsRun
         texts.old.document.bytes.items texts.old.scripts.bytes.items options.workers options.viewers) }
 {
     encode_text(alloc, &mut texts.document)?;
     encode_text(alloc, &mut texts.scripts)?;
-    let output = run_whole(rt, alloc, gate, seed, texts, options)?;
+    let (output, city) = run_whole(rt, alloc, gate, seed, texts, options)?;
     let (report, model) = output.bytes.as_slice().split_at(output.report);
     let decoded = decoded_behind(alloc, report, Vec::new(alloc))?;
     let report = decoded.len();
     let bytes = decoded_behind(alloc, model, decoded)?;
-    Ok(Output {
+    let output = Output {
         bytes,
         report,
         ..output
-    })
+    };
+    Ok((output, city))
 }
 
 /// The buffer, with the decoded lines appended.

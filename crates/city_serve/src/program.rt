@@ -23,9 +23,11 @@ use crate::texts::{Text, Texts};
 use city_crew::Gate;
 use city_desk::RunFault;
 use city_model::OutOfMemory;
+use city_model::city::City;
 use city_options::command_line::{Asked, LineFault, asked_by};
 use std::alloc::Global;
 use std::io::{Read, Write};
+use std::mem::forget;
 use std::sync::Wait;
 use std::thread::Threads;
 
@@ -66,7 +68,8 @@ impl Status {
 ///
 /// Output gets everything served, or the requested text; an output file is replaced whole, or stays
 /// as it was. Errors get a line for each viewer once the output is written, or why there is none. A
-/// failure to write errors changes no status.
+/// failure to write errors changes no status. The memory of the final city isn't given back: the
+/// process is taken to end.
 pub fn run_program<
     T: Threads + Wait + Sync,
     G: Gate + Sync,
@@ -219,11 +222,13 @@ fn check_answer(alloc: Global, faulty: bool) -> Answered
     }
 }
 
-/// The answer of a run.
-fn run_answer(delivered: Delivered) -> Answered
+/// The answer of a run, whose final city is left to the end of the process: to drop it object by
+/// object would take time.
+fn run_answer(delivered: Delivered, city: City) -> Answered
     ensures seen { result.seen ≡ delivered.seen }
     ensures status { result.status ≡ run_status delivered.withheld }
 {
+    forget(city);
     let status = if delivered.withheld {
         Status::Withheld
     } else {
@@ -292,15 +297,19 @@ fn answer<T: Threads + Wait + Sync, G: Gate + Sync, F: OutputFiles, R: Read, W: 
             let (document, scripts) = read_input(alloc, input)?;
             *texts = Texts::given(document, scripts);
             let (to, options) = (*destination, *options);
-            let delivered = serve_to(rt, alloc, gate, seed, texts, files, to, output, options)?;
-            Ok(run_answer(delivered))
+            let (delivered, city) = serve_to(
+                rt, alloc, gate, seed, texts, files, to, output, options,
+            )?;
+            Ok(run_answer(delivered, city))
         }
         Asked::Files(options, destination, model, scripts) => {
             texts.document = Text::given(files.read(*model)?);
             texts.scripts = Text::given(files.read(*scripts)?);
             let (to, options) = (*destination, *options);
-            let delivered = serve_to(rt, alloc, gate, seed, texts, files, to, output, options)?;
-            Ok(run_answer(delivered))
+            let (delivered, city) = serve_to(
+                rt, alloc, gate, seed, texts, files, to, output, options,
+            )?;
+            Ok(run_answer(delivered, city))
         }
     }
 }

@@ -24,11 +24,11 @@ use city_model::script::Script;
 use city_model::sequence::Sequence;
 use city_options::Options;
 use std::alloc::Global;
-use std::mem::forget;
 use std::sync::Wait;
 use std::thread::Threads;
 
-/// Runs the scripts on the document's city, through a gate. Every served run goes this way.
+/// Runs the scripts on the document's city, through a gate, and gives the final city beside the
+/// output. Every served run goes this way.
 ///
 /// If it succeeds the texts are gone. If it refuses one, the text is there as the run was given it.
 pub(crate) fn run<R: Threads + Wait + Sync, G: Gate + Sync>(
@@ -38,13 +38,13 @@ pub(crate) fn run<R: Threads + Wait + Sync, G: Gate + Sync>(
     seed: u64,
     texts: &mut Texts,
     options: Options,
-) -> Result<Output, RunFault>
+) -> Result<(Output, City), RunFault>
     requires { AreWithin options }
-    ensures ran { IfOk result (λ o. written_by options.decimals
-        texts.old.document.bytes.items texts.old.scripts.bytes.items o.ends o.bytes.items) }
-    ensures in_turn { IfOk result (λ o. WhereAlone options.workers options.viewers (AreInTurn 0 o.ends)) }
-    ensures seen { IfOk result (λ o. AreSeen options.viewers (commits_in o.ends) o.seen.items) }
-    ensures cut { IfOk result (λ o. IsCutAt options.decimals o.ends o.bytes.items o.report) }
+    ensures ran { IfOk result (λ r. written_by options.decimals
+        texts.old.document.bytes.items texts.old.scripts.bytes.items r.0.ends r.0.bytes.items) }
+    ensures in_turn { IfOk result (λ r. WhereAlone options.workers options.viewers (AreInTurn 0 r.0.ends)) }
+    ensures seen { IfOk result (λ r. AreSeen options.viewers (commits_in r.0.ends) r.0.seen.items) }
+    ensures cut { IfOk result (λ r. IsCutAt options.decimals r.0.ends r.0.bytes.items r.0.report) }
     ensures fault { IfErr result
         (faults_by options.decimals
         texts.old.document.bytes.items texts.old.scripts.bytes.items options.workers options.viewers) }
@@ -56,10 +56,10 @@ pub(crate) fn run<R: Threads + Wait + Sync, G: Gate + Sync>(
     }
 }
 
-/// Runs scripts on a document's city, both of whole numbers, and lets the texts go once they are
-/// read: the output is written into the memory of the document. A large document is read by as
-/// many threads as run and look. One worker without viewers needs no thread beside its own, and
-/// passes no gate.
+/// Runs scripts on a document's city, both of whole numbers, and gives the final city beside the
+/// output. Lets the texts go once they are read: the output is written into the memory of the
+/// document. A large document is read by as many threads as run and look. One worker without
+/// viewers needs no thread beside its own, and passes no gate.
 pub(crate) fn run_whole<R: Threads + Wait + Sync, G: Gate + Sync>(
     rt: &R,
     alloc: Global,
@@ -67,15 +67,15 @@ pub(crate) fn run_whole<R: Threads + Wait + Sync, G: Gate + Sync>(
     seed: u64,
     texts: &mut Texts,
     options: Options,
-) -> Result<Output, RunFault>
+) -> Result<(Output, City), RunFault>
     requires { AreWithin options }
-    ensures ran { IfOk result (λ o.
-        IsRun texts.old.document.bytes.items texts.old.scripts.bytes.items o.ends o.bytes.items) }
-    ensures in_turn { IfOk result (λ o. WhereAlone options.workers options.viewers (AreInTurn 0 o.ends)) }
-    ensures seen { IfOk result (λ o. AreSeen options.viewers (commits_in o.ends) o.seen.items) }
-    ensures cut { IfOk result (λ o. IsCutAt false o.ends o.bytes.items o.report) }
-    ensures report { IfOk result (λ o. o.report ≡ length (report_text o.ends)) }
-    ensures lines { IfOk result (λ o. IsJsonOutput o.report o.bytes.items) }
+    ensures ran { IfOk result (λ r.
+        IsRun texts.old.document.bytes.items texts.old.scripts.bytes.items r.0.ends r.0.bytes.items) }
+    ensures in_turn { IfOk result (λ r. WhereAlone options.workers options.viewers (AreInTurn 0 r.0.ends)) }
+    ensures seen { IfOk result (λ r. AreSeen options.viewers (commits_in r.0.ends) r.0.seen.items) }
+    ensures cut { IfOk result (λ r. IsCutAt false r.0.ends r.0.bytes.items r.0.report) }
+    ensures report { IfOk result (λ r. r.0.report ≡ length (report_text r.0.ends)) }
+    ensures lines { IfOk result (λ r. IsJsonOutput r.0.report r.0.bytes.items) }
     ensures fault { IfErr result (IsFaultOfRun
         texts.old.document.bytes.items texts.old.scripts.bytes.items options.workers options.viewers) }
 {
@@ -87,10 +87,7 @@ pub(crate) fn run_whole<R: Threads + Wait + Sync, G: Gate + Sync>(
     let (city, list) = read_texts_by(rt, alloc, model, commands, pieces)?;
     let room = texts.take_memory(alloc);
     let (output, city) = run_read_texts(rt, alloc, gate, seed, city, list, room, options)?;
-    // The process ends after its output, and its memory goes with it. To drop the city object by
-    // object would take time.
-    forget(city);
-    Ok(output)
+    Ok((output, city))
 }
 
 /// Runs scripts on a city, both already read, and returns the final city beside the output.

@@ -15,6 +15,7 @@ use crate::run::run;
 use crate::texts::Texts;
 use city_crew::{Gate, OpenGate};
 use city_doc::FIXED_SEED;
+use city_model::city::City;
 use city_options::{Destination, Options};
 use std::alloc::Global;
 use std::io::Write;
@@ -83,7 +84,7 @@ pub fn serve_owned<R: Threads + Wait + Sync, G: Gate + Sync, W: Write>(
         file: None,
         atomic: false,
     };
-    let delivered = serve_to(
+    let (delivered, _city) = serve_to(
         rt,
         alloc,
         gate,
@@ -102,8 +103,9 @@ pub fn serve_owned<R: Threads + Wait + Sync, G: Gate + Sync, W: Write>(
 /// was.
 ///
 /// The answer says whether the model was withheld: an atomic destination asks for that if a script
-/// ended refused or out of memory. If the run succeeds the texts are gone; if it refuses one, the
-/// text is there as the run was given it. Every served run goes this way.
+/// ended refused or out of memory. Beside it is the final city. If the run succeeds the texts are
+/// gone; if it refuses one, the text is there as the run was given it. Every served run goes this
+/// way.
 pub fn serve_to<R: Threads + Wait + Sync, G: Gate + Sync, F: OutputFiles, W: Write>(
     rt: &R,
     alloc: Global,
@@ -114,11 +116,11 @@ pub fn serve_to<R: Threads + Wait + Sync, G: Gate + Sync, F: OutputFiles, W: Wri
     destination: Destination<'_>,
     writer: &mut Device<W>,
     options: Options,
-) -> Result<Delivered, ServeFault>
+) -> Result<(Delivered, City), ServeFault>
     requires { AreWithin options }
     ensures delivered { IfOk result (λ d. IsDelivered destination.entry options
         texts.old.document.bytes.items texts.old.scripts.bytes.items
-        d.seen.items d.withheld (F.text files.old) (F.text files.new)
+        d.0.seen.items d.0.withheld (F.text files.old) (F.text files.new)
         (W.contents writer.old.0) (W.contents writer.new.0)) }
     ensures unfailed { OnOk result (writer.new.1 ≡ writer.old.1) }
     ensures fault { IfErr result (IsDeliveryFault destination.entry options
@@ -126,6 +128,7 @@ pub fn serve_to<R: Threads + Wait + Sync, G: Gate + Sync, F: OutputFiles, W: Wri
         (F.text files.old) (F.text files.new) (F.have_failed files.new)
         (W.contents writer.old.0) (W.contents writer.new.0) writer.new.1) }
 {
-    let output = run(rt, alloc, gate, seed, texts, options)?;
-    deliver(files, seed, destination, writer, output)
+    let (output, city) = run(rt, alloc, gate, seed, texts, options)?;
+    let delivered = deliver(files, seed, destination, writer, output)?;
+    Ok((delivered, city))
 }

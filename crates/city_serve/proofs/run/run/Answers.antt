@@ -4,12 +4,10 @@ use Rattle.city_serve.proofs.run.run.Goals as goal
 
 pub returns-then-options-clause-ran : goal.returns-then-options-clause-ran
 returns-then-options-clause-ran g c =
-    subst (λ b. IfOk c.run_decimals.result
-    (λ o. written_by b c.args.texts.now.document.bytes.items c.args.texts.now.scripts.bytes.items o.ends o.bytes.items))
-    (sym c.if-options.true) c.run_decimals.ensures.ran
+    subst (λ b. IfOk c.run_decimals.result (λ r. written_by b c.args.texts.now.document.bytes.items
+    c.args.texts.now.scripts.bytes.items r.0.ends r.0.bytes.items)) (sym c.if-options.true) c.run_decimals.ensures.ran
 
 pub returns-else-options-clause-ran : goal.returns-else-options-clause-ran
 returns-else-options-clause-ran g c =
-    subst (λ b. IfOk c.run_whole.result
-    (λ o. written_by b c.args.texts.now.document.bytes.items c.args.texts.now.scripts.bytes.items o.ends o.bytes.items))
-    (sym c.if-options.false) c.run_whole.ensures.ran
+    subst (λ b. IfOk c.run_whole.result (λ r. written_by b c.args.texts.now.document.bytes.items
+    c.args.texts.now.scripts.bytes.items r.0.ends r.0.bytes.items)) (sym c.if-options.false) c.run_whole.ensures.ran

@@ -1,4 +1,5 @@
-use Rattle.city_serve.proofs.Prelude.{IfOk-weaker, IfErr-weaker, Vec, drop, subst, sym, take}
+use Rattle.std.proofs.Common.{rules}
+use Rattle.city_serve.proofs.Prelude.{drop, subst, sym, take}
 use Rattle.city_model.specs.SerialEnds.{commits_in}
 use Rattle.city_crew.specs.Seen.{AreSeen}
 use Rattle.city_serve.specs.Destinations.{IsDeliveryFault}
@@ -13,8 +14,8 @@ returns-clause-delivered g c =
     let document = c.args.texts.now.document.bytes.items in
     let scripts = c.args.texts.now.scripts.bytes.items in
     let run = c.in_ok-output.ensures in
-    IfOk-weaker c.deliver.result _ _
-    (λ delivered is. record {
+    let is = c.in_ok-delivered.ensures.written in
+    record {
       ends = output.ends;
       report = take output.report bytes;
       model = drop output.report bytes;
@@ -24,19 +25,18 @@ returns-clause-delivered g c =
       withheld_is = is.1;
       written = is.2;
       placed = is.3;
-    })
-    c.deliver.ensures.written
+    }
 
-pub returns-clause-fault : goal.returns-clause-fault
-returns-clause-fault g c =
+pub returns-in_err-delivered-clause-fault : goal.returns-in_err-delivered-clause-fault
+returns-in_err-delivered-clause-fault g c =
     let output = c.in_ok-output.output in
     let bytes = output.bytes.items in
     let asked = c.args.options in
     let document = c.args.texts.now.document.bytes.items in
     let scripts = c.args.texts.now.scripts.bytes.items in
     let run = c.in_ok-output.ensures in
-    IfErr-weaker c.deliver.result _ _
-    (λ f is. subst (IsDeliveryFault c.args.destination asked document scripts
+    let is = c.in_err-delivered.ensures.fault in
+    let fault = subst (IsDeliveryFault c.args.destination asked document scripts
     (g.F.TextFiles.text c.args.files.now) (g.F.TextFiles.text c.deliver.new.files)
     (g.F.OutputFiles.have_failed c.deliver.new.files) (g.W.Write.contents c.args.writer.now.0)
     (g.W.Write.contents c.deliver.new.writer.0) c.deliver.new.writer.1) (sym is.0) (
@@ -50,5 +50,5 @@ returns-clause-fault g c =
         kept = is.2;
       },
       is.3,
-    ))
-    c.deliver.ensures.fault
+    ) in
+    search (fault, rules)
