@@ -1,13 +1,13 @@
 #!/usr/bin/env python3
 """Counts the allocations of cityed for texts, and for texts four times as long.
 
-    python3 testing/counted_calls.py PROGRAM
+    python3 testing/counted_calls.py PROGRAM [SCENARIOS]
 
-PROGRAM is a built cityed. Needs a C compiler named cc, for count.c. The texts are those of bench/growth.py, a third
-as long. Four times the text may take 4.5 times the allocations and 4.5 times the bytes that they ask for; a road
-without members may take two allocations, for its id and its body, and a tenth, since the nodes of a city's map are
-full. Each script has to commit, the two kinds that have a fault have to be refused, and of the kinds with many faults
---check has to tell each.
+PROGRAM is a built cityed, SCENARIOS a built city_scenarios. Needs a C compiler named cc, for count.c. The texts are
+those of bench/growth.py, a third as long. Four times the text may take 4.5 times the allocations and 4.5 times the
+bytes that they ask for; a road without members may take two allocations, for its id and its body, and a tenth, since
+the nodes of a city's map are full. Each script has to commit, the two kinds that have a fault have to be refused, and
+of the kinds with many faults --check has to tell each.
 
 - Scripts that lock ids of their own may have 1.05 times as much allocated at once as scripts that lock the same ids.
 - An object that is put may take 3 allocations for each attribute: its name, its text and its share.
@@ -18,6 +18,8 @@ full. Each script has to commit, the two kinds that have a fault have to be refu
   attribute is an object of one member 300. A map has room for eleven members, which would be 848 bytes.
 - Where scripts meet, sixteen workers may take 1.5 times the processor time of one.
 - Four workers may leave their cores to wait 200 times in a run of many scripts, long ones or short.
+- With SCENARIOS: ten times as many served runs in one process may hold 1.2 times as much at once, since a library
+  gives the memory of each city back.
 - Where valgrind is installed, the instructions of texts whose points would collide are counted too, and of objects of
   many members in no order and in falling order. They may grow six times. So are those of files that end in a newline,
   with `--decimals`: they may take 1.05 times those of files without one.
@@ -48,6 +50,7 @@ EACH_ROAD = 2.1
 EACH_ATTRIBUTE = 3
 MOST_OF_POINTS = 2
 OF_AN_EMPTY_RUN = 100
+MOST_OF_RUNS = 1.2
 MOST_OF_A_NEWLINE = 1.05
 MOST_OF_A_TEXT = 4.6
 OF_ONE_ATTRIBUTE = {"an attribute": ({"n": 1}, 200), "a member inside an attribute": ({"k": {"n": 1}}, 300)}
@@ -77,11 +80,14 @@ class Counted:
 
     def counts(self, texts, *options):
         """How many allocations a run makes, how many bytes they ask for, and the most that was allocated at once."""
+        return self.counts_of([self.path, *options, *self.names(texts)])
+
+    def counts_of(self, words):
+        """The same of any program with its words."""
         told = os.path.join(self.folder, "told")
         with open(told, "wb") as file:
             file.write(bytes(32))
         variables = {**os.environ, "LD_PRELOAD": self.library, "COUNTED": told}
-        words = [self.path, *options, *self.names(texts)]
         ran = subprocess.run(words, capture_output=True, env=variables, timeout=120)
         with open(told, "rb") as file:
             return ran, [int.from_bytes(file.read(8), sys.byteorder) for _ in range(3)]
@@ -208,6 +214,29 @@ def colliding_are_quick(program, kind, count):
     return kept
 
 
+def served(times):
+    """The text of scenarios that serve a model of one long attribute, so often in each of three ways."""
+    lines = ["let a model", '{"CityObjects":{"r":{"attributes":{"a":"', "repeat 20000 " + "0123456789" * 4]
+    lines += ['"},"type":"Road"}},"transform":{"scale":[1,1,1],"translate":[0,0,0]},"type":"CityJSON","version":"2.0"']
+    lines += [',"vertices":[]}', ""]
+    for number in range(times):
+        for verb in ("serve", "texts 2x0", "run"):
+            lines += [f"The model is served, {number}", verb, "$a model", "[]", "----", "$a model", ""]
+    return "\n".join(lines)
+
+
+def cities_are_given_back(program, scenarios, times):
+    """Whether served runs of one process hold no more at once the more there are."""
+    name, most = os.path.join(program.folder, "served.txt"), []
+    for number in (times, 10 * times):
+        with open(name, "w", encoding="utf-8") as file:
+            file.write(served(number))
+        ran, (_, _, held) = program.counts_of([os.path.abspath(scenarios), name])
+        most += [held if ran.returncode == 0 else sys.maxsize]
+    told = f"{3 * times} and {30 * times} served runs: {most[0]:,} and {most[1]:,} bytes at once"
+    return say(most[1] <= MOST_OF_RUNS * most[0] < sys.maxsize, told)
+
+
 def unordered_are_quick(program, kind, count):
     """Whether no text is slow because its members are in no order, or the last come first."""
     few, many = (program.instructions(kind(size)) for size in (count, 4 * count))
@@ -247,7 +276,7 @@ def workers_seldom_switch(program, count, scripts):
 
 
 def main():
-    if len(sys.argv) != 2:
+    if len(sys.argv) not in (2, 3):
         print(__doc__)
         return 2
     with tempfile.TemporaryDirectory() as folder:
@@ -267,6 +296,7 @@ def main():
             kept += [model_takes_the_text(program, length, *options) for length in (1_000_000, 8_000_000)]
             for what in OF_ONE_ATTRIBUTE:
                 kept += [few_take_little_room(program, count, what, *options) for count in (1_000, 20_000)]
+        kept += [cities_are_given_back(program, scenarios, times) for scenarios in sys.argv[2:] for times in (2, 5)]
         kept += [workers_sleep(program, count, scripts) for count, scripts in ((300, 200), (900, 60))]
         kept += [workers_seldom_switch(program, count, scripts) for count, scripts in ((1_000, 100), (8, 4_000))]
         if shutil.which("valgrind") is None:
