@@ -1,5 +1,5 @@
 //! Runs a text of scripts with the requested workers, viewers and form of numbers.
-ghost use Rattle.std.specs.Prelude.{◌≡◌, ℕ, List, false, length, IfOk, IfErr};
+ghost use Rattle.std.specs.Prelude.{◌≡◌, ◌++◌, ◌∷◌, [], ℕ, List, drop, false, length, IfOk, IfErr};
 ghost use Rattle.city_model.specs.CityMap.{object_at};
 ghost use Rattle.city_model.specs.Relations.{IsLawful};
 ghost use Rattle.city_model.specs.SerialEnds.{commits_in};
@@ -10,6 +10,7 @@ ghost use Rattle.city_desk.specs.TextRuns.{IsReadFrom, IsRun};
 ghost use Rattle.city_options.specs.RunOptions.{AreWithin};
 ghost use Rattle.city_serve.specs.ServedTexts.{IsFaultOfRun, WhereAlone};
 ghost use Rattle.city_writer.specs.Outputs.{IsJsonOutput};
+ghost use Rattle.city_writer.specs.document.Canonical.{city_text};
 ghost use Rattle.city_writer.specs.report.Reports.{report_text};
 ghost use Rattle.city_serve.specs.Decimals.{written_by, faults_by};
 ghost use Rattle.city_serve.specs.Destinations.{IsCutAt};
@@ -45,6 +46,8 @@ pub(crate) fn run<R: Threads + Wait + Sync, G: Gate + Sync>(
     ensures in_turn { IfOk result (λ r. WhereAlone options.workers options.viewers (AreInTurn 0 r.0.ends)) }
     ensures seen { IfOk result (λ r. AreSeen options.viewers (commits_in r.0.ends) r.0.seen.items) }
     ensures cut { IfOk result (λ r. IsCutAt options.decimals r.0.ends r.0.bytes.items r.0.report) }
+    ensures city { IfOk result (λ r. options.decimals ≡ false
+        → drop r.0.report r.0.bytes.items ≡ city_text r.1 ++ 10 ∷ []) }
     ensures fault { IfErr result
         (faults_by options.decimals
         texts.old.document.bytes.items texts.old.scripts.bytes.items options.workers options.viewers) }
@@ -76,6 +79,7 @@ pub(crate) fn run_whole<R: Threads + Wait + Sync, G: Gate + Sync>(
     ensures cut { IfOk result (λ r. IsCutAt false r.0.ends r.0.bytes.items r.0.report) }
     ensures report { IfOk result (λ r. r.0.report ≡ length (report_text r.0.ends)) }
     ensures lines { IfOk result (λ r. IsJsonOutput r.0.report r.0.bytes.items) }
+    ensures city { IfOk result (λ r. drop r.0.report r.0.bytes.items ≡ city_text r.1 ++ 10 ∷ []) }
     ensures fault { IfErr result (IsFaultOfRun
         texts.old.document.bytes.items texts.old.scripts.bytes.items options.workers options.viewers) }
 {
@@ -110,6 +114,7 @@ fn run_read_texts<R: Threads + Wait + Sync, G: Gate + Sync>(
     ensures cut { IfOk result (λ r. IsCutAt false r.0.ends r.0.bytes.items r.0.report) }
     ensures report { IfOk result (λ r. r.0.report ≡ length (report_text r.0.ends)) }
     ensures lines { IfOk result (λ r. IsJsonOutput r.0.report r.0.bytes.items) }
+    ensures city { IfOk result (λ r. r.0.bytes.items ≡ report_text r.0.ends ++ city_text r.1 ++ 10 ∷ []) }
     ensures fault { IfErr result (λ f. (document text : List ℕ) → IsRunFault document text f) }
     ensures alone { IfErr result (λ f. WhereAlone options.workers options.viewers (is_of_crew f ≡ false)) }
 {

@@ -1,7 +1,8 @@
 //! Serves a document and its scripts from two texts to a writer.
-ghost use Rattle.std.specs.Prelude.{◌≡◌, ◌≤◌, IfOk, IfErr, OnOk};
+ghost use Rattle.std.specs.Prelude.{◌≡◌, ◌≤◌, ◌++◌, ◌∷◌, [], false, IfOk, IfErr, OnOk};
 ghost use Rattle.city_crew.specs.Limits.{max_workers, max_viewers};
 ghost use Rattle.city_options.specs.RunOptions.{AreWithin};
+ghost use Rattle.city_writer.specs.document.Canonical.{city_text};
 ghost use Rattle.city_serve.specs.ServedTexts.{AreServed, AreServedBy, IsTextsFault, IsTextsFaultBy};
 ghost use Rattle.city_serve.specs.Decimals.{written_by, faults_by};
 ghost use Rattle.city_serve.specs.Destinations.{IsDelivered, IsDeliveryFault};
@@ -103,9 +104,9 @@ pub fn serve_owned<R: Threads + Wait + Sync, G: Gate + Sync, W: Write>(
 /// was.
 ///
 /// The answer says whether the model was withheld: an atomic destination asks for that if a script
-/// ended refused or out of memory. Beside it is the final city. If the run succeeds the texts are
-/// gone; if it refuses one, the text is there as the run was given it. Every served run goes this
-/// way.
+/// ended refused or out of memory. Beside it is the final city, which with `decimals` is encoded.
+/// If the run succeeds the texts are gone; if it refuses one, the text is there as the run was given
+/// it. Every served run goes this way.
 pub fn serve_to<R: Threads + Wait + Sync, G: Gate + Sync, F: OutputFiles, W: Write>(
     rt: &R,
     alloc: Global,
@@ -118,10 +119,11 @@ pub fn serve_to<R: Threads + Wait + Sync, G: Gate + Sync, F: OutputFiles, W: Wri
     options: Options,
 ) -> Result<(Delivered, City), ServeFault>
     requires { AreWithin options }
-    ensures delivered { IfOk result (λ d. IsDelivered destination.entry options
+    ensures delivered { IfOk result (λ d. (is : IsDelivered destination.entry options
         texts.old.document.bytes.items texts.old.scripts.bytes.items
         d.0.seen.items d.0.withheld (F.text files.old) (F.text files.new)
-        (W.contents writer.old.0) (W.contents writer.new.0)) }
+        (W.contents writer.old.0) (W.contents writer.new.0))
+        × (options.decimals ≡ false → is.model ≡ city_text d.1 ++ 10 ∷ [])) }
     ensures unfailed { OnOk result (writer.new.1 ≡ writer.old.1) }
     ensures fault { IfErr result (IsDeliveryFault destination.entry options
         texts.old.document.bytes.items texts.old.scripts.bytes.items

@@ -14,18 +14,20 @@ returns-clause-delivered g c =
     let document = c.args.texts.now.document.bytes.items in
     let scripts = c.args.texts.now.scripts.bytes.items in
     let run = c.in_ok-output.ensures in
-    let is = c.in_ok-delivered.ensures.written in
-    record {
-      ends = output.ends;
-      report = take output.report bytes;
-      model = drop output.report bytes;
-      run = in_parts asked document scripts output.ends bytes output.report run.ran run.in_turn
-          run.cut;
-      looked = subst (λ s. AreSeen asked.viewers (commits_in output.ends) s.items) (sym is.0) run.seen;
-      withheld_is = is.1;
-      written = is.2;
-      placed = is.3;
-    }
+    let is = c.in_ok-delivered.ensures.written in (
+      record {
+        ends = output.ends;
+        report = take output.report bytes;
+        model = drop output.report bytes;
+        run = in_parts asked document scripts output.ends bytes output.report run.ran run.in_turn
+            run.cut;
+        looked = subst (λ s. AreSeen asked.viewers (commits_in output.ends) s.items) (sym is.0) run.seen;
+        withheld_is = is.1;
+        written = is.2;
+        placed = is.3;
+      },
+      run.city,
+    )
 
 pub returns-in_err-delivered-clause-fault : goal.returns-in_err-delivered-clause-fault
 returns-in_err-delivered-clause-fault g c =
