@@ -1,6 +1,6 @@
 -- The output for the value of a member `attributes`, in either direction.
 use Rattle.city_decimals.proofs.Prelude.{arith, ◌≡◌, ℕ, ◌-◌, ◌<◌, ◌≤◌, List, [], ◌∷◌, ◌++◌, length, Option, Some, None}
-use Rattle.city_decimals.proofs.Prelude.{refl, sym, ap, ◌∙◌, append_assoc, Token, Json, number, array, Items, no_items}
+use Rattle.city_decimals.proofs.Prelude.{refl, sym, ap, ◌∙◌, append_assoc, Token, Json, array, Items, no_items}
 use Rattle.city_decimals.proofs.Prelude.{item, Parse, parse_map, value, after_end_array, json_tokens, items_tokens}
 use Rattle.city_decimals.proofs.Prelude.{changed, items_changed, written, Direction}
 use Rattle.std.specs.Borrow.{Bor}

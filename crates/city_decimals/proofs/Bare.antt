@@ -6,7 +6,7 @@ use Rattle.json.specs.Word.{after_number}
 use Rattle.city_decimals.specs.internal.Forms.{is_bare, BeginsBare}
 
 -- a number begins with none of these bytes
-number_begins : (s rest : List ℕ) → IsNumber s
+pub number_begins : (s rest : List ℕ) → IsNumber s
     → (get_or (s ++ rest) 0 0 ≡ 123 → ⊥) × (get_or (s ++ rest) 0 0 ≡ 91 → ⊥) × (get_or (s ++ rest) 0 0 ≡ 34 → ⊥)
 unfolding after_number
 number_begins s rest h = grind arith

@@ -1,12 +1,12 @@
 -- Lines, one after another.
 use Rattle.city_decimals.proofs.Prelude.{◌≡◌, ℕ, ◌+◌, ◌<◌, List, [], ◌∷◌, ◌++◌, length, take, drop, get_or, ap, refl}
-use Rattle.city_decimals.proofs.Prelude.{◌∙◌, sym, arith, append_assoc, IsDecodedLine, IsFaultTo, AreDecodedLines}
+use Rattle.city_decimals.proofs.Prelude.{◌∙◌, sym, subst, suc, arith, append_assoc, Bool, Json, IsDecodedLine}
+use Rattle.city_decimals.proofs.Prelude.{AreDecodedLines}
 use Rattle.std.proofs.Common.{◌⊎◌, inl, inr, length-append}
-use Rattle.city_decimals.proofs.Prelude.{IsLinesFault, DecimalsFault}
 use Rattle.std.proofs.Math.Seq.{split_at}
-use Rattle.city_decimals.specs.declared.fault.DecimalsFault.TheVariants.{OutOfMemory, NotJson}
 use Rattle.std.proofs.lemmas.List.{get_or-append-add, get_or_at}
-use Rattle.city_decimals.specs.Lines.{ArePairs, HasNoNewline, first_text, second_text}
+use Rattle.city_decimals.specs.Lines.{ArePairs, ArePrinted, HasNoNewline, HasPrintedLines, IsPrinted, first_text}
+use Rattle.city_decimals.specs.Lines.{lines_text, second_text}
 
 -- the rest of a text after a line
 pub rest_of : (xs : List ℕ) (n : ℕ) → n < length xs → get_or xs n 0 ≡ 10 → xs ≡ take n xs ++ 10 ∷ drop (n + 1) xs
@@ -24,17 +24,37 @@ one_line line out rest more h r all =
       out_is = ap (λ t. out ++ 10 ∷ t) all.out_is;
     }
 
-pub line_fault : (limit : ℕ) (line after : List ℕ) (f : DecimalsFault) → HasNoNewline line → IsFaultTo limit line f
-    → IsLinesFault limit (line ++ 10 ∷ after) f
-line_fault limit line after OutOfMemory h fault = tt
-line_fault limit line after NotJson h fault = ([], line, after, tt, h, refl, fault)
+rest_has_none : (x : ℕ) (xs : List ℕ) → HasNoNewline (x ∷ xs) → HasNoNewline xs
+rest_has_none x xs h k less = h (suc k) (omega (arith, less))
 
--- a fault of the rest after a decoded line
-pub later_fault : (limit : ℕ) (line out rest : List ℕ) (f : DecimalsFault) → HasNoNewline line → IsDecodedLine line out
-    → IsLinesFault limit rest f → IsLinesFault limit (line ++ 10 ∷ rest) f
-later_fault limit line out rest OutOfMemory h r later = tt
-later_fault limit line out rest NotJson h r (pairs, bad, after, are, none, is, fault) =
-    ((line, out) ∷ pairs, bad, after, (h, r, are), none, ap (λ t. line ++ 10 ∷ t) is, fault)
+-- a text without a newline has no line with its own
+no_line_in : (text line after : List ℕ) → HasNoNewline text → text ≡ line ++ 10 ∷ after → ⊥
+no_line_in [] [] after h e = absurd (cc)
+no_line_in [] (x ∷ xs) after h e = absurd (cc)
+no_line_in (x ∷ xs) [] after h e = h 0 (omega arith) (grind arith)
+no_line_in (x ∷ xs) (y ∷ ys) after h e = no_line_in xs ys after (rest_has_none x xs h) (grind arith)
+
+-- a text has one first line
+one_first : (a b x y : List ℕ) → HasNoNewline a → HasNoNewline b → a ++ 10 ∷ x ≡ b ++ 10 ∷ y → (a ≡ b) × (x ≡ y)
+one_first [] [] x y h i e = (refl, grind arith)
+one_first [] (b ∷ bs) x y h i e = absurd (i 0 (omega arith) (grind arith))
+one_first (a ∷ cs) [] x y h i e = absurd (h 0 (omega arith) (grind arith))
+one_first (a ∷ cs) (b ∷ bs) x y h i e =
+    let both = one_first cs bs x y (rest_has_none a cs h) (rest_has_none b bs i) (grind arith) in grind arith
+
+-- the first of printed lines, and the others
+pub printed_line : (is_framed : Bool) (text line after : List ℕ) → HasPrintedLines is_framed text → HasNoNewline line
+    → text ≡ line ++ 10 ∷ after → ((j : Json) × IsPrinted is_framed j line) × HasPrintedLines is_framed after
+printed_line is_framed text line after of none e = at of.lines of.printed (sym of.text_is ∙ e)
+  where
+    at : (lines : List (List ℕ)) → ArePrinted is_framed lines → lines_text lines of.rest ≡ line ++ 10 ∷ after
+        → ((j : Json) × IsPrinted is_framed j line) × HasPrintedLines is_framed after
+    at [] are f = absurd (no_line_in of.rest line after of.last f)
+    at (l ∷ ls) are f =
+        let same = one_first l line (lines_text ls of.rest) after are.0 none f in (
+          subst (λ t. (j : Json) × IsPrinted is_framed j t) same.0 are.1,
+          record { lines = ls; rest = of.rest; printed = are.2; last = of.last; text_is = sym same.1 },
+        )
 
 -- a line, after the earlier output
 pub done_with : (before line after : List ℕ) → before ++ (line ++ 10 ∷ after) ≡ (before ++ (line ++ 10 ∷ [])) ++ after

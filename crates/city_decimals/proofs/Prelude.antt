@@ -32,7 +32,7 @@ pub use Rattle.serde_json.specs.Read.{number_of, of_items, of_json, of_members}
 pub use Rattle.city_decimals.specs.Decoded.{decoded, decoded_items, decoded_members, decoded_top, number_in, number_or}
 pub use Rattle.city_decimals.specs.Decoded.{number_under, out_of_form}
 pub use Rattle.city_decimals.specs.Encoded.{encoded, encoded_items, encoded_members, encoded_top, tagged}
-pub use Rattle.city_decimals.specs.Lines.{AreDecodedLines, IsDecodedLine, IsLinesFault}
+pub use Rattle.city_decimals.specs.Lines.{AreDecodedLines, IsDecodedLine}
 pub use Rattle.city_decimals.specs.Numbers.{is_end, is_number, is_whole, is_written_so}
 pub use Rattle.city_decimals.specs.Shapes.{form_of, framed, fronted, has_shield, in_form, is_attributes}
 pub use Rattle.city_decimals.specs.Shapes.{is_fraction, is_frame, is_shielded, is_single, is_tag, is_text}

@@ -1,12 +1,12 @@
 -- Texts decoded line by line.
-use Rattle.std.specs.Prelude.{◌≡◌, ◌≢◌, ◌<◌, ℕ, List, [], ◌∷◌, ◌++◌, length, get_or}
-use Rattle.json.specs.Json.{Json}
+use Rattle.std.specs.Prelude.{◌≡◌, ◌≢◌, ◌<◌, ℕ, Bool, true, List, [], ◌∷◌, ◌++◌, length, get_or, codes}
+use Rattle.std.specs.Str.{IsUtf8}
+use Rattle.json.specs.Json.{Json, object, Members, no_members, member}
 use Rattle.json.specs.Print.{print}
-use Rattle.json.specs.Tree.{json_tokens}
+use Rattle.json.specs.Tree.{json_tokens, HasNumbers}
 use Rattle.city_decimals.specs.Decoded.{decoded_top}
-use Rattle.city_decimals.specs.Texts.{IsValueTo, IsFaultTo}
-use Rattle.city_decimals.specs.declared.fault.DecimalsFault.{DecimalsFault}
-use Rattle.city_decimals.specs.declared.fault.DecimalsFault.TheVariants.{OutOfMemory, NotJson}
+use Rattle.city_decimals.specs.Shapes.{framed}
+use Rattle.city_decimals.specs.Texts.{IsValueTo}
 
 abbrev pub HasNoNewline : List ℕ → Type 0
 HasNoNewline line = (k : ℕ) → k < length line → get_or line k 0 ≢ 10
@@ -42,28 +42,40 @@ pub record AreDecodedLines (text out : List ℕ) : Type 0 where
 abbrev pub AreDecodedBehind : List ℕ → List ℕ → List ℕ → Type 0
 AreDecodedBehind before text out = (more : List ℕ) × (out ≡ before ++ more) × AreDecodedLines text more
 
--- `OutOfMemory` may be answered for any text; any other fault means: a line isn't JSON, or nests deeper, and the
--- lines before it are decoded
-abbrev pub IsLinesFault : ℕ → List ℕ → DecimalsFault → Type 0
-IsLinesFault limit text OutOfMemory = Unit {0}
-IsLinesFault limit text NotJson = (pairs : List (List ℕ × List ℕ)) × (line : List ℕ) × (after : List ℕ)
-    × ArePairs pairs × HasNoNewline line × (text ≡ first_text pairs (line ++ 10 ∷ after)) × IsFaultTo limit line NotJson
+-- ---- printed lines
 
--- ---- texts never refused
+-- the members, with others behind them
+abbrev pub joined : Members → Members → Members
+joined no_members others = others
+joined (member k j ms) others = member k j (joined ms others)
 
-abbrev pub AreJson : ℕ → List (List ℕ) → Type 0
-AreJson limit [] = Unit {0}
-AreJson limit (line ∷ lines) = HasNoNewline line × ((j : Json) × IsValueTo limit j line) × AreJson limit lines
+-- a transform of a top, in its frame, with the members before it and behind it
+abbrev pub framed_top : Members → Members → Members → Json
+framed_top before inside behind = object (joined before (member (codes "transform") (framed (object inside)) behind))
+
+-- the value has such a transform
+abbrev pub IsFramedTop : Json → Type 0
+IsFramedTop j = (before inside behind : Members) × (j ≡ framed_top before inside behind)
+
+-- the text is the compact text of this value, and of one with a framed transform if so
+abbrev pub IsPrinted : Bool → Json → List ℕ → Type 0
+IsPrinted is_framed j line =
+    IsUtf8 line × HasNumbers j × (line ≡ print (json_tokens j)) × (is_framed ≡ true → IsFramedTop j)
+
+abbrev pub ArePrinted : Bool → List (List ℕ) → Type 0
+ArePrinted is_framed [] = Unit {0}
+ArePrinted is_framed (line ∷ lines) =
+    HasNoNewline line × ((j : Json) × IsPrinted is_framed j line) × ArePrinted is_framed lines
 
 -- lines, each with its newline, and the rest
 abbrev pub lines_text : List (List ℕ) → List ℕ → List ℕ
 lines_text [] rest = rest
 lines_text (line ∷ lines) rest = line ++ 10 ∷ lines_text lines rest
 
--- each line of the text is JSON and nests no deeper
-pub record HasJsonLines (limit : ℕ) (text : List ℕ) : Type 0 where
+-- each line of the text is printed so
+pub record HasPrintedLines (is_framed : Bool) (text : List ℕ) : Type 0 where
   pub lines : List (List ℕ)
   pub rest : List ℕ
-  pub json : AreJson limit lines
+  pub printed : ArePrinted is_framed lines
   pub last : HasNoNewline rest
   pub text_is : text ≡ lines_text lines rest

@@ -4,7 +4,9 @@ pub mod Compact
 pub mod Copies
 pub mod Directions
 pub mod Forms
+pub mod Found
 pub mod Inner
+pub mod Needles
 pub mod Newlines
 pub mod Objects
 pub mod Passed

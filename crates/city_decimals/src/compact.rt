@@ -20,14 +20,14 @@ use encoding::{copy_into_frame, encode_number};
 use leaves::{copy_name, copy_string, is_framed, is_tag, may_be_shielded};
 
 /// The bytes of an encoded number before its text, and after it.
-const NUMBER_BEGIN: &[u8] = b"{\"#\":\"";
+pub(crate) const NUMBER_BEGIN: &[u8] = b"{\"#\":\"";
 
-const NUMBER_END: &[u8] = b"\"}";
+pub(crate) const NUMBER_END: &[u8] = b"\"}";
 
 /// The bytes of a frame before the transform, and after it.
 const FRAME_BEGIN: &[u8] = b"{\"#\":";
 
-const FRAME_END: &[u8] = b",\"scale\":[1,1,1],\"translate\":[0,0,0]}";
+pub(crate) const FRAME_END: &[u8] = b",\"scale\":[1,1,1],\"translate\":[0,0,0]}";
 
 /// Appends the changed text to the buffer, if the text is compact and of a form known here.
 /// Otherwise returns `Err` with the buffer unchanged. Arrays and objects may nest `depth` deep.

@@ -310,7 +310,7 @@ impl<'a> Copier<'a> {
 
 /// Whether the text begins with these bytes.
 #[inline(always)]
-fn begins_with(text: &[u8], bytes: &[u8]) -> bool
+pub(crate) fn begins_with(text: &[u8], bytes: &[u8]) -> bool
     ensures len { OnTrue result (length bytes.now ≤ length text.now) }
     ensures value { OnTrue result (take (length bytes.now) text.now ≡ bytes.now) }
 {
@@ -325,7 +325,7 @@ fn begins_other(text: &[u8], later: bool) -> bool {
 }
 
 /// The end of the bytes that may be in a number.
-fn number_end(text: &[u8]) -> usize
+pub(crate) fn number_end(text: &[u8]) -> usize
     ensures within { result ≤ length text.now }
     ensures plain { (i : ℕ) → i < result → IsPlainByte (get_or text.now i 0) }
 {

@@ -8,8 +8,7 @@ use crate::OutOfMemory;
 pub enum DecimalsFault {
     /// Memory ran out.
     OutOfMemory,
-    /// The text isn't JSON, or nests deeper than 128; for `decode_lines`, a line deeper than its
-    /// `depth`.
+    /// The text isn't JSON, or nests deeper than 128.
     NotJson,
 }
 

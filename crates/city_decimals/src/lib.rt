@@ -18,7 +18,9 @@ mod encoding;
 mod fault;
 mod laws;
 mod lines;
+mod needle;
 mod numbers;
+mod search;
 mod shapes;
 mod text;
 mod transcode;
@@ -27,7 +29,7 @@ pub use decoding::decode;
 pub use encoding::encode;
 pub use fault::DecimalsFault;
 pub use laws::{what_is_edited, what_is_kept};
-pub use lines::{decode_lines, decode_lines_onto};
+pub use lines::decode_lines;
 
 /// The one error for being out of memory, under the project's word for it.
 pub(crate) use std::alloc::AllocError as OutOfMemory;
