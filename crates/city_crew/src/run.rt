@@ -3,6 +3,7 @@ ghost use Rattle.std.specs.Prelude.{◌≡◌, ◌≤◌, ◌++◌, ◌∷◌, �
 ghost use Rattle.city_model.specs.CityMap.{object_at};
 ghost use Rattle.city_model.specs.Relations.{IsLawful};
 ghost use Rattle.city_model.specs.SerialEnds.{commits_in};
+ghost use Rattle.city_doc.specs.document.CanonicalTexts.{IsCanonicalText};
 ghost use Rattle.city_writer.specs.Outputs.{IsJsonOutput};
 ghost use Rattle.city_writer.specs.document.Canonical.{city_text};
 ghost use Rattle.city_writer.specs.report.Reports.{report_text};
@@ -115,6 +116,7 @@ pub fn run_crew_read<R: Threads + Wait + Sync, G: Gate + Sync>(
     ensures city { IfOk result (λ r. r.0.bytes.items ≡ report_text r.0.ends ++ city_text r.1 ++ 10 ∷ []) }
     ensures report { IfOk result (λ r. r.0.report ≡ length (report_text r.0.ends)) }
     ensures lines { IfOk result (λ r. IsJsonOutput r.0.report r.0.bytes.items) }
+    ensures canonical { IfOk result (λ r. IsCanonicalText (city_text r.1) r.1) }
     ensures fault { IfErr result (λ f. (document text : List ℕ) → IsRunFault document text f) }
 {
     Ok(run::<R, G, Brand>(rt, alloc, seed, city, scripts, room, workers, viewers, gate)?)
@@ -142,6 +144,7 @@ fn run<R: Threads + Wait + Sync, G: Gate + Sync, O: Origin + Send>(
     ensures city { IfOk result (λ r. r.0.bytes.items ≡ report_text r.0.ends ++ city_text r.1 ++ 10 ∷ []) }
     ensures report { IfOk result (λ r. r.0.report ≡ length (report_text r.0.ends)) }
     ensures lines { IfOk result (λ r. IsJsonOutput r.0.report r.0.bytes.items) }
+    ensures canonical { IfOk result (λ r. IsCanonicalText (city_text r.1) r.1) }
 {
     let (desk, seated) = CrewDesk::<&R, O>::open(rt, alloc, city, scripts, workers, viewers)?;
     let watchers = Watcher::for_each(alloc, seated)?;
@@ -171,6 +174,7 @@ fn gather<S: Shelf, Q: Threads + Wait + Sync>(
     ensures city { IfOk result (λ r. r.0.bytes.items ≡ report_text r.0.ends ++ city_text r.1 ++ 10 ∷ []) }
     ensures report { IfOk result (λ r. r.0.report ≡ length (report_text r.0.ends)) }
     ensures lines { IfOk result (λ r. IsJsonOutput r.0.report r.0.bytes.items) }
+    ensures canonical { IfOk result (λ r. IsCanonicalText (city_text r.1) r.1) }
 {
     let Finished {
         city,

@@ -1,5 +1,6 @@
 //! The output of a run.
 ghost use Rattle.std.specs.Prelude.{◌≡◌, ◌++◌, ◌∷◌, [], length, IfOk};
+ghost use Rattle.city_doc.specs.document.CanonicalTexts.{IsCanonicalText};
 ghost use Rattle.city_writer.specs.Outputs.{IsJsonOutput};
 ghost use Rattle.city_writer.specs.document.Canonical.{city_text};
 ghost use Rattle.city_writer.specs.report.Reports.{report_text};
@@ -52,6 +53,7 @@ pub fn output_bytes(
     ensures bytes { IfOk result (λ r. r.0.items ≡ report_text ends.now ++ city_text city.now ++ 10 ∷ []) }
     ensures report { IfOk result (λ r. r.1 ≡ length (report_text ends.now)) }
     ensures lines { IfOk result (λ r. IsJsonOutput r.1 r.0.items) }
+    ensures canonical { IfOk result (λ _. IsCanonicalText (city_text city.now) city.now) }
 {
     let (empty, likely) = emptied(room);
     let mut report = append_report(alloc, seed, empty, ends)?;
@@ -75,6 +77,7 @@ pub fn output_bytes_by<R: Threads + Sync>(
     ensures bytes { IfOk result (λ r. r.0.items ≡ report_text ends.now ++ city_text city.now ++ 10 ∷ []) }
     ensures report { IfOk result (λ r. r.1 ≡ length (report_text ends.now)) }
     ensures lines { IfOk result (λ r. IsJsonOutput r.1 r.0.items) }
+    ensures canonical { IfOk result (λ _. IsCanonicalText (city_text city.now) city.now) }
 {
     let (empty, likely) = emptied(room);
     let mut report = append_report_by(rt, alloc, seed, empty, ends, pieces)?;

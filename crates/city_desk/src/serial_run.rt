@@ -2,6 +2,7 @@
 ghost use Rattle.std.specs.Prelude.{◌≡◌, ◌++◌, ◌∷◌, [], ℕ, List, length, IfOk, IfErr};
 ghost use Rattle.city_model.specs.CityMap.{object_at};
 ghost use Rattle.city_model.specs.Relations.{IsLawful};
+ghost use Rattle.city_doc.specs.document.CanonicalTexts.{IsCanonicalText};
 ghost use Rattle.city_writer.specs.Outputs.{IsJsonOutput};
 ghost use Rattle.city_writer.specs.document.Canonical.{city_text};
 ghost use Rattle.city_writer.specs.report.Reports.{report_text};
@@ -76,6 +77,7 @@ pub fn run_read(
     ensures city { IfOk result (λ r. r.0.bytes.items ≡ report_text r.0.ends ++ city_text r.1 ++ 10 ∷ []) }
     ensures report { IfOk result (λ r. r.0.report ≡ length (report_text r.0.ends)) }
     ensures lines { IfOk result (λ r. IsJsonOutput r.0.report r.0.bytes.items) }
+    ensures canonical { IfOk result (λ r. IsCanonicalText (city_text r.1) r.1) }
 {
     let finished = run_each(alloc, city, scripts)?;
     let (bytes, report) = output_bytes(
