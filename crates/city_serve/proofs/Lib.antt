@@ -1,5 +1,6 @@
 mod Checked
 pub mod EnoughRead
+pub mod FramedCities
 pub mod Given
 pub mod Inputs
 mod JsonLines

@@ -2,24 +2,27 @@
 ghost use Rattle.std.specs.Prelude.{◌≡◌, true, IfOk, IfErr, OnOk};
 ghost use Rattle.city_model.specs.SerialEnds.{commits_in};
 ghost use Rattle.city_crew.specs.Seen.{AreSeen};
-ghost use Rattle.city_decimals.specs.Lines.{AreDecodedBehind};
 ghost use Rattle.city_scheduler.specs.InTurn.{AreInTurn};
-ghost use Rattle.city_writer.specs.report.JsonLines.{AreJsonLines};
+ghost use Rattle.serde_json.specs.View.{members_view};
 ghost use Rattle.city_options.specs.RunOptions.{AreWithin};
 ghost use Rattle.city_serve.specs.ServedTexts.{WhereAlone};
 ghost use Rattle.city_serve.specs.Decimals.{IsGiven, IsDecimalsRun, IsFaultOfDecimalsRun};
 ghost use Rattle.city_serve.specs.Destinations.{IsCutAt};
+ghost use Rattle.city_serve.specs.internal.Framed.{HasFrame, IsTaggedObject, three_of};
 ghost use Rattle.city_serve.specs.internal.WholeTexts.{HasWholeNumbers};
 
 use crate::run::run_whole;
 use crate::texts::{Stage, Text, Texts};
 use city_crew::Gate;
-use city_decimals::{DecimalsFault, decode_lines_onto, encode};
+use city_decimals::{DecimalsFault, decode_lines, encode};
 use city_desk::{Output, RunFault};
 use city_doc::MAX_TEXT;
 use city_model::OutOfMemory;
 use city_model::city::City;
+use city_model::frame::Frame;
+use city_model::members::{member, members_count};
 use city_options::Options;
+use serde_json::{Map, Value};
 use std::alloc::Global;
 use std::sync::Wait;
 use std::thread::Threads;
@@ -50,9 +53,9 @@ pub(crate) fn run_decimals<R: Threads + Wait + Sync, G: Gate + Sync>(
     encode_text(alloc, &mut texts.scripts)?;
     let (output, city) = run_whole(rt, alloc, gate, seed, texts, options)?;
     let (report, model) = output.bytes.as_slice().split_at(output.report);
-    let decoded = decoded_behind(alloc, report, Vec::new(alloc))?;
+    let decoded = decode_lines(alloc, report, false, Vec::new(alloc))?;
     let report = decoded.len();
-    let bytes = decoded_behind(alloc, model, decoded)?;
+    let bytes = decode_lines(alloc, model, has_frame(city.frame()), decoded)?;
     let output = Output {
         bytes,
         report,
@@ -61,16 +64,27 @@ pub(crate) fn run_decimals<R: Threads + Wait + Sync, G: Gate + Sync>(
     Ok((output, city))
 }
 
-/// The buffer, with the decoded lines appended.
-fn decoded_behind(alloc: Global, lines: &[u8], buffer: Vec<u8>) -> Result<Vec<u8>, OutOfMemory>
-    requires { AreJsonLines lines.now }
-    ensures { IfOk result (λ v. AreDecodedBehind buffer.items lines.now v.items) }
+/// Whether the transform stands in a frame: it is the identity, with an object under the tag.
+fn has_frame(frame: &Frame) -> bool
+    ensures { result ≡ true → HasFrame frame.now }
 {
-    // No line nests deeper than it is long.
-    match decode_lines_onto(alloc, lines, lines.len(), buffer) {
-        Ok(decoded) => Ok(decoded),
-        Err(DecimalsFault::OutOfMemory) => Err(OutOfMemory),
-        Err(DecimalsFault::NotJson) => unreachable!(),
+    are_all(&frame.scale, 1) && are_all(&frame.translate, 0) && is_tagged_object(frame.more.map())
+}
+
+/// Whether all three are this number.
+fn are_all(triple: &[i64; 3], n: i64) -> bool
+    ensures { result ≡ true → triple.now ≡ three_of n }
+{
+    triple[0] == n && triple[1] == n && triple[2] == n
+}
+
+/// Whether there is one member, an object under the tag.
+fn is_tagged_object(members: &Map<String, Value>) -> bool
+    ensures { result ≡ true → IsTaggedObject (members_view members.now.entries) }
+{
+    match member(members, "#") {
+        Some(Value::Object(_)) => members_count(members) == 1,
+        _ => false,
     }
 }
 

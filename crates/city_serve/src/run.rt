@@ -9,6 +9,7 @@ ghost use Rattle.city_desk.specs.RunFaults.{IsRunFault, is_of_crew};
 ghost use Rattle.city_desk.specs.TextRuns.{IsReadFrom, IsRun};
 ghost use Rattle.city_options.specs.RunOptions.{AreWithin};
 ghost use Rattle.city_serve.specs.ServedTexts.{IsFaultOfRun, WhereAlone};
+ghost use Rattle.city_doc.specs.document.CanonicalTexts.{IsCanonicalText};
 ghost use Rattle.city_writer.specs.Outputs.{IsJsonOutput};
 ghost use Rattle.city_writer.specs.document.Canonical.{city_text};
 ghost use Rattle.city_writer.specs.report.Reports.{report_text};
@@ -79,6 +80,7 @@ pub(crate) fn run_whole<R: Threads + Wait + Sync, G: Gate + Sync>(
     ensures cut { IfOk result (λ r. IsCutAt false r.0.ends r.0.bytes.items r.0.report) }
     ensures report { IfOk result (λ r. r.0.report ≡ length (report_text r.0.ends)) }
     ensures lines { IfOk result (λ r. IsJsonOutput r.0.report r.0.bytes.items) }
+    ensures canonical { IfOk result (λ r. IsCanonicalText (city_text r.1) r.1) }
     ensures city { IfOk result (λ r. drop r.0.report r.0.bytes.items ≡ city_text r.1 ++ 10 ∷ []) }
     ensures fault { IfErr result (IsFaultOfRun
         texts.old.document.bytes.items texts.old.scripts.bytes.items options.workers options.viewers) }
@@ -114,6 +116,7 @@ fn run_read_texts<R: Threads + Wait + Sync, G: Gate + Sync>(
     ensures cut { IfOk result (λ r. IsCutAt false r.0.ends r.0.bytes.items r.0.report) }
     ensures report { IfOk result (λ r. r.0.report ≡ length (report_text r.0.ends)) }
     ensures lines { IfOk result (λ r. IsJsonOutput r.0.report r.0.bytes.items) }
+    ensures canonical { IfOk result (λ r. IsCanonicalText (city_text r.1) r.1) }
     ensures city { IfOk result (λ r. r.0.bytes.items ≡ report_text r.0.ends ++ city_text r.1 ++ 10 ∷ []) }
     ensures fault { IfErr result (λ f. (document text : List ℕ) → IsRunFault document text f) }
     ensures alone { IfErr result (λ f. WhereAlone options.workers options.viewers (is_of_crew f ≡ false)) }

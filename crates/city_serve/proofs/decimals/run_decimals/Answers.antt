@@ -1,9 +1,10 @@
-use Rattle.city_serve.proofs.Prelude.{◌≡◌, ◌++◌, ◌∙◌, [], ℕ, List, ap, sym, subst, take, drop, AreDecodedLines}
+use Rattle.city_serve.proofs.Prelude.{◌≡◌, ◌++◌, ◌∙◌, [], ℕ, List, false, ap, sym, subst, take, drop, AreDecodedLines}
 use Rattle.std.proofs.Common.{rules}
 use Rattle.std.proofs.lemmas.List.{take-append-drop}
 use Rattle.city_decimals.proofs.OneLine.{lines_joined}
-use Rattle.city_decimals.specs.Lines.{AreDecodedBehind}
-use Rattle.city_writer.specs.report.JsonLines.{AreJsonLines}
+use Rattle.city_decimals.specs.Lines.{AreDecodedBehind, HasPrintedLines}
+use Rattle.city_serve.proofs.FramedCities.{framed_tree}
+use Rattle.city_serve.proofs.JsonLines.{printed_lines, model_line}
 use Rattle.city_serve.proofs.Given.{decimals_run}
 use Rattle.city_serve.proofs.Reported.{report_ends}
 use Rattle.city_serve.proofs.decimals.run_decimals.Goals as goal
@@ -13,17 +14,20 @@ alone : (before text out : List ℕ) → before ≡ [] → AreDecodedBehind befo
 alone before text out none (more, is, decoded) =
     subst (AreDecodedLines text) (sym (is ∙ ap (λ b. b ++ more) none)) decoded
 
-pub decoded_behind-requires : goal.decoded_behind-requires
-decoded_behind-requires g c =
+pub decode_lines-requires : goal.decode_lines-requires
+decode_lines-requires g c =
     let output = c.in_ok-output.output in
     let front : c.split_at.result.0.now ≡ take output.report output.bytes.items = search rules in
-    subst AreJsonLines (sym front) c.in_ok-output.ensures.lines.ends
+    subst (HasPrintedLines false) (sym front) (printed_lines _ c.in_ok-output.ensures.lines.ends)
 
-pub decoded_behind-requires-2 : goal.decoded_behind-requires-2
-decoded_behind-requires-2 g c =
+pub decode_lines-requires-2 : goal.decode_lines-requires-2
+decode_lines-requires-2 g c =
     let output = c.in_ok-output.output in
+    let city = c.in_ok-output.city in
     let back : c.split_at.result.1.now ≡ drop output.report output.bytes.items = search rules in
-    subst AreJsonLines (sym back) c.in_ok-output.ensures.lines.model
+    subst (HasPrintedLines c.has_frame.result) (sym back) (model_line c.has_frame.result city _
+    c.in_ok-output.ensures.city c.in_ok-output.ensures.lines.model c.in_ok-output.ensures.canonical.tokens_are
+    (λ framed. framed_tree city (search rules)))
 
 pub returns-clause-ran : goal.returns-clause-ran
 returns-clause-ran g c =
