@@ -22,7 +22,8 @@ of the kinds with many faults --check has to tell each.
   gives the memory of each city back.
 - Where valgrind is installed, the instructions of texts whose points would collide are counted too, and of objects of
   many members in no order and in falling order. They may grow six times. So are those of files that end in a newline,
-  with `--decimals`: they may take 1.05 times those of files without one.
+  with `--decimals`: they may take 1.05 times those of files without one. With `--decimals` a model of whole numbers
+  with a transform in fractions may take 1.27 times those of a whole one without, since its text is decoded by searches.
 
 Prints one line for each kind, and ends with status 1 where one took more or ended otherwise.
 """
@@ -52,6 +53,7 @@ MOST_OF_POINTS = 2
 OF_AN_EMPTY_RUN = 100
 MOST_OF_RUNS = 1.2
 MOST_OF_A_NEWLINE = 1.05
+MOST_OF_A_FRAME = 1.27
 MOST_OF_A_TEXT = 4.6
 OF_ONE_ATTRIBUTE = {"an attribute": ({"n": 1}, 200), "a member inside an attribute": ({"k": {"n": 1}}, 300)}
 REFUSED = (growth.repeated_child, growth.open_solid)
@@ -253,6 +255,16 @@ def newline_is_quick(program, count):
     return say(ended <= MOST_OF_A_NEWLINE * bare, f"{told}, {ended / bare:.2f} times")
 
 
+def frame_is_quick(program, count):
+    """Whether a text is decoded by searches if its transform has fractions."""
+    road = {"type": "Road", "attributes": {name: 7 for name in "abcdefgh"}}
+    whole = growth.model({f"r{number}": road for number in range(count)})
+    fine = {**whole, "transform": {"scale": [0.001, 0.001, 0.001], "translate": [0.5, 0, 0]}}
+    bare, decoded = program.instructions((whole, [])), program.instructions((fine, []), "--decimals")
+    told = f"{count:,} roads: {bare:,} instructions, {decoded:,} with --decimals and a fine transform"
+    return say(decoded <= MOST_OF_A_FRAME * bare, f"{told}, {decoded / bare:.2f} times")
+
+
 def workers_sleep(program, count, scripts):
     """Whether workers that wait for others sleep: sixteen of them take little more processor time than one."""
     put = {"type": "Road"}
@@ -305,6 +317,7 @@ def main():
             kept += [colliding_are_quick(program, kind, count) for kind, count in COLLIDING.items()]
             kept += [unordered_are_quick(program, kind, count) for kind, count in UNORDERED.items()]
             kept += [newline_is_quick(program, count) for count in (300, 3_000)]
+            kept += [frame_is_quick(program, count) for count in (500, 3_000)]
     return 0 if all(kept) else 1
 
 

@@ -3,7 +3,7 @@
 //! The bytes of a name are among the most frequent of a model. A search that picks the rare byte by
 //! other texts, as `memmem` does, stops at nearly all of them.
 ghost use Rattle.std.specs.Prelude.{◌≡◌, ◌+◌, ◌<◌, ◌≤◌, length, true, IfSome};
-ghost use Rattle.memchr.specs.Find.{FindsNeedle, occurs_at};
+ghost use Rattle.memchr.specs.Find.{FindsNeedle, IsFirstByte, is_byte, occurs_at};
 ghost use Rattle.city_decimals.specs.internal.Needles.{Lacks, IsOnly};
 
 use memchr::memchr;
@@ -16,7 +16,7 @@ pub(crate) fn find(text: &[u8], needle: &[u8], rare: usize) -> Option<usize>
     let byte = needle[rare];
     let mut from = rare;
     while from < text.len() {
-        let Some(step) = memchr(byte, &text[from..]) else {
+        let Some(step) = next_byte(&text[from..], byte) else {
             return None;
         };
         let at = from + step - rare;
@@ -28,11 +28,27 @@ pub(crate) fn find(text: &[u8], needle: &[u8], rare: usize) -> Option<usize>
     None
 }
 
+/// The first place of the byte. Where the byte isn't rare, the next is at hand, and no search begins.
+#[inline(always)]
+fn next_byte(text: &[u8], byte: u8) -> Option<usize>
+    ensures { IsFirstByte (is_byte byte) text.now result }
+{
+    if !text.is_empty() && text[0] == byte {
+        return Some(0);
+    }
+    memchr(byte, text)
+}
+
+/// Whether the bytes occur at this place. Most others are told by their first byte.
+#[inline(always)]
 fn occurs_at(text: &[u8], needle: &[u8], at: usize) -> bool
-    requires { at ≤ length text.now }
+    requires within { at ≤ length text.now }
+    requires some { 0 < length needle.now }
     ensures { result ≡ occurs_at text.now needle.now at }
 {
-    needle.len() <= text.len() - at && &text[at..at + needle.len()] == needle
+    needle.len() <= text.len() - at
+        && text[at] == needle[0]
+        && &text[at..at + needle.len()] == needle
 }
 
 /// Whether the bytes occur nowhere in the text.
