@@ -24,6 +24,7 @@ of the kinds with many faults --check has to tell each.
   many members in no order and in falling order. They may grow six times. So are those of files that end in a newline,
   with `--decimals`: they may take 1.05 times those of files without one. With `--decimals` a model of whole numbers
   with a transform in fractions may take 1.27 times those of a whole one without, since its text is decoded by searches.
+  A text of nothing but a byte that a search looks for may take 5 times those of a text of others.
 
 Prints one line for each kind, and ends with status 1 where one took more or ended otherwise.
 """
@@ -54,6 +55,8 @@ OF_AN_EMPTY_RUN = 100
 MOST_OF_RUNS = 1.2
 MOST_OF_A_NEWLINE = 1.05
 MOST_OF_A_FRAME = 1.27
+MOST_OF_RARE_BYTES = 5
+FINE = {"scale": [0.001, 0.001, 0.001], "translate": [0.5, 0, 0]}
 MOST_OF_A_TEXT = 4.6
 OF_ONE_ATTRIBUTE = {"an attribute": ({"n": 1}, 200), "a member inside an attribute": ({"k": {"n": 1}}, 300)}
 REFUSED = (growth.repeated_child, growth.open_solid)
@@ -259,10 +262,22 @@ def frame_is_quick(program, count):
     """Whether a text is decoded by searches if its transform has fractions."""
     road = {"type": "Road", "attributes": {name: 7 for name in "abcdefgh"}}
     whole = growth.model({f"r{number}": road for number in range(count)})
-    fine = {**whole, "transform": {"scale": [0.001, 0.001, 0.001], "translate": [0.5, 0, 0]}}
-    bare, decoded = program.instructions((whole, [])), program.instructions((fine, []), "--decimals")
+    bare = program.instructions((whole, []))
+    decoded = program.instructions(({**whole, "transform": FINE}, []), "--decimals")
     told = f"{count:,} roads: {bare:,} instructions, {decoded:,} with --decimals and a fine transform"
     return say(decoded <= MOST_OF_A_FRAME * bare, f"{told}, {decoded / bare:.2f} times")
+
+
+def rare_bytes_are_quick(program, length):
+    """Whether a text is decoded fast that has nothing but a byte that a search looks for."""
+    counts = {}
+    for byte in "x#bc":
+        road = {"type": "Road", "attributes": {"note": byte * length}}
+        texts = {**growth.model({"r": road}), "transform": FINE}, []
+        counts[byte] = program.instructions(texts, "--decimals")
+    told = ", ".join(f"{byte} {count:,}" for byte, count in counts.items())
+    most = max(counts.values()) / counts["x"]
+    return say(most <= MOST_OF_RARE_BYTES, f"{length:,} bytes with --decimals: {told}, {most:.2f} times")
 
 
 def workers_sleep(program, count, scripts):
@@ -318,6 +333,7 @@ def main():
             kept += [unordered_are_quick(program, kind, count) for kind, count in UNORDERED.items()]
             kept += [newline_is_quick(program, count) for count in (300, 3_000)]
             kept += [frame_is_quick(program, count) for count in (500, 3_000)]
+            kept += [rare_bytes_are_quick(program, length) for length in (100_000, 1_000_000)]
     return 0 if all(kept) else 1
 
 
