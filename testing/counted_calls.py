@@ -23,7 +23,8 @@ of the kinds with many faults --check has to tell each.
 - Where valgrind is installed, the instructions of texts whose points would collide are counted too, and of objects of
   many members in no order and in falling order. They may grow six times. So are those of files that end in a newline,
   with `--decimals`: they may take 1.05 times those of files without one. With `--decimals` a model of whole numbers
-  with a transform in fractions may take 1.27 times those of a whole one without, since its text is decoded by searches.
+  with a transform in fractions may take 1.27 times those of a whole one without, since its text is decoded by searches,
+  and a report of many reads 1.4 times.
   A text of nothing but a byte that a search looks for may take 5 times those of a text of others.
 
 Prints one line for each kind, and ends with status 1 where one took more or ended otherwise.
@@ -55,6 +56,7 @@ OF_AN_EMPTY_RUN = 100
 MOST_OF_RUNS = 1.2
 MOST_OF_A_NEWLINE = 1.05
 MOST_OF_A_FRAME = 1.27
+MOST_OF_READS = 1.4
 MOST_OF_RARE_BYTES = 5
 FINE = {"scale": [0.001, 0.001, 0.001], "translate": [0.5, 0, 0]}
 MOST_OF_A_TEXT = 4.6
@@ -268,6 +270,15 @@ def frame_is_quick(program, count):
     return say(decoded <= MOST_OF_A_FRAME * bare, f"{told}, {decoded / bare:.2f} times")
 
 
+def reads_are_quick(program, scripts):
+    """Whether the lines of a report are decoded by searches."""
+    road = {"type": "Road", "attributes": {f"n{number}": 7 for number in range(40)}}
+    texts = growth.model({"r": road}), [growth.script([{"read": "r"}] * 500)] * scripts
+    bare, decoded = (program.instructions(texts, *options) for options in ((), ("--decimals",)))
+    told = f"{scripts} scripts of 500 reads: {bare:,} instructions, {decoded:,} with --decimals"
+    return say(decoded <= MOST_OF_READS * bare, f"{told}, {decoded / bare:.2f} times")
+
+
 def rare_bytes_are_quick(program, length):
     """Whether a text is decoded fast that has nothing but a byte that a search looks for."""
     counts = {}
@@ -333,6 +344,7 @@ def main():
             kept += [unordered_are_quick(program, kind, count) for kind, count in UNORDERED.items()]
             kept += [newline_is_quick(program, count) for count in (300, 3_000)]
             kept += [frame_is_quick(program, count) for count in (500, 3_000)]
+            kept += [reads_are_quick(program, scripts) for scripts in (2, 10)]
             kept += [rare_bytes_are_quick(program, length) for length in (100_000, 1_000_000)]
     return 0 if all(kept) else 1
 
