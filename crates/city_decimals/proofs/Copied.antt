@@ -163,7 +163,7 @@ members_first m h same later limit a b d first rest =
     }
 
 -- the inside of quotes tells the name
-escaped_tag : escape tag ≡ 35 ∷ []
+pub escaped_tag : escape tag ≡ 35 ∷ []
 unfolding escape_byte
 escaped_tag = refl
 

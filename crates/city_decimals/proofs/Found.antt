@@ -1,6 +1,8 @@
 -- What a search for encoded numbers passes in the text of a value, and what is decoded of it.
-use Rattle.city_decimals.proofs.Prelude.{◌≡◌, ◌≢◌, ℕ, List, [], ◌∷◌, ◌++◌, Bool, true, false, refl, sym, ap, ap₂, ◌∙◌, arith}
-use Rattle.city_decimals.proofs.Prelude.{append_assoc, subst, get_or, escape, quoted, IsNumber, Some_inj, bytes_eq-Decides}
+use Rattle.city_decimals.proofs.Prelude.{◌≡◌, ◌≢◌, ℕ, List, [], ◌∷◌, ◌++◌, Bool, true, false, refl, sym, ap, ap₂, ◌∙◌}
+use Rattle.city_decimals.proofs.Prelude.{arith}
+use Rattle.city_decimals.proofs.Prelude.{append_assoc, subst, get_or, escape, quoted, IsNumber, Some_inj}
+use Rattle.city_decimals.proofs.Prelude.{bytes_eq-Decides}
 use Rattle.city_decimals.proofs.Prelude.{Json, null, boolean, number, string, array, object, Items, no_items, item}
 use Rattle.city_decimals.proofs.Prelude.{Members, no_members, member, HasNumbers, ItemsHaveNumbers, MembersHaveNumbers}
 use Rattle.city_decimals.proofs.Prelude.{decoded, decoded_items, decoded_members, fronted, is_tag, tag}
@@ -13,7 +15,7 @@ use Rattle.json.specs.Text.{content, plain}
 use Rattle.json.proofs.Printed.Strings.{content-escape}
 use Rattle.city_decimals.proofs.Braces.{braces, first_is_none, later_are_none, byte_free, no_quote, number_free}
 use Rattle.city_decimals.proofs.Bare.{number_begins}
-use Rattle.city_decimals.proofs.Copied.{untagged_none}
+use Rattle.city_decimals.proofs.Copied.{untagged_none, escaped_tag}
 use Rattle.city_decimals.proofs.Insides.{shield_decoded}
 use Rattle.city_decimals.proofs.Needles.{no_shield, form_left, tag_quoted}
 use Rattle.city_decimals.specs.internal.Needles.{Lacks, tag_name, attributes_array}
@@ -154,14 +156,10 @@ same_inside s t r u e =
     rest [] a b f = grind arith
     rest (x ∷ w) a b f = rest w a b (grind arith)
 
-tag_inside : escape tag ≡ 35 ∷ []
-unfolding escape_byte
-tag_inside = refl
-
 pub name_here : (k v u : List ℕ) → quoted k ++ 58 ∷ v ≡ 34 ∷ 35 ∷ 34 ∷ 58 ∷ u → (k ≡ tag) × (v ≡ u)
 name_here k v u e =
     let inner : escape k ++ 34 ∷ 58 ∷ v ≡ escape tag ++ 34 ∷ 58 ∷ u =
-    sym (append_assoc (escape k) (34 ∷ []) (58 ∷ v)) ∙ grind arith ∙ ap (λ t. t ++ 34 ∷ 58 ∷ u) (sym tag_inside) in
+    sym (append_assoc (escape k) (34 ∷ []) (58 ∷ v)) ∙ grind arith ∙ ap (λ t. t ++ 34 ∷ 58 ∷ u) (sym escaped_tag) in
     let same = same_inside k tag (58 ∷ v) (58 ∷ u) inner in (same.0, grind (arith, same.1))
 
 -- a value that begins with a quote is a string
@@ -203,6 +201,14 @@ object_made top ms = number_or (number_in ms) (decoded_members top ms)
 number_decoded : (top : Bool) (s : List ℕ) → IsNumber s → object_made top (member tag (string s) no_members) ≡ number s
 number_decoded top s h = grind arith
 
+-- a text without the tag doesn't end in a part of it before a brace
+pub no_tag_before : (front r v : List ℕ) → Lacks tag_name front → front ++ 123 ∷ r ≡ tag_name ++ v → ⊥
+no_tag_before [] r v lacks f = absurd (grind arith)
+no_tag_before (a ∷ []) r v lacks f = absurd (grind arith)
+no_tag_before (a ∷ b ∷ []) r v lacks f = absurd (grind arith)
+no_tag_before (a ∷ b ∷ d ∷ []) r v lacks f = absurd (grind arith)
+no_tag_before (a ∷ b ∷ d ∷ g ∷ front) r v lacks f = lacks [] front (grind arith)
+
 -- the tag stands nowhere else
 no_tag_here : (p : Found) (k v : List ℕ) → IsFound p → bytes_of p ≡ quoted k ++ 58 ∷ v → is_tag k ≡ false
 no_tag_here p k v h e = at (is_tag k) refl
@@ -210,16 +216,9 @@ no_tag_here p k v h e = at (is_tag k) refl
     text : k ≡ tag → bytes_of p ≡ tag_name ++ v
     text same = e ∙ ap (λ n. quoted n ++ 58 ∷ v) same ∙ tag_quoted v
 
-    lost : (front : List ℕ) (r : List ℕ) → Lacks tag_name front → front ++ 123 ∷ r ≡ tag_name ++ v → ⊥
-    lost [] r lacks f = absurd (grind arith)
-    lost (a ∷ []) r lacks f = absurd (grind arith)
-    lost (a ∷ b ∷ []) r lacks f = absurd (grind arith)
-    lost (a ∷ b ∷ d ∷ []) r lacks f = absurd (grind arith)
-    lost (a ∷ b ∷ d ∷ g ∷ front) r lacks f = lacks [] front (grind arith)
-
     found : (q : Found) → IsFound q → bytes_of q ≡ tag_name ++ v → ⊥
     found ([], last) are f = are [] v f
-    found (p ∷ ps, last) are f = lost p.0 _ are.0 f
+    found (p ∷ ps, last) are f = no_tag_before p.0 _ v are.0 f
 
     at : (b : Bool) → is_tag k ≡ b → is_tag k ≡ false
     at false f = f

@@ -1,11 +1,15 @@
 -- The text of a document with a framed transform, in parts, and the text of the decoded document.
-use Rattle.city_decimals.proofs.Prelude.{◌≡◌, ℕ, List, [], ◌∷◌, ◌++◌, Bool, true, false, None, refl, sym, ap, ◌∙◌, arith}
-use Rattle.city_decimals.proofs.Prelude.{append_assoc, append-nil, subst, codes, escape, quoted, ap₂, length, take, drop, take_all}
+use Rattle.city_decimals.proofs.Prelude.{◌≡◌, ℕ, List, [], ◌∷◌, ◌++◌, Bool, true, false, None, refl, sym, ap, ◌∙◌}
+use Rattle.city_decimals.proofs.Prelude.{arith}
+use Rattle.city_decimals.proofs.Prelude.{append_assoc, append-nil, subst, codes, escape, quoted, ap₂, length, take}
+use Rattle.city_decimals.proofs.Prelude.{drop, take_all}
 use Rattle.city_decimals.proofs.Prelude.{length-drop, ◌+◌, ◌-◌}
 use Rattle.std.proofs.Common.{length-append, inl, inr}
 use lib.Seq.{take_at, drop_at}
-use Rattle.city_decimals.proofs.Prelude.{Json, null, boolean, number, string, array, object, Members, no_members, member}
-use Rattle.city_decimals.proofs.Prelude.{HasNumbers, MembersHaveNumbers, decoded, decoded_members, decoded_top, out_of_form}
+use Rattle.city_decimals.proofs.Prelude.{Json, null, boolean, number, string, array, object, Members, no_members}
+use Rattle.city_decimals.proofs.Prelude.{member}
+use Rattle.city_decimals.proofs.Prelude.{HasNumbers, MembersHaveNumbers, decoded, decoded_members, decoded_top}
+use Rattle.city_decimals.proofs.Prelude.{out_of_form}
 use Rattle.city_decimals.proofs.Prelude.{number_in, number_or, framed, only, value_text, members_text, comma_if}
 use Rattle.city_decimals.proofs.Prelude.{IsDecodedLine, document_to, depth}
 use Rattle.json.specs.Print.{escape_byte}
@@ -14,12 +18,13 @@ use Rattle.city_decimals.proofs.CompactForms.{frame_end}
 use Rattle.city_decimals.proofs.Found.{Passed, BeginsOther, passed_then, passed_free, value_passed}
 use Rattle.city_decimals.proofs.Found.{name_here, string_here, same_inside, one_byte}
 use Rattle.city_decimals.proofs.Found.{open_passed, object_passed, members_open, comma_free, begins_other, lacks_behind}
+use Rattle.city_decimals.proofs.Needles.{lacks_front}
 use Rattle.city_decimals.specs.Lines.{IsPrinted, joined, framed_top}
 use Rattle.city_decimals.specs.internal.Needles.{Lacks, attributes_array}
 use Rattle.city_decimals.specs.internal.Found.{Found, bytes_of, decoded_of, IsFound, open_text}
 
 -- nothing is left behind
-nothing_left : (q : Found) → bytes_of q ≡ [] → decoded_of q ≡ []
+pub nothing_left : (q : Found) → bytes_of q ≡ [] → decoded_of q ≡ []
 nothing_left ([], last) e = e
 nothing_left (p ∷ ps, last) e = absurd (at p.0 _ e)
   where
@@ -32,24 +37,17 @@ all_passed p made a = a.out ∙ ap (λ t. made ++ t) (nothing_left a.left a.text
 
 -- ---- a whole value
 
-pub top_passed : (j : Json) (p : Found) → HasNumbers j → IsFound p → Lacks attributes_array (value_text j)
-    → bytes_of p ≡ value_text j → decoded_of p ≡ value_text (decoded_top j)
-top_passed j p n h lacks e =
-    all_passed p (value_text (decoded_top j)) (at j n (subst (Lacks attributes_array) (sym (append-nil (value_text j)))
-    lacks) (e ∙ sym (append-nil (value_text j))))
-  where
-    none : BeginsOther []
-    none u f = absurd (cc)
-
-    at : (i : Json) → HasNumbers i → Lacks attributes_array (value_text i ++ []) → bytes_of p ≡ value_text i ++ []
-        → Passed p (value_text (decoded_top i)) []
-    at null m l f = (value_passed null [] p m h none l f).0
-    at (boolean b) m l f = (value_passed (boolean b) [] p m h none l f).0
-    at (number s) m l f = (value_passed (number s) [] p m h none l f).0
-    at (string s) m l f = (value_passed (string s) [] p m h none l f).0
-    at (array js) m l f = (value_passed (array js) [] p m h none l f).0
-    at (object ms) m l f = (object_passed true ms [] p m h l f (λ q are g k. open_passed true false ms (125 ∷ []) q m are
-        (begins_other 125 [] (λ is. omega arith)) k g)).0
+pub top_passed : (j : Json) (r : List ℕ) (p : Found) → HasNumbers j → IsFound p → BeginsOther r
+    → Lacks attributes_array (value_text j ++ r) → bytes_of p ≡ value_text j ++ r
+    → Passed p (value_text (decoded_top j)) r
+top_passed null r p n h other lacks e = (value_passed null r p n h other lacks e).0
+top_passed (boolean b) r p n h other lacks e = (value_passed (boolean b) r p n h other lacks e).0
+top_passed (number s) r p n h other lacks e = (value_passed (number s) r p n h other lacks e).0
+top_passed (string s) r p n h other lacks e = (value_passed (string s) r p n h other lacks e).0
+top_passed (array js) r p n h other lacks e = (value_passed (array js) r p n h other lacks e).0
+top_passed (object ms) r p n h other lacks e =
+    (object_passed true ms r p n h lacks e (λ q are g k. open_passed true false ms (125 ∷ r) q n are
+    (begins_other 125 r (λ is. omega arith)) k g)).0
 
 -- ---- a framed transform
 
@@ -87,25 +85,25 @@ joined_text later (member k i ms) j behind =
     still no_members = refl
     still (member l h ns) = refl
 
--- the parts of the text: before the frame, in it, and behind it
+-- the parts of the line: before the frame, and behind it
 abbrev pub text_before : Members → List ℕ
 text_before before = 123 ∷ (open_text false before ++ comma_if (follows false before))
 
 abbrev pub text_behind : Members → List ℕ
-text_behind behind = open_text true behind ++ 125 ∷ []
+text_behind behind = open_text true behind ++ 125 ∷ 10 ∷ []
 
-pub framed_text : (before inside behind : Members) → value_text (framed_top before inside behind)
+pub framed_text : (before inside behind : Members) → value_text (framed_top before inside behind) ++ 10 ∷ []
     ≡ text_before before ++ (transform_name ++ (frame_begin ++ (value_text (object inside) ++ (frame_end
     ++ text_behind behind))))
 unfolding escape_byte
 framed_text before inside behind =
-    ap (λ t. 123 ∷ t) (joined_text false before (framed (object inside)) behind)
-    ∙ ap (λ t. 123 ∷ t) (sym (append_assoc (open_text false before) (comma_if (follows false before)) _))
-    ∙ ap (λ t. text_before before ++ (transform_name ++ t)) (frame_parts (value_text (object inside))
-    (text_behind behind))
+    ap (λ t. 123 ∷ (t ++ 10 ∷ [])) (joined_text false before (framed (object inside)) behind)
+    ∙ ap (λ t. 123 ∷ t) (line_parts (open_text false before) (comma_if (follows false before)) transform_name
+    (value_text (object inside)) (open_text true behind))
   where
-    frame_parts : (x b : List ℕ) → (frame_begin ++ (x ++ frame_end)) ++ b ≡ frame_begin ++ (x ++ (frame_end ++ b))
-    frame_parts x b = grind (arith, append_assoc)
+    line_parts : (a c t x b : List ℕ) → (a ++ (c ++ (t ++ ((frame_begin ++ (x ++ frame_end)) ++ (b ++ 125 ∷ [])))))
+        ++ 10 ∷ [] ≡ (a ++ c) ++ (t ++ (frame_begin ++ (x ++ (frame_end ++ (b ++ 125 ∷ 10 ∷ [])))))
+    line_parts a c t x b = grind (arith, append_assoc)
 
 -- ---- its decoded text
 
@@ -131,28 +129,30 @@ no_number (member l h (member m g ns)) j behind = refl
 not_array : (ms : Members) → only (decoded (object ms)) ≡ decoded (object ms)
 not_array ms = grind arith
 
-decoded_text : (before inside behind : Members) → value_text (decoded_top (framed_top before inside behind))
+decoded_text : (before inside behind : Members)
+    → value_text (decoded_top (framed_top before inside behind)) ++ 10 ∷ []
     ≡ (123 ∷ (open_text false (decoded_members true before) ++ comma_if (follows false before)))
     ++ (transform_name ++ (value_text (decoded (object inside)) ++ (open_text true (decoded_members true behind)
-    ++ 125 ∷ [])))
+    ++ 125 ∷ 10 ∷ [])))
 decoded_text before inside behind =
     let db = decoded_members true before in
     let dh = decoded_members true behind in
     let x = decoded (object inside) in
-    ap value_text (ap (λ o. number_or o (decoded_members true (joined before (member (codes "transform")
-    (framed (object inside)) behind)))) (no_number before (object inside) behind) ∙ ap object
-    (decoded_joined before (object inside) behind ∙ ap (λ j. joined db (member (codes "transform") j dh))
+    ap (λ j. value_text j ++ 10 ∷ []) (ap (λ o. number_or o (decoded_members true (joined before
+    (member (codes "transform") (framed (object inside)) behind)))) (no_number before (object inside) behind)
+    ∙ ap object (decoded_joined before (object inside) behind ∙ ap (λ j. joined db (member (codes "transform") j dh))
     (not_array inside)))
-    ∙ ap (λ t. 123 ∷ t) (joined_text false db x dh)
-    ∙ ap (λ b. 123 ∷ (open_text false db ++ (comma_if b ++ (transform_name ++ (value_text x ++ (open_text true dh
-    ++ 125 ∷ [])))))) (same_follows false before)
-    ∙ ap (λ t. 123 ∷ t) (sym (append_assoc (open_text false db) (comma_if (follows false before)) _))
+    ∙ ap (λ t. 123 ∷ (t ++ 10 ∷ [])) (joined_text false db x dh)
+    ∙ ap (λ b. 123 ∷ ((open_text false db ++ (comma_if b ++ (transform_name ++ (value_text x ++ (open_text true dh
+    ++ 125 ∷ []))))) ++ 10 ∷ [])) (same_follows false before)
+    ∙ ap (λ t. 123 ∷ t) (line_parts (open_text false db) (comma_if (follows false before)) transform_name (value_text x)
+    (open_text true dh))
+  where
+    line_parts : (a c t x b : List ℕ) → (a ++ (c ++ (t ++ (x ++ (b ++ 125 ∷ []))))) ++ 10 ∷ []
+        ≡ (a ++ c) ++ (t ++ (x ++ (b ++ 125 ∷ 10 ∷ [])))
+    line_parts a c t x b = grind (arith, append_assoc)
 
 -- ---- what a search finds in the parts
-
-comma_begins : (later : Bool) (t : List ℕ) → BeginsOther (comma_if later ++ (transform_name ++ t))
-comma_begins true t u e = absurd (grind arith)
-comma_begins false t u e = absurd (grind arith)
 
 -- no encoded number begins at the brace: more members follow
 no_number_here : (before : Members) (s u : List ℕ) → MembersHaveNumbers before → escape s ≡ s
@@ -206,12 +206,13 @@ before_passed before p n h lacks e =
 
 behind_passed : (behind : Members) (p : Found) → MembersHaveNumbers behind → IsFound p
     → Lacks attributes_array (text_behind behind) → bytes_of p ≡ text_behind behind
-    → decoded_of p ≡ open_text true (decoded_members true behind) ++ 125 ∷ []
+    → decoded_of p ≡ open_text true (decoded_members true behind) ++ 125 ∷ 10 ∷ []
 behind_passed behind p n h lacks e =
     let made = open_text true (decoded_members true behind) in
-    let inside = open_passed true true behind (125 ∷ []) p n h (begins_other 125 [] (λ is. omega arith)) lacks e in
-    let end = passed_free (125 ∷ []) [] inside.0.left inside.0.are refl inside.0.text in
-    all_passed p (made ++ 125 ∷ []) (passed_then p made (125 ∷ []) (125 ∷ []) [] inside.0 end)
+    let last = 125 ∷ 10 ∷ [] in
+    let inside = open_passed true true behind last p n h (begins_other 125 (10 ∷ []) (λ is. omega arith)) lacks e in
+    let end = passed_free last [] inside.0.left inside.0.are refl inside.0.text in
+    all_passed p (made ++ last) (passed_then p made last last [] inside.0 end)
 
 numbers_joined : (before : Members) (j : Json) (behind : Members)
     → MembersHaveNumbers (joined before (member (codes "transform") j behind))
@@ -221,10 +222,12 @@ numbers_joined (member k i ms) j behind h =
     let rest = numbers_joined ms j behind h.1 in ((h.0, rest.0), rest.1, rest.2)
 
 pub framed_passed : (before inside behind : Members) (p q r : Found) → HasNumbers (framed_top before inside behind)
-    → IsFound p → IsFound q → IsFound r → Lacks attributes_array (value_text (framed_top before inside behind))
+    → IsFound p → IsFound q → IsFound r
+    → Lacks attributes_array (value_text (framed_top before inside behind) ++ 10 ∷ [])
     → bytes_of p ≡ text_before before ++ transform_name → bytes_of q ≡ value_text (object inside)
     → bytes_of r ≡ text_behind behind
-    → decoded_of p ++ (decoded_of q ++ decoded_of r) ≡ value_text (decoded_top (framed_top before inside behind))
+    → decoded_of p ++ (decoded_of q ++ decoded_of r)
+    ≡ value_text (decoded_top (framed_top before inside behind)) ++ 10 ∷ []
 framed_passed before inside behind p q r n hp hq hr lacks ep eq er =
     let numbers = numbers_joined before (framed (object inside)) behind n in
     let x = value_text (object inside) in
@@ -244,11 +247,6 @@ framed_passed before inside behind p q r n hp hq hr lacks ep eq er =
     ap₂ (λ a b. a ++ b) (before_passed before p numbers.0 hp in_front ep) (ap₂ (λ a b. a ++ b) value behind_it)
     ∙ append_assoc made transform_name _ ∙ sym (decoded_text before inside behind)
   where
-    lacks_front : (needle t rest : List ℕ) → Lacks needle (t ++ rest) → Lacks needle t
-    lacks_front needle t rest l a b f =
-        l a (b ++ rest) (ap (λ w. w ++ rest) f ∙ append_assoc a (needle ++ b) rest ∙ ap (λ w. a ++ w)
-        (append_assoc needle b rest))
-
     top_free : (ms : Members) (s : Found) → MembersHaveNumbers ms → IsFound s
         → Lacks attributes_array (value_text (object ms)) → bytes_of s ≡ value_text (object ms)
         → decoded_of s ≡ value_text (decoded (object ms))
@@ -275,23 +273,15 @@ parts_at a t f r text begin m n is la lt lf =
           (omega (arith, length-append a (t ++ f), length-append t f, la, lt, lf)),
     )
 
-pub rest_at : (x e b rest : List ℕ) (end k : ℕ) → rest ≡ x ++ (e ++ b) → length x ≡ end → length e ≡ k
-    → (take end rest ≡ x) × (take (length rest - (end + k)) (drop (end + k) rest) ≡ b)
-rest_at x e b rest end k is lx le = (
-  ap (take end) is ∙ take_at x (e ++ b) end lx,
-  behind_at (x ++ e) b rest (end + k) (is ∙ sym (append_assoc x e b)) (omega (arith, length-append x e, lx, le)),
-)
-
 -- ---- a printed line
 
-pub line_is : (is_framed : Bool) (j : Json) (line : List ℕ) → IsPrinted is_framed j line → line ≡ value_text j
-line_is is_framed j line p = p.2 ∙ text_printed j
+pub line_is : (j : Json) (line : List ℕ) → IsPrinted j line → line ≡ value_text j
+line_is j line p = p.2 ∙ text_printed j
 
-pub line_decoded : (is_framed : Bool) (j : Json) (line made : List ℕ) → IsPrinted is_framed j line
-    → made ≡ value_text (decoded_top j) → IsDecodedLine line made
-line_decoded is_framed j line made p e = (
+pub line_decoded : (j : Json) (line : List ℕ) → IsPrinted j line → IsDecodedLine line (value_text (decoded_top j))
+line_decoded j line p = (
   depth j,
   j,
   (p.0, ap (document_to (depth j)) p.2 ∙ read_again (depth j) j p.1 (omega arith)),
-  e ∙ sym (text_printed (decoded_top j)),
+  sym (text_printed (decoded_top j)),
 )

@@ -23,10 +23,12 @@ pub mod OneLine
 pub mod PassedItems
 pub mod PlainNumbers
 pub mod Prelude
+pub mod PrintedLines
 pub mod Puts
 pub mod RareBytes
 pub mod Rereads
 pub mod RoundTrip
+pub mod Sections
 pub mod Starts
 pub mod Streams
 pub mod Texts

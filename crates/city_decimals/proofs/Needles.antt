@@ -1,7 +1,8 @@
 -- Where bytes occur in a text, and what a text without them shows.
 use Rattle.city_decimals.proofs.Prelude.{◌≡◌, ℕ, ◌+◌, ◌<◌, ◌≤◌, List, ◌∷◌, ◌++◌, Bool, true, false, cond, refl, sym, ap}
 use Rattle.city_decimals.proofs.Prelude.{◌∙◌, arith, append_assoc, true≢false, codes, quoted, subst, ◌&&◌}
-use Rattle.city_decimals.proofs.Prelude.{bytes_eq-Decides, Option, Some, None, length, take, drop, drop-append-le, take_all}
+use Rattle.city_decimals.proofs.Prelude.{bytes_eq-Decides, Option, Some, None, get_or, length, take, drop}
+use Rattle.city_decimals.proofs.Prelude.{drop-append-le, take_all}
 use Rattle.city_decimals.proofs.Prelude.{length-drop, ap₂, ◌-◌}
 use Rattle.city_decimals.proofs.Prelude.{Json, null, boolean, number, string, array, object, fronted, only, is_tag, tag}
 use Rattle.city_decimals.proofs.Prelude.{is_attributes, is_single, has_shield, is_transform, out_of_form, value_text}
@@ -10,8 +11,8 @@ use Rattle.std.proofs.Common.{length-append, ◌⊎◌, inl, inr}
 use Rattle.std.proofs.lemmas.Bool.{cases_lt, cases_eq}
 use Rattle.std.proofs.lemmas.List.{take-append-drop}
 use lib.Seq.{take_at, drop_at}
-use Rattle.memchr.specs.Find.{OccursAt, FindsNeedle}
-use Rattle.memchr.proofs.lemmas.MatchLemmas.{OccursAt-from_part}
+use Rattle.memchr.specs.Find.{OccursAt, FindsNeedle, occurs_at}
+use Rattle.memchr.proofs.lemmas.MatchLemmas.{OccursAt-from_part, OccursAt-true}
 use Rattle.json.specs.Print.{escape_byte}
 use Rattle.city_decimals.specs.internal.Needles.{Lacks, IsOnly, tag_name, attributes_array}
 
@@ -22,8 +23,14 @@ occurs a needle b = OccursAt-from_part (a ++ (needle ++ b)) needle (length a)
     (omega (arith, length-append a (needle ++ b), length-append needle b))
     (ap (take (length needle)) (drop_at a (needle ++ b) (length a) refl) ∙ take_at needle b (length needle) refl)
 
-occurs_in : (text a needle b : List ℕ) → text ≡ a ++ (needle ++ b) → OccursAt text needle (length a)
+pub occurs_in : (text a needle b : List ℕ) → text ≡ a ++ (needle ++ b) → OccursAt text needle (length a)
 occurs_in text a needle b e = subst (λ t. OccursAt t needle (length a)) (sym e) (occurs a needle b)
+
+-- a part of a text without the bytes is without them
+pub lacks_front : (needle t rest : List ℕ) → Lacks needle (t ++ rest) → Lacks needle t
+lacks_front needle t rest l a b f =
+    l a (b ++ rest) (ap (λ w. w ++ rest) f ∙ append_assoc a (needle ++ b) rest ∙ ap (λ w. a ++ w)
+    (append_assoc needle b rest))
 
 pub lacks_found : (text needle : List ℕ) (r : Option ℕ) → FindsNeedle text needle 0 r → r ≡ None → Lacks needle text
 lacks_found text needle r found none a b e =
@@ -35,12 +42,15 @@ lacks_found text needle r found none a b e =
     )) (occurs_in text a needle b e)
 
 -- nothing stands before the first place
-pub lacks_before : (text needle : List ℕ) (at : ℕ) → FindsNeedle text needle 0 (Some at) → 0 < length needle → (front behind : List ℕ)
+pub lacks_before : (text needle : List ℕ) (at : ℕ) → FindsNeedle text needle 0 (Some at) → 0 < length needle
+    → (front behind : List ℕ)
     → text ≡ front ++ behind → length front ≤ at → Lacks needle front
 lacks_before text needle at found some front behind e small a b f =
     let whole : text ≡ a ++ (needle ++ (b ++ behind)) =
-    e ∙ ap (λ t. t ++ behind) f ∙ append_assoc a (needle ++ b) behind ∙ ap (λ t. a ++ t) (append_assoc needle b behind) in
-    let long : length a < at = omega (arith, ap length f, length-append a (needle ++ b), length-append needle b, small, some) in
+    e ∙ ap (λ t. t ++ behind) f ∙ append_assoc a (needle ++ b) behind
+    ∙ ap (λ t. a ++ t) (append_assoc needle b behind) in
+    let long : length a < at
+    = omega (arith, ap length f, length-append a (needle ++ b), length-append needle b, small, some) in
     found.0.before (length a) (omega arith) long (occurs_in text a needle (b ++ behind) whole)
 
 pub only_found : (text needle : List ℕ) (at : ℕ) → FindsNeedle text needle 0 (Some at)
@@ -104,3 +114,16 @@ form_left top k j r front none = at (top && is_transform k j)
     at : (b : Bool) → cond b (fronted r) (cond (has_shield k r) (only r) r) ≡ r
     at true = front
     at false = rw none refl
+
+-- ---- whether bytes are next
+
+pub no_other : (text bytes : List ℕ) (at : ℕ) → at < length bytes → (get_or text at 0 ≡ get_or bytes at 0 → ⊥)
+    → occurs_at text bytes 0 ≡ false
+no_other text bytes at within other = by (occurs_at text bytes 0) refl
+  where
+    by : (b : Bool) → occurs_at text bytes 0 ≡ b → occurs_at text bytes 0 ≡ false
+    by false e = e
+    by true e =
+        let zero : 0 + at ≡ at = omega arith in
+        absurd (other (subst (λ n. get_or text n 0 ≡ get_or bytes at 0) zero
+        ((OccursAt-true text bytes 0 e).reads at within)))

@@ -89,7 +89,9 @@ module _ (f : ℕ → Bool) (fails : FailsOnNumbers f) where
   head_off c t h e = without_first c t h (eqb-true (head t) c e)
 
   whole_left : (t : List ℕ) → Leaves (count f t) (after_whole t)
-  whole_left t = left_if _ (head t == 48) (Some (drop 1 t)) _ (head_off 48 t (fails.digits 48 (omega arith) (omega arith))) (digits_left t)
+  whole_left t =
+      left_if _ (head t == 48) (Some (drop 1 t)) _ (head_off 48 t (fails.digits 48 (omega arith) (omega arith)))
+      (digits_left t)
 
   fraction_left : (t : List ℕ) → Leaves (count f t) (after_fraction t)
   fraction_left t = left_if _ (head t == 46) _ (Some t)

@@ -1,6 +1,6 @@
 -- Lines, one after another.
 use Rattle.city_decimals.proofs.Prelude.{◌≡◌, ℕ, ◌+◌, ◌<◌, List, [], ◌∷◌, ◌++◌, length, take, drop, get_or, ap, refl}
-use Rattle.city_decimals.proofs.Prelude.{◌∙◌, sym, subst, suc, arith, append_assoc, Bool, Json, IsDecodedLine}
+use Rattle.city_decimals.proofs.Prelude.{◌∙◌, sym, subst, suc, arith, append_assoc, Json, IsDecodedLine}
 use Rattle.city_decimals.proofs.Prelude.{AreDecodedLines}
 use Rattle.std.proofs.Common.{◌⊎◌, inl, inr, length-append}
 use Rattle.std.proofs.Math.Seq.{split_at}
@@ -34,6 +34,13 @@ no_line_in [] (x ∷ xs) after h e = absurd (cc)
 no_line_in (x ∷ xs) [] after h e = h 0 (omega arith) (grind arith)
 no_line_in (x ∷ xs) (y ∷ ys) after h e = no_line_in xs ys after (rest_has_none x xs h) (grind arith)
 
+pub no_lines_left : (text : List ℕ) → HasPrintedLines text → HasNoNewline text → text ≡ []
+no_lines_left text of none = at of.lines of.text_is
+  where
+    at : (lines : List (List ℕ)) → text ≡ lines_text lines → text ≡ []
+    at [] is = is
+    at (l ∷ ls) is = absurd (no_line_in text l (lines_text ls) none is)
+
 -- a text has one first line
 one_first : (a b x y : List ℕ) → HasNoNewline a → HasNoNewline b → a ++ 10 ∷ x ≡ b ++ 10 ∷ y → (a ≡ b) × (x ≡ y)
 one_first [] [] x y h i e = (refl, grind arith)
@@ -43,17 +50,17 @@ one_first (a ∷ cs) (b ∷ bs) x y h i e =
     let both = one_first cs bs x y (rest_has_none a cs h) (rest_has_none b bs i) (grind arith) in grind arith
 
 -- the first of printed lines, and the others
-pub printed_line : (is_framed : Bool) (text line after : List ℕ) → HasPrintedLines is_framed text → HasNoNewline line
-    → text ≡ line ++ 10 ∷ after → ((j : Json) × IsPrinted is_framed j line) × HasPrintedLines is_framed after
-printed_line is_framed text line after of none e = at of.lines of.printed (sym of.text_is ∙ e)
+pub printed_line : (text line after : List ℕ) → HasPrintedLines text → HasNoNewline line → text ≡ line ++ 10 ∷ after
+    → ((j : Json) × IsPrinted j line) × HasPrintedLines after
+printed_line text line after of none e = at of.lines of.printed (sym of.text_is ∙ e)
   where
-    at : (lines : List (List ℕ)) → ArePrinted is_framed lines → lines_text lines of.rest ≡ line ++ 10 ∷ after
-        → ((j : Json) × IsPrinted is_framed j line) × HasPrintedLines is_framed after
-    at [] are f = absurd (no_line_in of.rest line after of.last f)
+    at : (lines : List (List ℕ)) → ArePrinted lines → lines_text lines ≡ line ++ 10 ∷ after
+        → ((j : Json) × IsPrinted j line) × HasPrintedLines after
+    at [] are f = absurd (no_line_in [] line after (λ k below. absurd (omega arith)) f)
     at (l ∷ ls) are f =
-        let same = one_first l line (lines_text ls of.rest) after are.0 none f in (
-          subst (λ t. (j : Json) × IsPrinted is_framed j t) same.0 are.1,
-          record { lines = ls; rest = of.rest; printed = are.2; last = of.last; text_is = sym same.1 },
+        let same = one_first l line (lines_text ls) after are.0 none f in (
+          subst (λ t. (j : Json) × IsPrinted j t) same.0 are.1,
+          record { lines = ls; printed = are.2; text_is = sym same.1 },
         )
 
 -- a line, after the earlier output

@@ -1,5 +1,5 @@
 -- Texts decoded line by line.
-use Rattle.std.specs.Prelude.{◌≡◌, ◌≢◌, ◌<◌, ℕ, Bool, true, List, [], ◌∷◌, ◌++◌, length, get_or, codes}
+use Rattle.std.specs.Prelude.{◌≡◌, ◌≢◌, ◌<◌, ◌≤◌, ℕ, Bool, true, List, [], ◌∷◌, ◌++◌, length, take, drop, get_or, codes}
 use Rattle.std.specs.Str.{IsUtf8}
 use Rattle.json.specs.Json.{Json, object, Members, no_members, member}
 use Rattle.json.specs.Print.{print}
@@ -57,25 +57,36 @@ framed_top before inside behind = object (joined before (member (codes "transfor
 abbrev pub IsFramedTop : Json → Type 0
 IsFramedTop j = (before inside behind : Members) × (j ≡ framed_top before inside behind)
 
--- the text is the compact text of this value, and of one with a framed transform if so
-abbrev pub IsPrinted : Bool → Json → List ℕ → Type 0
-IsPrinted is_framed j line =
-    IsUtf8 line × HasNumbers j × (line ≡ print (json_tokens j)) × (is_framed ≡ true → IsFramedTop j)
+-- the text is the compact text of this value
+abbrev pub IsPrinted : Json → List ℕ → Type 0
+IsPrinted j line = IsUtf8 line × HasNumbers j × (line ≡ print (json_tokens j))
 
-abbrev pub ArePrinted : Bool → List (List ℕ) → Type 0
-ArePrinted is_framed [] = Unit {0}
-ArePrinted is_framed (line ∷ lines) =
-    HasNoNewline line × ((j : Json) × IsPrinted is_framed j line) × ArePrinted is_framed lines
+abbrev pub ArePrinted : List (List ℕ) → Type 0
+ArePrinted [] = Unit {0}
+ArePrinted (line ∷ lines) = HasNoNewline line × ((j : Json) × IsPrinted j line) × ArePrinted lines
 
--- lines, each with its newline, and the rest
-abbrev pub lines_text : List (List ℕ) → List ℕ → List ℕ
-lines_text [] rest = rest
-lines_text (line ∷ lines) rest = line ++ 10 ∷ lines_text lines rest
+-- lines, each with its newline
+abbrev pub lines_text : List (List ℕ) → List ℕ
+lines_text [] = []
+lines_text (line ∷ lines) = line ++ 10 ∷ lines_text lines
 
 -- each line of the text is printed so
-pub record HasPrintedLines (is_framed : Bool) (text : List ℕ) : Type 0 where
+pub record HasPrintedLines (text : List ℕ) : Type 0 where
   pub lines : List (List ℕ)
-  pub rest : List ℕ
-  pub printed : ArePrinted is_framed lines
-  pub last : HasNoNewline rest
-  pub text_is : text ≡ lines_text lines rest
+  pub printed : ArePrinted lines
+  pub text_is : text ≡ lines_text lines
+
+-- the text is one line, of a value with a framed transform if so
+pub record IsPrintedModel (is_framed : Bool) (text : List ℕ) : Type 0 where
+  pub line : List ℕ
+  pub tree : Json
+  pub one : HasNoNewline line
+  pub printed : IsPrinted tree line
+  pub frame : is_framed ≡ true → IsFramedTop tree
+  pub text_is : text ≡ line ++ 10 ∷ []
+
+-- out is a report and a model, each line decoded; both reports stand in front, with so many bytes
+pub record IsDecodedOutput (text : List ℕ) (report : ℕ) (out : List ℕ) (decoded : ℕ) : Type 0 where
+  pub within : decoded ≤ length out
+  pub lines : AreDecodedLines (take report text) (take decoded out)
+  pub model : AreDecodedLines (drop report text) (drop decoded out)

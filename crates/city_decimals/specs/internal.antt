@@ -11,4 +11,5 @@ pub mod Newlines
 pub mod Objects
 pub mod Passed
 pub mod PlainNumbers
+pub mod Sections
 pub mod Streams

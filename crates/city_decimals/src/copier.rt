@@ -3,6 +3,7 @@ ghost use Rattle.std.specs.Prelude.{◌≡◌, ◌∷◌, ◌++◌, ◌+◌, ◌
 ghost use Rattle.std.specs.Prelude.{IfOk, IfErr, IfSome};
 ghost use Rattle.std.specs.Bool.{OnTrue};
 ghost use Rattle.std.specs.Str.{IsUtf8};
+ghost use Rattle.memchr.specs.Find.{occurs_at};
 ghost use Rattle.json.specs.Json.{Items};
 ghost use Rattle.json.specs.Print.{IsNumber, escape};
 ghost use Rattle.json.specs.Tree.{items_depth};
@@ -308,13 +309,25 @@ impl<'a> Copier<'a> {
     }
 }
 
-/// Whether the text begins with these bytes.
+/// Whether the text begins with these bytes, which are few. For so few, calls of the comparison of
+/// slices cost more than the loop.
 #[inline(always)]
 pub(crate) fn begins_with(text: &[u8], bytes: &[u8]) -> bool
     ensures len { OnTrue result (length bytes.now ≤ length text.now) }
     ensures value { OnTrue result (take (length bytes.now) text.now ≡ bytes.now) }
+    ensures occurs { result ≡ occurs_at text.now bytes.now 0 }
 {
-    text.len() >= bytes.len() && &text[..bytes.len()] == bytes
+    if text.len() < bytes.len() {
+        return false;
+    }
+    let mut at = 0;
+    while at < bytes.len() {
+        if text[at] != bytes[at] {
+            return false;
+        }
+        at += 1;
+    }
+    true
 }
 
 /// Whether the next item is a string or an object, or there is none.

@@ -16,6 +16,7 @@ mod decoding;
 mod direction;
 mod encoding;
 mod fault;
+mod in_place;
 mod laws;
 mod lines;
 mod needle;

@@ -1,59 +1,73 @@
-//! Decodes printed lines, such as a report and a model.
-ghost use Rattle.std.specs.Prelude.{◌≡◌, ◌++◌, ℕ, List, IfOk};
+//! Decodes printed lines: a report and a model.
+ghost use Rattle.std.specs.Prelude.{◌≡◌, ◌++◌, ◌≤◌, ℕ, List, IfOk, length, take, drop};
 ghost use Rattle.json.specs.Json.{Json};
-ghost use Rattle.city_decimals.specs.Lines.{AreDecodedBehind, IsDecodedLine, IsPrinted, HasPrintedLines};
+ghost use Rattle.city_decimals.specs.Lines.{AreDecodedBehind, HasPrintedLines, IsDecodedLine, IsDecodedOutput};
+ghost use Rattle.city_decimals.specs.Lines.{IsPrinted, IsPrintedModel};
 ghost use Rattle.city_decimals.specs.internal.Newlines.{IsFirstNewline};
 
 use crate::OutOfMemory;
 use crate::direction::Direction;
 use crate::fault::DecimalsFault;
-use crate::search::decode_by_search;
+use crate::in_place::decode_in_place;
+use crate::search::find_sections;
 use crate::transcode::transcode_onto;
 use json::Scratch;
 use memchr::memchr;
 use std::alloc::Global;
 
-/// Appends the text to the buffer, each line decoded. The bytes after the last newline stay as they
-/// are. Each line is the compact text of a value, and if `is_framed` of one with a framed transform.
+/// Decodes each line of an output, mostly in its own memory: a report, which is its first `report`
+/// bytes, and a model in one line, with a framed transform if `is_framed`. Each line is the compact
+/// text of a value. Returns the output and the number of bytes of its report.
 ///
 /// The stack has to be enough for the nesting of the lines.
 pub fn decode_lines(
     alloc: Global,
-    bytes: &[u8],
+    output: Vec<u8>,
+    report: usize,
     is_framed: bool,
-    buffer: Vec<u8>,
-) -> Result<Vec<u8>, OutOfMemory>
-    requires { HasPrintedLines is_framed bytes.now }
-    ensures { IfOk result (λ v. AreDecodedBehind buffer.items bytes.now v.items) }
+) -> Result<(Vec<u8>, usize), OutOfMemory>
+    requires within { report ≤ length output.items }
+    requires lines { HasPrintedLines (take report output.items) }
+    requires model { IsPrintedModel is_framed (drop report output.items) }
+    ensures { IfOk result (λ r. IsDecodedOutput output.items report r.0.items r.1) }
+{
+    if let Some(frame) = find_sections(output.as_slice(), report, is_framed) {
+        return Ok(decode_in_place(output, report, &frame));
+    }
+    let (lines, model) = output.as_slice().split_at(report);
+    let mut out = Vec::with_capacity(alloc, output.len())?;
+    out = append_decoded(alloc, lines, out)?;
+    let decoded = out.len();
+    out = append_decoded(alloc, model, out)?;
+    Ok((out, decoded))
+}
+
+/// Appends the text to the buffer, each line decoded.
+fn append_decoded(alloc: Global, text: &[u8], buffer: Vec<u8>) -> Result<Vec<u8>, OutOfMemory>
+    requires { HasPrintedLines text.now }
+    ensures { IfOk result (λ v. AreDecodedBehind buffer.items text.now v.items) }
 {
     let mut scratch = Scratch::new(alloc);
     let mut out = buffer;
-    out.reserve(bytes.len())?;
-    let mut rest = bytes;
+    let mut rest = text;
     while let Some(at) = first_newline(rest) {
-        out = decode_line(alloc, &rest[..at], is_framed, &mut scratch, out)?;
+        out = append_line(alloc, &rest[..at], &mut scratch, out)?;
         out.extend_from_slice(b"\n")?;
         rest = &rest[at + 1..];
     }
-    out.extend_from_slice(rest)?;
     Ok(out)
 }
 
 /// Appends the decoded line to the buffer.
-fn decode_line(
+fn append_line(
     alloc: Global,
     line: &[u8],
-    is_framed: bool,
     scratch: &mut Scratch,
     out: Vec<u8>,
 ) -> Result<Vec<u8>, OutOfMemory>
-    requires { (j : Json) × IsPrinted is_framed j line.now }
+    requires { (j : Json) × IsPrinted j line.now }
     ensures { IfOk result (λ v. (made : List ℕ) × IsDecodedLine line.now made × (v.items ≡ out.items ++ made)) }
 {
-    let out = match decode_by_search(line, is_framed, out) {
-        Ok(decoded) => return Ok(decoded),
-        Err(out) => out,
-    };
     // No line nests deeper than it is long.
     match transcode_onto(alloc, Direction::Decode, line, line.len(), scratch, out) {
         Ok(decoded) => Ok(decoded),

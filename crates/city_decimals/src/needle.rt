@@ -6,6 +6,7 @@ ghost use Rattle.std.specs.Prelude.{◌≡◌, ◌+◌, ◌<◌, ◌≤◌, leng
 ghost use Rattle.memchr.specs.Find.{FindsNeedle, IsFirstByte, is_byte, occurs_at};
 ghost use Rattle.city_decimals.specs.internal.Needles.{Lacks, IsOnly};
 
+use crate::copier::begins_with;
 use memchr::memchr;
 
 /// The first place of the bytes in the text. The byte at index `rare` of them is looked for first.
@@ -30,7 +31,7 @@ pub(crate) fn find(text: &[u8], needle: &[u8], rare: usize) -> Option<usize>
 
 /// The first place of the byte. Where the byte isn't rare, the next is at hand, and no search begins.
 #[inline(always)]
-fn next_byte(text: &[u8], byte: u8) -> Option<usize>
+pub(crate) fn next_byte(text: &[u8], byte: u8) -> Option<usize>
     ensures { IsFirstByte (is_byte byte) text.now result }
 {
     if !text.is_empty() && text[0] == byte {
@@ -39,16 +40,13 @@ fn next_byte(text: &[u8], byte: u8) -> Option<usize>
     memchr(byte, text)
 }
 
-/// Whether the bytes occur at this place. Most others are told by their first byte.
+/// Whether the bytes occur at this place.
 #[inline(always)]
 fn occurs_at(text: &[u8], needle: &[u8], at: usize) -> bool
-    requires within { at ≤ length text.now }
-    requires some { 0 < length needle.now }
+    requires { at ≤ length text.now }
     ensures { result ≡ occurs_at text.now needle.now at }
 {
-    needle.len() <= text.len() - at
-        && text[at] == needle[0]
-        && &text[at..at + needle.len()] == needle
+    begins_with(&text[at..], needle)
 }
 
 /// Whether the bytes occur nowhere in the text.

@@ -1,10 +1,10 @@
-//! Decodes printed texts by searches: nearly all bytes are passed unread.
-ghost use Rattle.std.specs.Prelude.{◌≡◌, ◌+◌, ◌<◌, ◌≤◌, ◌++◌, ◌∷◌, ℕ, List, true, length, IfOk, IfErr, IfSome};
-ghost use Rattle.json.specs.Json.{Json};
-ghost use Rattle.json.specs.Print.{IsNumber, escape};
-ghost use Rattle.city_decimals.specs.Lines.{IsDecodedLine, IsPrinted};
+//! Finds by searches what is decoded of printed texts: nearly all bytes are passed unread.
+ghost use Rattle.std.specs.Prelude.{◌≡◌, ◌≤◌, true, length, take, drop, IfSome};
+ghost use Rattle.json.specs.Print.{IsNumber};
+ghost use Rattle.city_decimals.specs.Lines.{HasPrintedLines, IsPrintedModel};
+ghost use Rattle.city_decimals.specs.internal.Found.{IsNumberAt};
 ghost use Rattle.city_decimals.specs.internal.Needles.{Lacks, attributes_array};
-ghost use Rattle.city_decimals.specs.internal.Found.{Found, bytes_of, decoded_of, IsFound, number_begin};
+ghost use Rattle.city_decimals.specs.internal.Sections.{AreSections, HasNumbersAlone, IsFrameOf};
 
 use crate::compact::{FRAME_END, NUMBER_BEGIN, NUMBER_END};
 use crate::copier::{begins_with, number_end};
@@ -13,7 +13,7 @@ use crate::numbers::is_number;
 use crate::text::text_of;
 
 /// The tag as a name.
-const TAG: &[u8] = b"\"#\":";
+pub(crate) const TAG: &[u8] = b"\"#\":";
 
 /// The name of the attributes, with an array, which may be a shield.
 const ATTRIBUTES_ARRAY: &[u8] = b"\"attributes\":[";
@@ -25,7 +25,7 @@ const FRAMED_TRANSFORM: &[u8] = b"\"transform\":{\"#\":";
 
 /// The indices of `#` in the tag and in the name of the transform, of `b` in that of the attributes,
 /// and of `c` in a frame's end: each is the rarest byte.
-const RARE_IN_TAG: usize = 1;
+pub(crate) const RARE_IN_TAG: usize = 1;
 
 const RARE_IN_TRANSFORM: usize = 14;
 
@@ -33,88 +33,93 @@ const RARE_IN_ATTRIBUTES: usize = 6;
 
 const RARE_IN_FRAME_END: usize = 3;
 
-/// Appends the decoded line to the buffer. The line is a printed text, with a framed transform if
-/// `is_framed`. Otherwise returns `Err` with the buffer unchanged: for a form not known here, or if
-/// memory runs out.
-pub(crate) fn decode_by_search(
-    line: &[u8],
-    is_framed: bool,
-    out: Vec<u8>,
-) -> Result<Vec<u8>, Vec<u8>>
-    requires { (j : Json) × IsPrinted is_framed j line.now }
-    ensures ok { IfOk result (λ v. (made : List ℕ) × IsDecodedLine line.now made × (v.items ≡ out.items ++ made)) }
-    ensures err { IfErr result (λ v. v.items ≡ out.items) }
-{
-    let base = out.len();
-    let mut out = out;
-    if decode(line, is_framed, &mut out).is_none() {
-        out.truncate(base);
-        return Err(out);
-    }
-    Ok(out)
+/// What begins the frame of a transform in an output, and what ends it, as indices. Without a frame
+/// all are the length of the output.
+#[derive(Drop)]
+pub(crate) struct Frame {
+    /// Where the frame begins, and the transform in it.
+    pub(crate) begin: usize,
+    pub(crate) inside: usize,
+    /// Where the transform ends, and the frame.
+    pub(crate) end: usize,
+    pub(crate) behind: usize,
 }
 
-/// Appends the decoded line.
-fn decode(line: &[u8], is_framed: bool, out: &mut Vec<u8>) -> Option<()>
-    requires { (j : Json) × IsPrinted is_framed j line.now }
-    ensures appended { (more : List ℕ) × (out.new.items ≡ out.old.items ++ more) }
-    ensures decoded { IfSome result (λ _. (made : List ℕ) × IsDecodedLine line.now made
-        × (out.new.items ≡ out.old.items ++ made)) }
+/// The frame of a printed output that can be decoded in its own memory; its report is the first
+/// `report` bytes. `None` for a form not known here.
+pub(crate) fn find_sections(output: &[u8], report: usize, is_framed: bool) -> Option<Frame>
+    requires within { report ≤ length output.now }
+    requires lines { HasPrintedLines (take report output.now) }
+    requires model { IsPrintedModel is_framed (drop report output.now) }
+    ensures { IfSome result (AreSections report output.now) }
 {
-    if !lacks(line, ATTRIBUTES_ARRAY, RARE_IN_ATTRIBUTES) {
+    if !lacks(output, ATTRIBUTES_ARRAY, RARE_IN_ATTRIBUTES) {
         return None;
     }
-    if is_framed {
-        decode_framed(line, out)
+    let frame = find_frame(output, report, is_framed)?;
+    if has_numbers_alone(&output[..report])
+        && has_numbers_alone(&output[report..frame.begin])
+        && has_numbers_alone(&output[frame.inside..frame.end])
+        && has_numbers_alone(&output[frame.behind..])
+    {
+        Some(frame)
     } else {
-        append_decoded(line, out)
+        None
     }
 }
 
-/// Appends the decoded line: what stands before the frame, in it and behind it.
-fn decode_framed(line: &[u8], out: &mut Vec<u8>) -> Option<()>
-    requires printed { (j : Json) × IsPrinted true j line.now }
-    requires plain { Lacks attributes_array line.now }
-    ensures appended { (more : List ℕ) × (out.new.items ≡ out.old.items ++ more) }
-    ensures decoded { IfSome result (λ _. (made : List ℕ) × IsDecodedLine line.now made
-        × (out.new.items ≡ out.old.items ++ made)) }
+/// The frame of the transform, if there has to be one.
+fn find_frame(output: &[u8], report: usize, is_framed: bool) -> Option<Frame>
+    requires within { report ≤ length output.now }
+    requires model { IsPrintedModel is_framed (drop report output.now) }
+    requires plain { Lacks attributes_array (drop report output.now) }
+    ensures { IfSome result (IsFrameOf report output.now) }
 {
-    let begin = only_place(line, FRAMED_TRANSFORM, RARE_IN_TRANSFORM)?;
-    let rest = &line[begin + FRAMED_TRANSFORM.len()..];
-    let end = only_place(rest, FRAME_END, RARE_IN_FRAME_END)?;
-    append_decoded(&line[..begin + TRANSFORM.len()], out)?;
-    append_decoded(&rest[..end], out)?;
-    append_decoded(&rest[end + FRAME_END.len()..], out)
+    if !is_framed {
+        let len = output.len();
+        return Some(Frame {
+            begin: len,
+            inside: len,
+            end: len,
+            behind: len,
+        });
+    }
+    let model = &output[report..];
+    let at = only_place(model, FRAMED_TRANSFORM, RARE_IN_TRANSFORM)?;
+    let rest = &model[at + FRAMED_TRANSFORM.len()..];
+    let len = only_place(rest, FRAME_END, RARE_IN_FRAME_END)?;
+    let inside = report + at + FRAMED_TRANSFORM.len();
+    Some(Frame {
+        begin: report + at + TRANSFORM.len(),
+        inside,
+        end: inside + len,
+        behind: inside + len + FRAME_END.len(),
+    })
 }
 
-/// Appends the text, with the numbers in place of the encoded ones.
-fn append_decoded(text: &[u8], out: &mut Vec<u8>) -> Option<()>
-    ensures appended { (more : List ℕ) × (out.new.items ≡ out.old.items ++ more) }
-    ensures decoded { IfSome result (λ _. (p : Found) × IsFound p × (bytes_of p ≡ text.now)
-        × (out.new.items ≡ out.old.items ++ decoded_of p)) }
+/// Whether the tag stands only in encoded numbers.
+fn has_numbers_alone(text: &[u8]) -> bool
+    ensures { result ≡ true → HasNumbersAlone text.now }
 {
     let mut rest = text;
     while let Some(at) = find(rest, TAG, RARE_IN_TAG) {
-        let (before, number, behind) = encoded_number(rest, at)?;
-        out.extend_from_slice(before).ok()?;
-        out.extend_from_slice(number).ok()?;
+        let Some(behind) = behind_number(rest, at) else {
+            return false;
+        };
         rest = behind;
     }
-    out.extend_from_slice(rest).ok()
+    true
 }
 
-/// What stands before the encoded number with its tag at this index, the number, and what stands
-/// behind.
-fn encoded_number(text: &[u8], at: usize) -> Option<(&[u8], &[u8], &[u8])>
+/// What stands behind the encoded number with its tag at this index.
+fn behind_number(text: &[u8], at: usize) -> Option<&[u8]>
     requires { at ≤ length text.now }
-    ensures text { IfSome result (λ r. text.now ≡ r.0.now ++ (number_begin ++ (r.1.now ++ 34 ∷ 125 ∷ r.2.now))) }
-    ensures before { IfSome result (λ r. length r.0.now < at) }
-    ensures number { IfSome result (λ r. IsNumber r.1.now × (escape r.1.now ≡ r.1.now)) }
+    ensures { IfSome result (λ r. IsNumberAt text.now at r.now) }
 {
     if at == 0 {
         return None;
     }
-    let (before, encoded) = text.split_at(at - 1);
+    let encoded = &text[at - 1..];
     if !begins_with(encoded, NUMBER_BEGIN) {
         return None;
     }
@@ -123,7 +128,7 @@ fn encoded_number(text: &[u8], at: usize) -> Option<(&[u8], &[u8], &[u8])>
     if !begins_with(end, NUMBER_END) || !is_number_text(number) {
         return None;
     }
-    Some((before, number, &end[NUMBER_END.len()..]))
+    Some(&end[NUMBER_END.len()..])
 }
 
 /// Whether the bytes are a number of JSON.

@@ -1,5 +1,5 @@
 -- Texts with encoded numbers, found by a search.
-use Rattle.std.specs.Prelude.{◌≡◌, ℕ, List, [], ◌∷◌, ◌++◌, Bool, true}
+use Rattle.std.specs.Prelude.{◌≡◌, ◌+◌, ℕ, List, [], ◌∷◌, ◌++◌, Bool, true, length}
 use Rattle.json.specs.Json.{Members, no_members, member}
 use Rattle.json.specs.Print.{escape, quoted, IsNumber}
 use Rattle.city_decimals.specs.internal.Compact.{value_text, comma_if}
@@ -34,6 +34,15 @@ AreFound last (p ∷ ps) = Lacks tag_name p.0 × IsNumber p.1 × (escape p.1 ≡
 -- the tag stands nowhere else
 abbrev pub IsFound : Found → Type 0
 IsFound p = AreFound p.1 p.0
+
+-- an encoded number has its tag here, with this behind it
+pub record IsNumberAt (text : List ℕ) (at : ℕ) (behind : List ℕ) : Type 0 where
+  pub before : List ℕ
+  pub number : List ℕ
+  pub is : IsNumber number
+  pub plain : escape number ≡ number
+  pub place : length before + 1 ≡ at
+  pub text_is : text ≡ before ++ (number_begin ++ (number ++ 34 ∷ 125 ∷ behind))
 
 -- members without the closing brace; `later` if one stands before
 abbrev pub open_text : Bool → Members → List ℕ

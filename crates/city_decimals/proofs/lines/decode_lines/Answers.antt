@@ -1,52 +1,28 @@
-use Rattle.city_decimals.proofs.Prelude.{refl, ◌≡◌, ◌+◌, ◌-◌, ◌∷◌, [], ◌++◌, length, take, drop, sym, ap, ◌∙◌}
-use Rattle.city_decimals.proofs.Prelude.{subst, arith, take_all, length-drop, append_assoc, AreDecodedLines}
-use Rattle.city_decimals.proofs.OneLine.{rest_of, one_line, done_with, printed_line}
-use Rattle.city_decimals.specs.Lines.{AreDecodedBehind}
+use Rattle.city_decimals.proofs.Prelude.{◌≡◌, ◌++◌, ◌∙◌, [], ℕ, List, sym, ap, subst, take, drop, length, rules}
+use Rattle.city_decimals.proofs.Prelude.{AreDecodedLines}
+use Rattle.city_decimals.specs.Lines.{AreDecodedBehind, HasPrintedLines}
+use Rattle.city_decimals.proofs.PrintedLines.{output_decoded, model_lines}
 use Rattle.city_decimals.proofs.lines.decode_lines.Goals as goal
 
-pub decode_line-requires : goal.decode_line-requires
-decode_line-requires c =
-    let l = c.loop-at in
-    let all = l.rest.now in
-    let n = c.in-Some.at in
-    let found = c.in-Some.ensures in
-    (printed_line c.args.is_framed all (take n all) (drop (n + 1) all) l.invariant.printed found.2
-    (rest_of all n found.0 found.1)).0
+-- behind nothing stand the decoded lines alone
+alone : (before text out : List ℕ) → before ≡ [] → AreDecodedBehind before text out → AreDecodedLines text out
+alone before text out none (more, is, decoded) =
+    subst (AreDecodedLines text) (sym (is ∙ ap (λ b. b ++ more) none)) decoded
 
-pub loop-at-preserved : goal.loop-at-preserved
-loop-at-preserved c =
-    let l = c.loop-at in
-    let all = l.rest.now in
-    let n = c.in-Some.at in
-    let line = take n all in
-    let d = c.in_ok-out.ensures in
-    let made = d.0 in
-    let after = take (length all - (n + 1)) (drop (n + 1) all) in
-    let found = c.in-Some.ensures in
-    let same : after ≡ drop (n + 1) all = take_all (length all - (n + 1)) (drop (n + 1) all) (omega
-    (arith, length-drop (n + 1) all)) in
-    let all_is : all ≡ line ++ 10 ∷ after = rest_of all n found.0 found.1 ∙ ap (λ t. line ++ 10 ∷ t) (sym same) in
-    let written : c.extend_from_slice.new.self.items ≡ l.out.items ++ (made ++ 10 ∷ [])
-    = c.in_ok-extend_from_slice.ensures.items ∙ ap (λ t. t ++ 10 ∷ []) d.2 ∙ append_assoc l.out.items made (10 ∷ []) in
-    record {
-      within = omega (arith, l.invariant.within, ap length same, length-drop (n + 1) all);
-      printed = (printed_line c.args.is_framed all line after l.invariant.printed found.2 all_is).1;
-      ready = λ more h.
-          let one = subst (λ r. AreDecodedLines r (made ++ 10 ∷ more)) (sym all_is)
-          (one_line line made after more found.2 d.1 h) in
-          subst (AreDecodedBehind c.args.buffer.items c.args.bytes.now) (done_with l.out.items made more
-          ∙ ap (λ t. t ++ more) (sym written)) (l.invariant.ready (made ++ 10 ∷ more) one);
-    }
+pub append_decoded-requires-2 : goal.append_decoded-requires-2
+append_decoded-requires-2 c =
+    subst HasPrintedLines (sym (c.split_at.ensures.back ∙ ap (drop c.args.report) c.as_slice-2.ensures.value))
+    (model_lines c.args.is_framed (drop c.args.report c.args.output.items) c.requires.model)
 
 pub returns : goal.returns
 returns c =
-    let l = c.loop-at in
-    subst (AreDecodedBehind c.args.buffer.items c.args.bytes.now) (sym c.in_ok-extend_from_slice-2.ensures.items)
-    (l.invariant.ready l.rest.now (record {
-      pairs = [];
-      rest = l.rest.now;
-      decoded = tt;
-      last = c.in_default.ensures;
-      text_is = refl;
-      out_is = refl;
-    }))
+    let text = c.args.output.items in
+    let n = c.args.report in
+    let lines = c.in_ok-out-2.out.items in
+    let front = c.split_at.ensures.front ∙ ap (take n) c.as_slice-2.ensures.value in
+    let back = c.split_at.ensures.back ∙ ap (drop n) c.as_slice-2.ensures.value in
+    let behind = c.in_ok-out-3.ensures in
+    let len : c.len-decoded.result ≡ length lines = search rules in
+    output_decoded text c.in_ok-out-3.out.items lines behind.0 n c.len-decoded.result behind.1 len
+    (subst (λ t. AreDecodedLines t lines) front (alone _ _ _ c.in_ok-out.ensures.items c.in_ok-out-2.ensures))
+    (subst (λ t. AreDecodedLines t behind.0) back behind.2)

@@ -1,4 +1,5 @@
-use Rattle.city_decimals.proofs.Prelude.{rules, ◌≡◌, ◌+◌, ◌-◌, length, drop, take, take_all, length-drop, subst, Some, None, arith, false}
+use Rattle.city_decimals.proofs.Prelude.{rules, ◌≡◌, ◌+◌, ◌-◌, length, drop, take, take_all, length-drop, subst, Some}
+use Rattle.city_decimals.proofs.Prelude.{None, arith, false}
 use Rattle.std.specs.Prelude.{slice_index}
 use Rattle.memchr.specs.Find.{IsFirstByte, is_byte, occurs_at}
 use Rattle.memchr.proofs.lemmas.MatchLemmas.{OccursAt-true}

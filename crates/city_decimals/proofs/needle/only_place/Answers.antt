@@ -1,4 +1,5 @@
-use Rattle.city_decimals.proofs.Prelude.{rules, ◌≡◌, ◌+◌, ◌-◌, length, drop, take, take_all, length-drop, subst, Some, arith}
+use Rattle.city_decimals.proofs.Prelude.{rules, ◌≡◌, ◌+◌, ◌-◌, length, drop, take, take_all, length-drop, subst, Some}
+use Rattle.city_decimals.proofs.Prelude.{arith}
 use Rattle.memchr.specs.Find.{FindsNeedle}
 use Rattle.city_decimals.proofs.Needles.{only_found}
 use Rattle.city_decimals.specs.internal.Needles.{Lacks}

@@ -1,7 +1,7 @@
 use Rattle.city_decimals.proofs.Prelude.{rules, ◌≡◌, ◌≤◌, ◌∙◌, ap, length, arith, depth, document_to, Some, None}
 use Rattle.city_decimals.proofs.CompactTexts.{read_again, text_printed}
 use Rattle.city_decimals.proofs.Depths.{value_shallow}
-use Rattle.city_decimals.proofs.lines.decode_line.Goals as goal
+use Rattle.city_decimals.proofs.lines.append_line.Goals as goal
 
 pub unreachable-requires : goal.unreachable-requires
 unreachable-requires c =
