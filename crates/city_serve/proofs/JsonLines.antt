@@ -1,9 +1,9 @@
 -- Lines of JSON are printed lines, and so is the line of a model.
-use Rattle.std.proofs.Common.{◌≡◌, ℕ, Bool, true, false, List, [], ◌∷◌, ◌++◌, length, refl, sym, ap, ◌∙◌, arith, append_assoc}
+use Rattle.std.proofs.Common.{◌≡◌, ℕ, Bool, true, List, [], ◌∷◌, ◌++◌, refl, sym, ap, ◌∙◌, arith, append_assoc}
 use Rattle.std.proofs.Common.{append-nil, subst}
 use Rattle.std.specs.Prelude.{flat_map}
 use Rattle.std.specs.List.{AllByRecursion}
-use Rattle.city_decimals.specs.Lines.{HasNoNewline, ArePrinted, IsPrinted, IsFramedTop, HasPrintedLines, lines_text}
+use Rattle.city_decimals.specs.Lines.{HasNoNewline, ArePrinted, IsFramedTop, HasPrintedLines, IsPrintedModel, lines_text}
 use Rattle.city_decimals.proofs.CompactTexts.{text_printed}
 use Rattle.city_decimals.proofs.OneLine.{printed_line}
 use Rattle.json.specs.Json.{Json}
@@ -27,25 +27,23 @@ joined lines = flat_map (λ line. line ++ 10 ∷ []) lines
 none_in_print : (j : Json) (line : List ℕ) → HasNumbers j → line ≡ print (json_tokens j) → HasNoNewline line
 none_in_print j line numbers is = no_newline line (ap newlines (is ∙ text_printed j) ∙ value_free j numbers)
 
-all_printed : (lines : List (List ℕ)) → AllByRecursion IsCompactJson lines → ArePrinted false lines
+all_printed : (lines : List (List ℕ)) → AllByRecursion IsCompactJson lines → ArePrinted lines
 all_printed [] json = tt
 all_printed (l ∷ ls) json =
     let c = json.0 in (
       none_in_print c.tree l c.numbers c.text_is,
-      (c.tree, (c.utf8, c.numbers, c.text_is, λ no_frame. absurd (cc))),
+      (c.tree, (c.utf8, c.numbers, c.text_is)),
       all_printed ls json.1,
     )
 
-joined_is : (lines : List (List ℕ)) → joined lines ≡ lines_text lines []
+joined_is : (lines : List (List ℕ)) → joined lines ≡ lines_text lines
 joined_is [] = refl
 joined_is (l ∷ ls) = append_assoc l (10 ∷ []) (joined ls) ∙ ap (λ t. l ++ 10 ∷ t) (joined_is ls)
 
-pub printed_lines : (text : List ℕ) → AreJsonLines text → HasPrintedLines false text
+pub printed_lines : (text : List ℕ) → AreJsonLines text → HasPrintedLines text
 printed_lines text are = record {
   lines = are.lines;
-  rest = [];
   printed = all_printed are.lines are.json;
-  last = λ k below. absurd (omega arith);
   text_is = are.text_is ∙ joined_is are.lines;
 }
 
@@ -58,7 +56,7 @@ numbers_of tree text is =
 
 pub model_line : (is_framed : Bool) (city : CityValue) (text : List ℕ) → text ≡ city_text city ++ 10 ∷ []
     → AreJsonLines text → tokens (city_text city) ≡ tokens_of (tree_of city)
-    → (is_framed ≡ true → IsFramedTop (outline (tree_of city))) → HasPrintedLines is_framed text
+    → (is_framed ≡ true → IsFramedTop (outline (tree_of city))) → IsPrintedModel is_framed text
 unfolding city_text
 model_line is_framed city text is are lexed frame =
     let line = city_text city in
@@ -66,11 +64,12 @@ model_line is_framed city text is are lexed frame =
     let numbers = numbers_of tree line lexed in
     let line_is : line ≡ print (json_tokens tree) = sym (print-outline (tree_of city)) in
     let none = none_in_print tree line numbers line_is in
-    let printed = printed_line false text line [] (printed_lines text are) none is in
+    let printed = printed_line text line [] (printed_lines text are) none is in
     record {
-      lines = line ∷ [];
-      rest = [];
-      printed = (none, (tree, (printed.0.1.0, numbers, line_is, frame)), tt);
-      last = λ k below. absurd (omega arith);
+      line = line;
+      tree = tree;
+      one = none;
+      printed = (printed.0.1.0, numbers, line_is);
+      frame = frame;
       text_is = is;
     }

@@ -52,10 +52,8 @@ pub(crate) fn run_decimals<R: Threads + Wait + Sync, G: Gate + Sync>(
     encode_text(alloc, &mut texts.document)?;
     encode_text(alloc, &mut texts.scripts)?;
     let (output, city) = run_whole(rt, alloc, gate, seed, texts, options)?;
-    let (report, model) = output.bytes.as_slice().split_at(output.report);
-    let decoded = decode_lines(alloc, report, false, Vec::new(alloc))?;
-    let report = decoded.len();
-    let bytes = decode_lines(alloc, model, has_frame(city.frame()), decoded)?;
+    let Output { bytes, report, .. } = output;
+    let (bytes, report) = decode_lines(alloc, bytes, report, has_frame(city.frame()))?;
     let output = Output {
         bytes,
         report,
