@@ -14,6 +14,7 @@ of the kinds with many faults --check has to tell each.
 - Sets on an object of 10,000 points may ask for twice the bytes of sets on one of 10, since they share its geometry.
 - A text of one long attribute may ask for 4.6 times its bytes: it is read into memory that doubles, the attribute is
   one more copy, and the model is written where the text was.
+- With `--decimals` a run may use 1.15 times the memory of one without, since the output is decoded in its own memory.
 - An object of one attribute may hold 200 bytes more at once than one without, its text among them, and one whose
   attribute is an object of one member 300. A map has room for eleven members, which would be 848 bytes.
 - Where scripts meet, sixteen workers may take 1.5 times the processor time of one.
@@ -25,7 +26,7 @@ of the kinds with many faults --check has to tell each.
   with `--decimals`: they may take 1.05 times those of files without one. With `--decimals` a model of whole numbers
   with a transform in fractions may take 1.27 times those of a whole one without, since its text is decoded by searches,
   and a report of many reads 1.4 times.
-  A text of nothing but a byte that a search looks for may take 5 times those of a text of others.
+  A text of nothing but a byte that a search looks for may take 7 times those of a text of others.
 
 Prints one line for each kind, and ends with status 1 where one took more or ended otherwise.
 """
@@ -57,10 +58,18 @@ MOST_OF_RUNS = 1.2
 MOST_OF_A_NEWLINE = 1.05
 MOST_OF_A_FRAME = 1.27
 MOST_OF_READS = 1.4
-MOST_OF_RARE_BYTES = 5
+MOST_OF_RARE_BYTES = 7
+MOST_IN_PLACE = 1.15
 FINE = {"scale": [0.001, 0.001, 0.001], "translate": [0.5, 0, 0]}
 MOST_OF_A_TEXT = 4.6
 OF_ONE_ATTRIBUTE = {"an attribute": ({"n": 1}, 200), "a member inside an attribute": ({"k": {"n": 1}}, 300)}
+SMALL_PARENT = """
+import os, sys
+quiet = [(os.POSIX_SPAWN_OPEN, 1, os.devnull, os.O_WRONLY, 0)]
+child = os.posix_spawn(sys.argv[1], sys.argv[1:], os.environ, file_actions=quiet)
+_, status, used = os.wait4(child, 0)
+print(used.ru_maxrss if status == 0 else sys.maxsize)
+"""
 REFUSED = (growth.repeated_child, growth.open_solid)
 COLLIDING = {growth.colliding_points: 2_000, growth.colliding_replies: 500}
 UNORDERED = {growth.many_members: 3_000, growth.inner_members: 3_000}
@@ -105,6 +114,12 @@ class Counted:
         subprocess.run([self.path, *options, *self.names(texts)], capture_output=True, check=True, timeout=120)
         after = resource.getrusage(resource.RUSAGE_CHILDREN)
         return after.ru_utime - before.ru_utime + after.ru_stime - before.ru_stime
+
+    def peak(self, texts, *options):
+        """How much memory a run has in use at most, in KiB. A small process starts it: a child's peak is at least that
+        of its parent when it was started."""
+        words = [sys.executable, "-c", SMALL_PARENT, self.path, *options, *self.names(texts)]
+        return int(subprocess.run(words, capture_output=True, check=True, timeout=120).stdout)
 
     def switches(self, texts, *options):
         """How often the threads of a run leave their cores to wait, and the run."""
@@ -194,6 +209,24 @@ def few_take_little_room(program, count, what, *options):
     each = (many - few) / count
     name = f"{count:,} roads with {what}{' by ' + ' '.join(options) if options else ''}"
     return say(each <= limit and first and last, f"{name}: {each:.0f} bytes more at once for each")
+
+
+def decoded_in_place(program, count, scripts):
+    """Whether an output is decoded in its own memory: a model, one with a frame, one with fractions, and a report."""
+    road = lambda length: {"type": "Road", "attributes": {"length": length, "remark": "x" * 400}}
+    model = lambda length: growth.model({f"r{at:06}": road(length) for at in range(count)})
+    reads = [growth.script([{"read": f"r{at:06}"} for at in range(500)])] * scripts
+    kept = True
+    for name, document, listed in (
+        (f"{count:,} roads", model(7), []),
+        (f"{count:,} roads and a fine transform", {**model(7), "transform": FINE}, []),
+        (f"{count:,} roads with a fraction each", model(0.5), []),
+        (f"{scripts} scripts of 500 reads", model(7), reads),
+    ):
+        bare, held = program.peak((model(7), listed)), program.peak((document, listed), "--decimals")
+        told = f"{name}: {bare:,} KiB at most, {held:,} with --decimals, {held / bare:.3f} times"
+        kept = say(held <= MOST_IN_PLACE * bare, told) and kept
+    return kept
 
 
 def geometries_are_shared(program, sets, edit, *options):
@@ -334,6 +367,7 @@ def main():
             kept += [model_takes_the_text(program, length, *options) for length in (1_000_000, 8_000_000)]
             for what in OF_ONE_ATTRIBUTE:
                 kept += [few_take_little_room(program, count, what, *options) for count in (1_000, 20_000)]
+        kept += [decoded_in_place(program, *sizes) for sizes in ((10_000, 20), (60_000, 200))]
         kept += [cities_are_given_back(program, scenarios, times) for scenarios in sys.argv[2:] for times in (2, 5)]
         kept += [workers_sleep(program, count, scripts) for count, scripts in ((300, 200), (900, 60))]
         kept += [workers_seldom_switch(program, count, scripts) for count, scripts in ((1_000, 100), (8, 4_000))]
