@@ -22,7 +22,7 @@ use Rattle.city_decimals.proofs.Needles.{occurs_in, lacks_found}
 use Rattle.city_decimals.proofs.NumberBytes.{FailsOnNumbers, count, first_fails, later_fail, number_free}
 use Rattle.city_decimals.specs.internal.Needles.{Lacks, tag_name}
 use Rattle.city_decimals.specs.internal.Sections.{AreSections, IsMoved, IsDecodedTo}
-use Rattle.city_decimals.specs.declared.search.Frame.{Frame}
+use Rattle.city_decimals.specs.declared.search.FrameIndices.{FrameIndices}
 use Rattle.city_decimals.specs.Lines.{IsDecodedOutput}
 use Rattle.city_decimals.proofs.PrintedLines.{output_decoded}
 
@@ -31,6 +31,9 @@ drop_both a b xs ys le is =
     let sum : a + (b - a) ≡ b = omega arith in
     ap (λ n. drop n xs) (sym sum) ∙ sym (drop-drop (b - a) a xs) ∙ ap (drop (b - a)) is ∙ drop-drop (b - a) a ys
     ∙ ap (λ n. drop n ys) sum
+
+grouped : (a b d e : List ℕ) → ((a ++ b) ++ d) ++ e ≡ a ++ (b ++ (d ++ e))
+grouped a b d e = append_assoc (a ++ b) d e ∙ append_assoc a b (d ++ e)
 
 -- ---- moving bytes down
 
@@ -289,9 +292,6 @@ module _ (old now : List ℕ) (from to count at end left tag : ℕ) (within : fr
             ∙ grouped (take end now) first.front first.number (decoded_of first.left)
             ∙ ap (λ t. take end now ++ t) (sym first.out) ∙ h.decoded;
       }
-        where
-          grouped : (o b n r : List ℕ) → ((o ++ b) ++ n) ++ r ≡ o ++ (b ++ (n ++ r))
-          grouped o b n r = append_assoc (o ++ b) n r ∙ append_assoc o b (n ++ r)
 
 -- ---- the end of a section
 
@@ -319,7 +319,7 @@ whole_section old now new from to count at end left h none m = record {
 
 -- ---- all sections
 
-module _ (report : ℕ) (text one two : List ℕ) (f : Frame) (h : AreSections report text f) (lines second : ℕ)
+module _ (report : ℕ) (text one two : List ℕ) (f : FrameIndices) (h : AreSections report text f) (lines second : ℕ)
     (first_is : IsDecodedTo text 0 0 report one lines)
     (second_is : IsDecodedTo one report lines (f.begin - report) two second) where
   behind_lines : drop report one ≡ drop report text
@@ -369,6 +369,3 @@ module _ (report : ℕ) (text one two : List ℕ) (f : Frame) (h : AreSections r
           (second_is.text ∙ ap (take (f.begin - report)) behind_lines)
           (third_is.text ∙ ap (take (f.end - f.inside)) behind_front)
           (fourth_is.text ∙ ap (take (length text - f.behind)) behind_inside))
-        where
-          grouped : (a b d e : List ℕ) → ((a ++ b) ++ d) ++ e ≡ a ++ (b ++ (d ++ e))
-          grouped a b d e = append_assoc (a ++ b) d e ∙ append_assoc a b (d ++ e)

@@ -38,10 +38,6 @@ pub record AreDecodedLines (text out : List ℕ) : Type 0 where
   pub text_is : text ≡ first_text pairs rest
   pub out_is : out ≡ second_text pairs rest
 
--- out has each line of the text decoded, behind these bytes
-abbrev pub AreDecodedBehind : List ℕ → List ℕ → List ℕ → Type 0
-AreDecodedBehind before text out = (more : List ℕ) × (out ≡ before ++ more) × AreDecodedLines text more
-
 -- ---- printed lines
 
 -- the members, with others behind them
@@ -85,7 +81,8 @@ pub record IsPrintedModel (is_framed : Bool) (text : List ℕ) : Type 0 where
   pub frame : is_framed ≡ true → IsFramedTop tree
   pub text_is : text ≡ line ++ 10 ∷ []
 
--- out is a report and a model, each line decoded; both reports stand in front, with so many bytes
+-- out has each line of the text decoded, those of the report in front: it is the first `report` bytes of the text, and
+-- the first `decoded` of out
 pub record IsDecodedOutput (text : List ℕ) (report : ℕ) (out : List ℕ) (decoded : ℕ) : Type 0 where
   pub within : decoded ≤ length out
   pub lines : AreDecodedLines (take report text) (take decoded out)

@@ -5,13 +5,17 @@ ghost use Rattle.city_decimals.specs.internal.Sections.{AreSections, HasNumbersA
 
 use crate::compact::{NUMBER_BEGIN, NUMBER_END};
 use crate::needle::{find, next_byte};
-use crate::search::{Frame, RARE_IN_TAG, TAG};
+use crate::search::{FrameIndices, RARE_IN_TAG, TAG};
 
 /// How many bytes move at once.
 const BUFFER_SIZE: usize = 1024;
 
 /// The decoded output, and the length of its report. `report` is that of the given one.
-pub(crate) fn decode_in_place(output: Vec<u8>, report: usize, frame: &Frame) -> (Vec<u8>, usize)
+pub(crate) fn decode_in_place(
+    output: Vec<u8>,
+    report: usize,
+    frame: &FrameIndices,
+) -> (Vec<u8>, usize)
     requires { AreSections report output.items frame.now }
     ensures { IsDecodedOutput output.items report result.0.items result.1 }
 {
@@ -22,7 +26,7 @@ pub(crate) fn decode_in_place(output: Vec<u8>, report: usize, frame: &Frame) -> 
 }
 
 /// Decodes all sections to the front. Returns the length of the decoded report, and of all.
-fn decode_sections(text: &mut [u8], report: usize, frame: &Frame) -> (usize, usize)
+fn decode_sections(text: &mut [u8], report: usize, frame: &FrameIndices) -> (usize, usize)
     requires { AreSections report text.old frame.now }
     ensures within { result.1 ≤ length text.new }
     ensures decoded { IsDecodedOutput text.old report (take result.1 text.new) result.0 }

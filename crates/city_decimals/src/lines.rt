@@ -1,9 +1,10 @@
 //! Decodes printed lines: a report and a model.
 ghost use Rattle.std.specs.Prelude.{◌≡◌, ◌++◌, ◌≤◌, ℕ, List, IfOk, length, take, drop};
 ghost use Rattle.json.specs.Json.{Json};
-ghost use Rattle.city_decimals.specs.Lines.{AreDecodedBehind, HasPrintedLines, IsDecodedLine, IsDecodedOutput};
-ghost use Rattle.city_decimals.specs.Lines.{IsPrinted, IsPrintedModel};
+ghost use Rattle.city_decimals.specs.Lines.{HasPrintedLines, IsDecodedLine, IsDecodedOutput, IsPrinted};
+ghost use Rattle.city_decimals.specs.Lines.{IsPrintedModel};
 ghost use Rattle.city_decimals.specs.internal.Newlines.{IsFirstNewline};
+ghost use Rattle.city_decimals.specs.internal.Sections.{AreDecodedBehind};
 
 use crate::OutOfMemory;
 use crate::direction::Direction;

@@ -36,7 +36,7 @@ const RARE_IN_FRAME_END: usize = 3;
 /// What begins the frame of a transform in an output, and what ends it, as indices. Without a frame
 /// all are the length of the output.
 #[derive(Drop)]
-pub(crate) struct Frame {
+pub(crate) struct FrameIndices {
     /// Where the frame begins, and the transform in it.
     pub(crate) begin: usize,
     pub(crate) inside: usize,
@@ -47,7 +47,7 @@ pub(crate) struct Frame {
 
 /// The frame of a printed output that can be decoded in its own memory; its report is the first
 /// `report` bytes. `None` for a form not known here.
-pub(crate) fn find_sections(output: &[u8], report: usize, is_framed: bool) -> Option<Frame>
+pub(crate) fn find_sections(output: &[u8], report: usize, is_framed: bool) -> Option<FrameIndices>
     requires within { report ≤ length output.now }
     requires lines { HasPrintedLines (take report output.now) }
     requires model { IsPrintedModel is_framed (drop report output.now) }
@@ -69,7 +69,7 @@ pub(crate) fn find_sections(output: &[u8], report: usize, is_framed: bool) -> Op
 }
 
 /// The frame of the transform, if there has to be one.
-fn find_frame(output: &[u8], report: usize, is_framed: bool) -> Option<Frame>
+fn find_frame(output: &[u8], report: usize, is_framed: bool) -> Option<FrameIndices>
     requires within { report ≤ length output.now }
     requires model { IsPrintedModel is_framed (drop report output.now) }
     requires plain { Lacks attributes_array (drop report output.now) }
@@ -77,7 +77,7 @@ fn find_frame(output: &[u8], report: usize, is_framed: bool) -> Option<Frame>
 {
     if !is_framed {
         let len = output.len();
-        return Some(Frame {
+        return Some(FrameIndices {
             begin: len,
             inside: len,
             end: len,
@@ -89,7 +89,7 @@ fn find_frame(output: &[u8], report: usize, is_framed: bool) -> Option<Frame>
     let rest = &model[at + FRAMED_TRANSFORM.len()..];
     let len = only_place(rest, FRAME_END, RARE_IN_FRAME_END)?;
     let inside = report + at + FRAMED_TRANSFORM.len();
-    Some(Frame {
+    Some(FrameIndices {
         begin: report + at + TRANSFORM.len(),
         inside,
         end: inside + len,

@@ -1,8 +1,12 @@
 -- An output in sections that are decoded one by one, in the memory of the output.
 use Rattle.std.specs.Prelude.{◌≡◌, ◌+◌, ◌-◌, ◌≤◌, ℕ, List, ◌++◌, length, take, drop}
 use Rattle.city_decimals.specs.Lines.{AreDecodedLines}
-use Rattle.city_decimals.specs.declared.search.Frame.{Frame}
+use Rattle.city_decimals.specs.declared.search.FrameIndices.{FrameIndices}
 use Rattle.city_decimals.specs.internal.Found.{Found, bytes_of, decoded_of, IsFound}
+
+-- out has each line of the text decoded, behind these bytes
+abbrev pub AreDecodedBehind : List ℕ → List ℕ → List ℕ → Type 0
+AreDecodedBehind before text out = (more : List ℕ) × (out ≡ before ++ more) × AreDecodedLines text more
 
 -- the tag stands only in encoded numbers
 abbrev pub HasNumbersAlone : List ℕ → Type 0
@@ -13,7 +17,7 @@ abbrev pub section : ℕ → ℕ → List ℕ → List ℕ
 section from to text = take (to - from) (drop from text)
 
 -- the model is decoded if what begins the frame and what ends it is left out, and each section is decoded
-pub record IsFrameOf (report : ℕ) (text : List ℕ) (f : Frame) : Type 0 where
+pub record IsFrameOf (report : ℕ) (text : List ℕ) (f : FrameIndices) : Type 0 where
   pub begin : report ≤ f.begin
   pub inside : f.begin ≤ f.inside
   pub end : f.inside ≤ f.end
@@ -24,7 +28,7 @@ pub record IsFrameOf (report : ℕ) (text : List ℕ) (f : Frame) : Type 0 where
       → AreDecodedLines (drop report text) (decoded_of p ++ (decoded_of q ++ decoded_of r))
 
 -- and so is the report, and each section can be decoded
-pub record AreSections (report : ℕ) (text : List ℕ) (f : Frame) : Type 0 where
+pub record AreSections (report : ℕ) (text : List ℕ) (f : FrameIndices) : Type 0 where
   pub frame : IsFrameOf report text f
   pub lines : (p : Found) → IsFound p → bytes_of p ≡ take report text
       → AreDecodedLines (take report text) (decoded_of p)

@@ -2,7 +2,7 @@ use Rattle.city_decimals.proofs.Prelude.{◌≡◌, ◌+◌, ◌-◌, ◌∷◌,
 use Rattle.city_decimals.proofs.Prelude.{subst, arith, take_all, length-drop, append_assoc, append-nil, AreDecodedLines}
 use Rattle.city_decimals.proofs.OneLine.{rest_of, one_line, done_with, printed_line, no_lines_left}
 use Rattle.city_decimals.proofs.PrintedLines.{no_lines}
-use Rattle.city_decimals.specs.Lines.{AreDecodedBehind}
+use Rattle.city_decimals.specs.internal.Sections.{AreDecodedBehind}
 use Rattle.city_decimals.proofs.lines.append_decoded.Goals as goal
 
 pub append_line-requires : goal.append_line-requires

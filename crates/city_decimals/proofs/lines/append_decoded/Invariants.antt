@@ -1,5 +1,6 @@
 use Rattle.city_decimals.proofs.Prelude.{ℕ, ◌≤◌, List, ◌++◌, length, AreDecodedLines}
-use Rattle.city_decimals.specs.Lines.{AreDecodedBehind, HasPrintedLines}
+use Rattle.city_decimals.specs.Lines.{HasPrintedLines}
+use Rattle.city_decimals.specs.internal.Sections.{AreDecodedBehind}
 use Rattle.city_decimals.proofs.lines.append_decoded.Given as goal
 
 -- the decoding of the rest goes after the earlier output

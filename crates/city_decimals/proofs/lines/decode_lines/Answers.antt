@@ -1,6 +1,7 @@
 use Rattle.city_decimals.proofs.Prelude.{◌≡◌, ◌++◌, ◌∙◌, [], ℕ, List, sym, ap, subst, take, drop, length, rules}
 use Rattle.city_decimals.proofs.Prelude.{AreDecodedLines}
-use Rattle.city_decimals.specs.Lines.{AreDecodedBehind, HasPrintedLines}
+use Rattle.city_decimals.specs.Lines.{HasPrintedLines}
+use Rattle.city_decimals.specs.internal.Sections.{AreDecodedBehind}
 use Rattle.city_decimals.proofs.PrintedLines.{output_decoded, model_lines}
 use Rattle.city_decimals.proofs.lines.decode_lines.Goals as goal
 
