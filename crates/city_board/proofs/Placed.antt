@@ -5,7 +5,7 @@ use Rattle.city_board.proofs.Prelude.{changed, changed_apart, changed_there, sam
 use Rattle.std.proofs.Common.{get_or}
 use Rattle.std.proofs.lemmas.List.Folds.{list_any-append, list_any_at}
 use Rattle.city_model.specs.declared.object.Object.{Object}
-use Rattle.city_model.proofs.Ids.{same_id_true}
+use Rattle.city_members.proofs.Ids.{same_id_true}
 
 -- an id outside a list is none of its ids
 pub apart_from : (ids : List (List ℕ)) (n : ℕ) (id q : List ℕ) → n < length ids → id ≡ get_or ids n id

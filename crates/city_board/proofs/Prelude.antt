@@ -9,7 +9,7 @@ pub use mathlib.Core.List.{IsPrefix}
 pub use Rattle.left_right.specs.Sides.{view}
 pub use Rattle.city_locks.proofs.Ids.{has_id_more}
 pub use Rattle.city_model.proofs.Changed.{changed_apart, changed_there}
-pub use Rattle.city_model.proofs.Ids.{same_id_back}
+pub use Rattle.city_members.proofs.Ids.{same_id_back}
 pub use Rattle.city_model.proofs.Writing.{at_after, same_map, shown_more}
 pub use Rattle.city_model.specs.CityMap.{CityMap, CityValue, changed, has_id, object_at, same_id}
 pub use Rattle.city_model.specs.Relations.{IsLawful}

@@ -6,10 +6,10 @@ ghost use Rattle.city_model.specs.Runs.{after_change};
 ghost use Rattle.city_board.specs.internal.Versions.{city_with};
 
 use crate::places::make_places;
+use city_members::text::Id;
 use city_model::change::Change;
 use city_model::city::City;
 use city_model::object::Object;
-use city_model::text::Id;
 use std::alloc::Global;
 
 /// Writes the change into the city. If memory runs out, the city is unchanged, and the change comes

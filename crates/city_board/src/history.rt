@@ -36,7 +36,7 @@ pub struct History {
 impl Model for History {
     ghost use Rattle.std.specs.Prelude.{◌≡◌, length};
     ghost use Rattle.std.specs.Coded.{codes};
-    ghost use Rattle.city_model.specs.internal.DataCode.{coded_members};
+    ghost use Rattle.city_members.specs.internal.DataCode.{coded_members};
     ghost use Rattle.city_board.specs.HistoryValue.{HistoryValue, history_of};
 
     ghost Value = { HistoryValue };
@@ -115,7 +115,7 @@ pub struct Addition {
 impl Model for Addition {
     ghost use Rattle.std.specs.Prelude.{◌≡◌, [], ◌∷◌, ◌++◌, length, None};
     ghost use Rattle.std.specs.Coded.{codes};
-    ghost use Rattle.city_model.specs.internal.DataCode.{coded_members};
+    ghost use Rattle.city_members.specs.internal.DataCode.{coded_members};
     ghost use Rattle.city_board.specs.HistoryValue.{HistoryValue, history_of};
 
     ghost Value = { HistoryValue };

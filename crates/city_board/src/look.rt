@@ -22,7 +22,7 @@ impl Model for Look {
     ghost use Rattle.std.specs.Prelude.{◌≡◌};
     ghost use Rattle.std.specs.Coded.{codes};
     ghost use Rattle.left_right.specs.Sides.{view as view_of};
-    ghost use Rattle.city_model.specs.internal.DataCode.{coded_members};
+    ghost use Rattle.city_members.specs.internal.DataCode.{coded_members};
     ghost use Rattle.city_txn.specs.internal.Codes.{coded_objects};
     ghost use Rattle.city_board.specs.internal.BoardRule.{known_from};
     ghost use Rattle.city_board.specs.BoardValues.{ViewerValue};

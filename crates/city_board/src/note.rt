@@ -12,7 +12,7 @@ pub struct Note {
 
 impl Model for Note {
     ghost use Rattle.std.specs.Coded.{codes};
-    ghost use Rattle.city_model.specs.internal.DataCode.{coded_members};
+    ghost use Rattle.city_members.specs.internal.DataCode.{coded_members};
     ghost use Rattle.city_board.specs.HistoryValue.{HistoryValue};
 
     ghost Value = { HistoryValue };

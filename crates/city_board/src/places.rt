@@ -4,11 +4,11 @@ ghost use Rattle.std.specs.Prelude.{if◌then◌else◌};
 ghost use Rattle.std.specs.Map.{keys_of};
 ghost use Rattle.city_model.specs.CityMap.{object_at, has_id};
 
+use city_members::copied::Copied;
+use city_members::text::Id;
 use city_model::OutOfMemory;
 use city_model::change::Change;
 use city_model::city::City;
-use city_model::copied::Copied;
-use city_model::text::Id;
 use city_txn::placeholder::placeholder;
 use std::alloc::Global;
 

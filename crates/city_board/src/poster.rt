@@ -41,7 +41,7 @@ impl<R: Wait + Drop> Model for Poster<R> {
     ghost use Rattle.std.specs.Prelude.{◌≡◌, ◌++◌, drop, IfSome};
     ghost use mathlib.Core.List.{IsPrefix};
     ghost use Rattle.std.specs.Coded.{codes};
-    ghost use Rattle.city_model.specs.internal.DataCode.{coded_members};
+    ghost use Rattle.city_members.specs.internal.DataCode.{coded_members};
     ghost use Rattle.city_txn.specs.internal.Codes.{coded_objects};
     ghost use Rattle.left_right.specs.Sides.{view as view_of};
     ghost use Rattle.city_board.specs.internal.BoardRule.{HoldsEdits};

@@ -1,10 +1,10 @@
 //! A version of the city, for viewers to look at and the poster to write.
 use crate::apply::apply;
 use crate::history::History;
+use city_members::copied::Copied;
 use city_model::OutOfMemory;
 use city_model::change::Change;
 use city_model::city::City;
-use city_model::copied::Copied;
 use city_scheduler::OpeningCity;
 use left_right::Absorb;
 use std::alloc::Global;

@@ -6,8 +6,8 @@ use Rattle.city_canonical.proofs.Prelude.{outline, encoded, decoded, is_eq-slice
 use Rattle.city_canonical.proofs.Members.{Numbers, numbers_at}
 use Rattle.std.specs.Prelude.{◌↔◌}
 use Rattle.serde_json.specs.Find.{as_object}
-use Rattle.city_model.specs.Attributes.{attributes, attributes_in, with_attributes, is_value, are_among, members_of}
-use Rattle.city_model.proofs.SameValues.{value_same, same_values}
+use Rattle.city_members.specs.Attributes.{attributes, attributes_in, with_attributes, is_value, are_among, members_of}
+use Rattle.city_members.proofs.SameValues.{value_same, same_values}
 use Rattle.city_decimals.specs.Attributes.{append, leave_out, leave_out_each, AreRead, AreAmong, member_read}
 use Rattle.city_decimals.proofs.Edits.{found_read, object_alone, set_kept, unset_kept, none_read, expect_kept}
 use Rattle.city_decimals.proofs.Edits.{place_kept}
@@ -15,9 +15,9 @@ use Rattle.city_decimals.proofs.Rereads.{member_readable}
 use Rattle.city_decimals.proofs.Wholes.{integral, whole}
 use Rattle.city_canonical.specs.Edited.{attributes_given, unless_none, or_none, EditsAlike}
 use Rattle.city_canonical.specs.Edited as given
-use Rattle.city_model.specs.Attributes as model
-use Rattle.city_model.specs.Integral as model_integral
-use Rattle.city_model.specs.Members as model_members
+use Rattle.city_members.specs.Attributes as model
+use Rattle.city_members.specs.Integral as model_integral
+use Rattle.city_members.specs.Members as model_members
 use Rattle.city_decimals.specs.Attributes as own
 use Rattle.city_decimals.specs.Whole as own_whole
 use Rattle.json.specs.Json as json

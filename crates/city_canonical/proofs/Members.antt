@@ -14,10 +14,10 @@ use Rattle.std.specs.Ordering.{match_ordering}
 use Rattle.std.proofs.lemmas.Bool.{and_from}
 use Rattle.std.proofs.lemmas.Map.Lookups.{exact_bytes}
 use Rattle.serde_json.proofs.Views.{get_member-put}
-use Rattle.city_model.specs.Members.{without, AllAbove}
-use Rattle.city_model.proofs.Ids.{same_id_itself, same_id_back}
-use Rattle.city_model.proofs.MemberLists.{ordered_without}
-use Rattle.city_model.proofs.MemberLaws.{get_member-without, get_member-without_same}
+use Rattle.city_members.specs.Members.{without, AllAbove}
+use Rattle.city_members.proofs.Ids.{same_id_itself, same_id_back}
+use Rattle.city_members.proofs.MemberLists.{ordered_without}
+use Rattle.city_members.proofs.MemberLaws.{get_member-without, get_member-without_same}
 use Rattle.city_decimals.specs.Shapes.{form_of, in_form, is_triple, is_frame, framed}
 use Rattle.city_decimals.proofs.Kept.{kept, kept_at, transform_kept}
 use Rattle.city_doc.proofs.Laws.{get_member-put_apart, ordered_put, HasFrameParts}

@@ -35,9 +35,9 @@ pub use Rattle.city_writer.specs.internal.tree.PartTokens.{listed}
 pub use Rattle.city_writer.specs.object.Canonical.{object_data}
 pub use Rattle.city_writer.specs.shape.Canonical.{boundaries_data}
 pub use Rattle.city_writer.specs.shape.Vertices.{vertex_data}
-pub use Rattle.city_model.proofs.Ids.{by_id}
+pub use Rattle.city_members.proofs.Ids.{by_id}
 pub use Rattle.city_model.specs.CityMap.{CityValue, has_id, same_id}
-pub use Rattle.city_model.specs.Members.{AreOrdered}
+pub use Rattle.city_members.specs.Members.{AreOrdered}
 pub use Rattle.city_model.specs.declared.object.Geometry.{Geometry}
 pub use Rattle.city_model.specs.declared.object.Object.{Object}
 pub use Rattle.city_model.specs.declared.object.Point.{Point}

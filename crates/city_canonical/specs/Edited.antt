@@ -3,7 +3,7 @@ use Rattle.std.specs.Prelude.{◌≡◌, ◌↔◌, ℕ, List, Option, Some, Non
 use Rattle.json.specs.Tree.{MembersHaveNumbers}
 use Rattle.serde_json.specs.Data.{object, Members}
 use Rattle.serde_json.specs.Written.{outline}
-use Rattle.city_model.specs.Attributes.{attributes, attributes_in, with_set, with_unset, has_attributes}
+use Rattle.city_members.specs.Attributes.{attributes, attributes_in, with_set, with_unset, has_attributes}
 use Rattle.city_decimals.specs.Decoded.{decoded}
 use Rattle.city_decimals.specs.Arranged.{arranged, arranged_members}
 use Rattle.city_decimals.specs.Arranged as spec

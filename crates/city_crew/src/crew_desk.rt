@@ -13,11 +13,11 @@ use crate::fault::CrewFault;
 use crate::ghosts::origin::Origin;
 use crate::sleepers::Sleepers;
 use city_board::Viewer;
+use city_members::sequence::Sequence;
 use city_model::OutOfMemory;
 use city_model::city::City;
 use city_model::end::{End, Outcome};
 use city_model::script::Script;
-use city_model::sequence::Sequence;
 use city_scheduler::{Desk, Finished, Turn};
 use std::alloc::Global;
 use std::marker::{Model, PhantomData};
@@ -47,7 +47,7 @@ pub struct CrewDesk<R: Wait + Drop, O: Origin> {
 impl<R: Wait + Drop, O: Origin> Model for CrewDesk<R, O> {
     ghost use Rattle.std.specs.Prelude.{◌≡◌};
     ghost use Rattle.std.specs.Coded.{codes};
-    ghost use Rattle.city_model.specs.internal.DataCode.{coded_members};
+    ghost use Rattle.city_members.specs.internal.DataCode.{coded_members};
     ghost use Rattle.city_txn.specs.internal.Codes.{coded_objects};
     ghost use Rattle.city_scheduler.specs.DeskState.{DeskState};
 

@@ -6,10 +6,10 @@ ghost use Rattle.city_writer.specs.document.Canonical.{city_text};
 ghost use Rattle.city_writer.specs.report.Reports.{report_text};
 
 use city_doc::{Pieces, append_city, append_city_by, append_report, append_report_by};
+use city_members::sequence::Sequence;
 use city_model::OutOfMemory;
 use city_model::city::City;
 use city_model::end::End;
-use city_model::sequence::Sequence;
 use std::alloc::Global;
 use std::thread::Threads;
 

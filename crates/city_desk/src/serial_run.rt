@@ -15,10 +15,10 @@ use crate::fault::RunFault;
 use crate::output::{Output, output_bytes};
 use crate::texts::read_texts;
 use city_doc::FIXED_SEED;
+use city_members::sequence::Sequence;
 use city_model::OutOfMemory;
 use city_model::city::City;
 use city_model::script::Script;
-use city_model::sequence::Sequence;
 use city_scheduler::run_each;
 use std::alloc::Global;
 

@@ -6,8 +6,8 @@ ghost use Rattle.serde_json.specs.View.{view, items_of, items_view, members_view
 ghost use Rattle.serde_json.specs.Written.{has_float, items_have_float, members_have_float};
 ghost use Rattle.city_writer.specs.shape.Vertices.{vertex_data};
 
+use city_members::members::members_count;
 use city_model::OutOfMemory;
-use city_model::members::members_count;
 use city_model::object::Point;
 use serde_json::{Map, Value};
 use std::alloc::Global;
@@ -25,7 +25,7 @@ impl Model for Details {
     ghost use Rattle.serde_json.specs.Data.{Members};
     ghost use Rattle.serde_json.specs.View.{members_view};
     ghost use Rattle.serde_json.specs.Written.{members_have_float};
-    ghost use Rattle.city_model.specs.internal.DataCode.{coded_members};
+    ghost use Rattle.city_members.specs.internal.DataCode.{coded_members};
 
     ghost Value = { Members };
 
@@ -37,7 +37,7 @@ impl Model for Details {
 }
 
 impl Details {
-    ghost use Rattle.city_model.specs.Members.{AreOrdered};
+    ghost use Rattle.city_members.specs.Members.{AreOrdered};
 
     /// No members.
     pub fn new(alloc: Global) -> Details

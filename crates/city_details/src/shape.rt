@@ -14,8 +14,8 @@ mod walk;
 
 use crate::diagnostic::Diagnostic;
 use crate::quoted::Quoted;
+use city_members::kept::site::has_location;
 use city_model::OutOfMemory;
-use city_model::kept::site::has_location;
 pub use geometry::tell_bad_geometry;
 pub use position::tell_bad_vertex;
 use serde_json::Value;

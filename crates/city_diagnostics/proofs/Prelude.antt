@@ -18,7 +18,7 @@ pub use Rattle.serde_json.specs.View.{items_of, items_view, members_view, view}
 pub use Rattle.serde_json.specs.Written.{comma_if, compact_text, has_float, items_have_float, items_text}
 pub use Rattle.serde_json.specs.Written.{members_have_float, members_text, number_text}
 pub use Rattle.city_model.specs.CityMap.{same_id}
-pub use Rattle.city_model.specs.Members.{AreOrdered}
+pub use Rattle.city_members.specs.Members.{AreOrdered}
 pub use Rattle.city_tokens.proofs.Laws.{get_member-put_apart}
 pub use Rattle.city_doc.specs.declared.fault.ReadFault.{ReadFault}
 pub use Rattle.city_doc.specs.declared.fault.ReadFault.TheVariants.{BadGeometry, BadRing, BadVertex, NotCityJson}

@@ -4,7 +4,7 @@ use Rattle.std.specs.List.{list_all}
 use Rattle.serde_json.specs.Data.{Data, Members, object, string, number, unsigned}
 use Rattle.serde_json.specs.Find.{get}
 use Rattle.serde_json.specs.Written.{compact_text, has_float}
-use Rattle.city_model.specs.Members.{AreOrdered}
+use Rattle.city_members.specs.Members.{AreOrdered}
 
 -- ---- one line
 

@@ -1,5 +1,5 @@
 -- Laws over the definitions of documents, for the crates above.
-pub use Rattle.city_model.proofs.Puts.{ordered_put}
+pub use Rattle.city_members.proofs.Puts.{ordered_put}
 pub use Rattle.city_tokens.proofs.Laws.{get_member-put_apart, array_is}
 pub use Rattle.city_doc.proofs.tree.PutLists.{get_member-put_list_apart}
 pub use Rattle.city_tokens.proofs.Laws.{object_is, at_listed}

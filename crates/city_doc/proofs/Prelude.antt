@@ -29,18 +29,18 @@ pub use Rattle.serde_json.specs.Data.{no_items, no_members, number, object, put,
 pub use Rattle.serde_json.specs.Find.{as_i64, as_number, as_object, as_str, at, get, get_member, of_integer}
 pub use Rattle.serde_json.specs.Read.{max_depth, of_items, of_json, of_members, read}
 pub use Rattle.serde_json.specs.View.{items_of, items_view, members_view, view}
-pub use Rattle.city_model.proofs.Ids.{same_id_back, same_id_true}
+pub use Rattle.city_members.proofs.Ids.{same_id_back, same_id_true}
 pub use Rattle.city_model.proofs.MapsMade.{collected}
-pub use Rattle.city_model.proofs.MemberLaws.{get_member-without, ordered_members}
+pub use Rattle.city_members.proofs.MemberLaws.{get_member-without, ordered_members}
 pub use Rattle.city_model.proofs.Objects.{at_entries, entries_ascend}
 pub use Rattle.city_model.specs.Chunks.{ids_left}
 pub use Rattle.city_model.specs.CityMap.{CityMap, CityValue, Entries, Objects, found_in, has_id, object_at, same_id}
-pub use Rattle.city_model.specs.Integral.{is_integral, items_integral, members_integral}
-pub use Rattle.city_model.specs.Kept.{geometry_members, has_location, is_empty_object_or_absent, kept_at_geometry}
-pub use Rattle.city_model.specs.Kept.{kept_at_object, kept_at_top, kept_at_transform, lacks_each, object_members}
-pub use Rattle.city_model.specs.Kept.{top_members, transform_members}
+pub use Rattle.city_members.specs.Integral.{is_integral, items_integral, members_integral}
+pub use Rattle.city_members.specs.Kept.{geometry_members, has_location, is_empty_object_or_absent, kept_at_geometry}
+pub use Rattle.city_members.specs.Kept.{kept_at_object, kept_at_top, kept_at_transform, lacks_each, object_members}
+pub use Rattle.city_members.specs.Kept.{top_members, transform_members}
 pub use Rattle.city_model.specs.Least.{IsLeast}
-pub use Rattle.city_model.specs.Members.{AllAbove, AreOrdered, without, without_each}
+pub use Rattle.city_members.specs.Members.{AllAbove, AreOrdered, without, without_each}
 pub use Rattle.city_model.specs.Misrelated.{IsMisrelatedAt}
 pub use Rattle.city_model.specs.Relations.{IsLawful, IsRelated}
 pub use Rattle.city_model.specs.Runs.{Scripted}
@@ -53,7 +53,7 @@ pub use Rattle.city_model.specs.declared.object.Geometry.{Geometry}
 pub use Rattle.city_model.specs.declared.object.Object.{Object}
 pub use Rattle.city_model.specs.declared.object.Point.{Point}
 pub use Rattle.city_model.specs.declared.object.Shape.{Shape}
-pub use Rattle.city_model.proofs.Puts.{all_put, ordered_put}
+pub use Rattle.city_members.proofs.Puts.{all_put, ordered_put}
 pub use Rattle.city_model.specs.Nesting.{Nested, nested, shape_name}
 pub use Rattle.city_tokens.proofs.Laws.{array_of-integral, as_object-integral, get-integral, get_member-integral}
 pub use Rattle.city_tokens.proofs.Laws.{get_member-put_apart, get_member-without_each, listed_again, object_is}

@@ -3,8 +3,8 @@ ghost use Rattle.std.specs.Prelude.{◌≡◌, [], ◌∷◌, IfOk};
 
 mod quoted;
 
+use city_members::text::{Id, Text};
 use city_model::OutOfMemory;
-use city_model::text::{Id, Text};
 use quoted::Quoted;
 use std::alloc::Global;
 use std::error::Error;

@@ -5,7 +5,7 @@ use Rattle.city_locks.proofs.Prelude.{mode_among, with_holder, without, Locks, h
 use Rattle.city_locks.proofs.Prelude.{IsInConflict, IsWaitDie}
 use Rattle.std.proofs.Common.{Bool, not}
 use Rattle.std.proofs.lemmas.Bool.{false≢true}
-use Rattle.city_model.proofs.IdLists.{bool_cases}
+use Rattle.city_members.proofs.Ids.{bool_cases}
 use Rattle.city_locks.specs.Holders.{Once}
 use Rattle.city_locks.proofs.Among.{mode_with, mode_without}
 

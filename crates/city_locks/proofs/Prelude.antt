@@ -4,7 +4,7 @@ pub use Rattle.std.proofs.Common.{rules, sym, take, true, ℕ, ◌&&◌, ◌++�
 pub use Rattle.std.proofs.lemmas.Map.Steps.{set_value_same}
 pub use Rattle.std.specs.BTreeMap.{is_at}
 pub use Rattle.std.specs.List.{list_all, list_any}
-pub use Rattle.city_model.proofs.Ids.{same_id_back, same_id_itself, same_id_true}
+pub use Rattle.city_members.proofs.Ids.{same_id_back, same_id_itself, same_id_true}
 pub use Rattle.city_model.specs.Chunks.{ids_left}
 pub use Rattle.city_model.specs.CityMap.{has_id, same_id}
 pub use Rattle.city_model.specs.Meaning.{exclusively}

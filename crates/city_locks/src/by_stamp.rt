@@ -4,8 +4,8 @@ ghost use Rattle.std.specs.Prelude.{if◌then◌else◌};
 ghost use Rattle.std.specs.Ordering.{nat_cmp};
 ghost use Rattle.std.specs.BTreeMap.{get, is_at};
 
+use city_members::sequence::Sequence;
 use city_model::OutOfMemory;
-use city_model::sequence::Sequence;
 use std::alloc::Global;
 use std::collections::BTreeMap;
 

@@ -9,10 +9,10 @@ ghost use Rattle.city_locks.specs.Locks.{holders_of, answer_of, mode_of};
 
 use crate::answer::Answer;
 use crate::holders::Holders;
+use city_members::copied::Copied;
+use city_members::text::Id;
 use city_model::OutOfMemory;
-use city_model::copied::Copied;
 use city_model::mode::Mode;
-use city_model::text::Id;
 use std::alloc::Global;
 use std::collections::BTreeMap;
 

@@ -7,8 +7,8 @@ ghost use Rattle.city_locks.specs.Locks.{answer_of, mode_of};
 
 use crate::answer::Answer;
 use crate::holders::Holders;
+use city_members::text::Id;
 use city_model::mode::Mode;
-use city_model::text::Id;
 use std::collections::BTreeMap;
 
 /// How an asker of an id stands.

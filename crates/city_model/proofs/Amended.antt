@@ -1,12 +1,12 @@
 -- An amended object keeps its type and its relations, and stays without fault.
 use Rattle.city_model.proofs.Prelude.{arith, ◌≡◌, ℕ, List, Option, None, ap, ◌∙◌, Object, Body, Cause, Amendment}
 use Rattle.city_model.proofs.Prelude.{amended, amendment_fault, body_fault}
-use Rattle.city_model.proofs.IdLists.{bool_cases}
+use Rattle.city_members.proofs.Ids.{bool_cases}
 use Rattle.city_model.proofs.TypeNames.{same_type_is}
 use Rattle.std.specs.Prelude.{Result, Ok}
 use Rattle.serde_json.specs.Data.{Members}
 use Rattle.city_model.specs.Amendments.{NewBody, Setting, Unsetting, Reshaping, with_extra_by, amended_body, related_as}
-use Rattle.city_model.specs.Attributes.{attributes_in}
+use Rattle.city_members.specs.Attributes.{attributes_in}
 use Rattle.city_model.specs.Relations.{same_type}
 use Rattle.city_model.specs.Shells.{geometry_fault}
 

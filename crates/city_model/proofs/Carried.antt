@@ -17,7 +17,7 @@ use Rattle.city_model.proofs.FrameLaw.{frame, same_locks}
 use Rattle.city_model.proofs.GoingOn.{goes_on_case, goes_on_to, answered_next}
 use Rattle.city_model.proofs.MarksKept.{from_mapped, sound_effect}
 use Rattle.city_model.proofs.History.{Next, held_named, held_exclusively, not_named, more_held, follows_held}
-use Rattle.city_model.proofs.Ids.{same_id_itself}
+use Rattle.city_members.proofs.Ids.{same_id_itself}
 
 module _ (held : Held) (other : CityMap) where
   -- held ids are carried as they are

@@ -3,24 +3,14 @@ use denote.Param.Send.{IsSend, IsSync, sendable}
 use Rattle.std.proofs.Crossing as values
 use Rattle.std.proofs.MapsCrossing as maps
 use Rattle.serde_json.proofs.value.Value.TheLaws.TheKnot as json
-use Rattle.city_model.proofs.kept.few_members.FewMembers.TheLaws.TheKnot as kept
+use Rattle.city_members.proofs.Crossing.{text_sends, text_syncs, extra_sends, extra_syncs}
 use Rattle.city_model.proofs.object.Shape.TheSendSync as shape
 use Rattle.city_model.proofs.object_type.ObjectType.TheSendSync as object_type
 use Rattle.city_model.specs.contracts.change.Change as Change
 use Rattle.city_model.specs.contracts.city.City as City
-use Rattle.city_model.specs.contracts.kept.member_list.MemberList as MemberList
-use Rattle.city_model.specs.contracts.kept.shared_extra.SharedExtra as SharedExtra
-use Rattle.city_model.specs.contracts.kept.shared_members.SharedMembers as SharedMembers
 use Rattle.city_model.specs.contracts.object.Body as Body
 use Rattle.city_model.specs.contracts.object.Geometry as Geometry
 use Rattle.city_model.specs.contracts.object.Object as Object
-use Rattle.city_model.specs.contracts.text.Text as Text
-
-pub text_sends : IsSend Text.the_field.row
-text_sends = search (maps.crosses, values.crosses, sendable) depth 60 fits 20000
-
-pub text_syncs : IsSync Text.the_field.row
-text_syncs = search (maps.crosses, values.crosses, sendable) depth 60 fits 20000
 
 geometry_sends : IsSend Geometry.the_field.row
 geometry_sends =
@@ -29,29 +19,6 @@ geometry_sends =
 geometry_syncs : IsSync Geometry.the_field.row
 geometry_syncs =
     search (text_syncs, shape.the_field_sync, maps.crosses, values.crosses, json.crosses, sendable) depth 60 fits 20000
-
--- the kept members of an object, list by list
-list_sends : IsSend MemberList.the_field.row
-list_sends = search (values.crosses, kept.crosses, sendable) depth 60 fits 20000
-
-list_syncs : IsSync MemberList.the_field.row
-list_syncs = search (values.crosses, kept.crosses, sendable) depth 60 fits 20000
-
-members_sends : IsSend SharedMembers.the_field.row
-members_sends = search (list_sends, list_syncs, values.crosses, sendable) depth 60 fits 20000
-
-members_syncs : IsSync SharedMembers.the_field.row
-members_syncs = search (list_sends, list_syncs, values.crosses, sendable) depth 60 fits 20000
-
-pub extra_sends : IsSend SharedExtra.the_field.row
-extra_sends =
-    search (members_sends, members_syncs, maps.crosses, values.crosses, json.crosses, kept.crosses, sendable)
-    depth 60 fits 20000
-
-pub extra_syncs : IsSync SharedExtra.the_field.row
-extra_syncs =
-    search (members_sends, members_syncs, maps.crosses, values.crosses, json.crosses, kept.crosses, sendable)
-    depth 60 fits 20000
 
 pub body_sends : IsSend Body.the_field.row
 body_sends = search (

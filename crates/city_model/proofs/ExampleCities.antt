@@ -6,7 +6,7 @@ use Rattle.city_model.proofs.Prelude.{IsOrphanAt, IsLeastOrphan, deleted, withou
 use Rattle.city_model.proofs.Prelude.{with_parent, attached, detached, no_members, member, Body, Command, Reply, End}
 use Rattle.city_model.proofs.Prelude.{Outcome, ObjectType, LandUse, Scripted, IsScriptResult, IsEndOf}
 use Rattle.std.specs.Prelude.{Some}
-use Rattle.city_model.proofs.Ids.{below_is_apart}
+use Rattle.city_members.proofs.Ids.{below_is_apart}
 use Rattle.serde_json.specs.Data.{number, unsigned}
 use Rattle.serde_json.specs.Data as Data
 

@@ -11,7 +11,7 @@ use Rattle.std.specs.Prelude.{ℕ, List, [], ◌∷◌, false, Some, None}
 use Rattle.city_model.specs.declared.command.Reply.TheVariants.{Absent}
 use Rattle.std.proofs.lemmas.Map.{update_other}
 use Rattle.city_model.proofs.Changed.{at_absent, attached_apart, deleted_apart}
-use Rattle.city_model.proofs.Ids.{same_id_back}
+use Rattle.city_members.proofs.Ids.{same_id_back}
 
 abbrev buildings : Entries
 buildings = (codes "b", alone Building) ∷ (codes "r", alone Building) ∷ []

@@ -8,7 +8,7 @@ use Rattle.city_model.specs.Standing.{exclusive_ids}
 use Rattle.city_model.proofs.ActionKinds.{map_after}
 use Rattle.city_model.proofs.FramedActions.{taken_to, framed, edits_locked, WritesAt, writes_locked}
 use Rattle.city_model.proofs.GoingOn.{effect_is}
-use Rattle.city_model.proofs.Ids.{same_id_itself}
+use Rattle.city_members.proofs.Ids.{same_id_itself}
 
 pub exclusive_is_named : (ls : List Lock) (id : List ℕ) → locks_id_exclusively ls id ≡ true → locks_id ls id ≡ true
 exclusive_is_named [] id h = h

@@ -12,12 +12,13 @@ use Rattle.city_model.specs.declared.command.Command.TheVariants.{Add, Set, Unse
 use Rattle.city_model.specs.Actions.{unless, rewrites, put_at, add_at, amend_at, expect_at, delete_at, attach_at}
 use Rattle.city_model.specs.Actions.{detach_at}
 use Rattle.city_model.specs.Amendments.{NewBody, Setting, Unsetting, Reshaping}
-use Rattle.city_model.specs.Attributes.{has_attributes}
+use Rattle.city_members.specs.Attributes.{has_attributes}
 use Rattle.city_model.specs.Shells.{geometry_fault}
 use Rattle.city_model.specs.Meaning.{delete_locks}
 use Rattle.city_model.specs.Standing.{locked_ids, exclusive_ids}
-use Rattle.city_model.proofs.Ids.{same_id_itself, same_id_back}
-use Rattle.city_model.proofs.IdLists.{bool_cases, without_absent}
+use Rattle.city_members.proofs.Ids.{same_id_itself, same_id_back}
+use Rattle.city_members.proofs.Ids.{bool_cases}
+use Rattle.city_model.proofs.IdLists.{without_absent}
 use Rattle.city_model.proofs.Soundness.{sound_agrees}
 
 -- the action at another map: the same result at its ids, and that map elsewhere

@@ -3,7 +3,7 @@ use Rattle.city_model.proofs.Prelude.{arith, ◌≡◌, ℕ, List, [], ◌∷◌
 use Rattle.city_model.proofs.Prelude.{Command, Reply, Mode, Exclusive, Answers, effect, locks_of, Snapshot, IsSoundView}
 use Rattle.city_model.proofs.Prelude.{Held, Lock, covers, AllHeld, Answered, IsTraceUnderLocks, locks_id}
 use Rattle.city_model.proofs.Prelude.{locks_id_exclusively}
-use Rattle.city_model.proofs.Ids.{same_id_true}
+use Rattle.city_members.proofs.Ids.{same_id_true}
 use Rattle.city_model.proofs.GoingOn.{goes_on_case, goes_on_to}
 use Rattle.city_model.proofs.MarksKept.{sound_effect}
 

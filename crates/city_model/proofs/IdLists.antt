@@ -9,13 +9,10 @@ use Rattle.std.proofs.Common.{◌&&◌}
 use Rattle.std.specs.Prelude.{not}
 use Rattle.std.proofs.lemmas.Bool.{or_left, or_from, not_from_false}
 use Rattle.std.proofs.lemmas.List.Folds.{list_any_at}
-use Rattle.city_model.proofs.Ids.{same_id_true, same_id_back}
+use Rattle.city_members.proofs.Ids.{same_id_true, same_id_back}
 use Rattle.std.specs.List.{HoldsAt}
 
 -- ---- tests
-
-pub bool_cases : (b : Bool) {A : Type 0} → (b ≡ true → A) → (b ≡ false → A) → A
-bool_cases b f g = grind arith
 
 pub not_both : {A : Type 0} (b : Bool) → b ≡ true → b ≡ false → A
 not_both b h k = absurd (false≢true (sym k ∙ h))

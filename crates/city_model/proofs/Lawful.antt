@@ -10,7 +10,7 @@ use Rattle.std.proofs.Common.{zero}
 use Rattle.city_model.specs.Runs.{goes_to}
 use Rattle.city_model.proofs.Endings.{committed_at}
 use Rattle.city_model.proofs.GoingOn.{goes_on_case, effect_is}
-use Rattle.city_model.proofs.IdLists.{bool_cases}
+use Rattle.city_members.proofs.Ids.{bool_cases}
 use Rattle.city_model.proofs.MarksKept.{sound_effect}
 
 -- ---- a trace

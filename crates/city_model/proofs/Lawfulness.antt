@@ -11,7 +11,7 @@ use Rattle.city_model.specs.Misrelated.{IsMisrelatedAt, IsLeastMisrelated}
 use Rattle.city_model.specs.Relations.{IsInOrder, IsRelated}
 use Rattle.city_model.specs.internal.RelationTests.{is_in_order}
 use Rattle.city_model.proofs.FirstEntry.{first_that, least_in, none_in, all_in, in_all}
-use Rattle.city_model.proofs.Ids.{same_id_true, same_id_itself}
+use Rattle.city_members.proofs.Ids.{same_id_true, same_id_itself}
 
 -- ---- lists
 

@@ -15,7 +15,7 @@ use Rattle.std.specs.FinMap.Entries.{is_sorted-put, find-put, same_entries}
 use Rattle.std.proofs.lemmas.Iterator.{YieldsList}
 use Rattle.std.proofs.lemmas.Iterator.Adapters.{fact_from_collect}
 use Rattle.std.proofs.lemmas.Map.Made.{update_all_none}
-use Rattle.city_model.proofs.Ids.{same_id_back}
+use Rattle.city_members.proofs.Ids.{same_id_back}
 use Rattle.city_model.proofs.Objects.{in_order, find_is_lookup}
 
 abbrev cmp : List ℕ → List ℕ → Ordering

@@ -9,7 +9,7 @@ use Rattle.city_model.specs.Meaning.{back}
 use Rattle.city_model.specs.Scripts.{is_mark}
 use Rattle.city_model.proofs.ActionKinds.{map_after, IsKindOf, kind_of}
 use Rattle.city_model.proofs.GoingOn.{answered_next}
-use Rattle.city_model.proofs.Ids.{same_id_itself}
+use Rattle.city_members.proofs.Ids.{same_id_itself}
 use Rattle.city_model.proofs.SoundAfter.{sound_after}
 
 -- ---- soundness

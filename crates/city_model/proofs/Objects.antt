@@ -10,7 +10,7 @@ use Rattle.std.specs.FinMap.{slice_cmp-IsAntisymmetric, nat_cmp-IsAntisymmetric}
 use Rattle.std.specs.FinMap.Entries.{below_all}
 use Rattle.city_model.specs.declared.frame.Frame.{Frame}
 use Rattle.city_model.specs.CityMap.{CityValue}
-use Rattle.city_model.proofs.Ids.{same_id_back}
+use Rattle.city_members.proofs.Ids.{same_id_back}
 
 -- ---- two forms of one order, and of one look-up
 

@@ -3,7 +3,7 @@ use Rattle.city_model.proofs.Prelude.{◌≡◌, ℕ, List, [], true, Option, So
 use Rattle.city_model.proofs.Prelude.{Read, Reply, CityMap, Edits, action, Change}
 use Rattle.serde_json.specs.Data.{Members}
 use Rattle.city_model.specs.Actions.{expect_at, read_reply}
-use Rattle.city_model.specs.Attributes.{has_attributes}
+use Rattle.city_members.specs.Attributes.{has_attributes}
 use Rattle.city_model.specs.declared.command.Command.TheVariants.{Expect}
 use Rattle.city_model.specs.declared.command.Reply.TheVariants.{Expected}
 use Rattle.city_model.specs.internal.Plans.{AreWritesOf}

@@ -1,8 +1,7 @@
 -- The words shared by the proofs of this crate: from std, from the libraries and from its own definitions.
 pub use Rattle.std.proofs.Common.{Bool, Equal, Less, List, None, Option, Ordering, Some, [], ap, append_assoc, arith}
 pub use Rattle.std.proofs.Common.{cond, drop, drop-cons, false, flat_map, get_or, inl, length, map, not, refl, rules}
-pub use Rattle.std.proofs.Common.{string_bytes, subst, suc, sym, take, true, ℕ, ◌++◌, ◌+◌, ◌-◌, ◌<◌, ◌||◌, ◌∙◌, ◌∷◌}
-pub use Rattle.std.proofs.Common.{◌≡◌, ◌≤◌}
+pub use Rattle.std.proofs.Common.{subst, suc, sym, take, true, ℕ, ◌++◌, ◌+◌, ◌-◌, ◌<◌, ◌||◌, ◌∙◌, ◌∷◌, ◌≡◌, ◌≤◌}
 pub use Rattle.std.proofs.lemmas.Bool.{and_from, and_parts, false≢true, or_parts}
 pub use Rattle.std.proofs.lemmas.Cmp.{nat_list_cmp_total}
 pub use Rattle.std.proofs.lemmas.List.{append-nil}
@@ -22,9 +21,7 @@ pub use Rattle.std.specs.List.Sorted.{IsPermutation, IsSorted, IsStrictlySortedB
 pub use Rattle.std.specs.Map.{keys_of, lookup}
 pub use Rattle.std.specs.Ordering.{eq_by_cmp, is_eq, is_lt, nat_cmp}
 pub use Rattle.std.specs.Prelude.{T, codes, if◌then◌else◌, is_some, option_map, slice_get, ◌==◌}
-pub use Rattle.serde_json.proofs.Views.{view-lookup}
 pub use Rattle.serde_json.specs.Data.{member, no_members}
-pub use Rattle.serde_json.specs.View.{items_view, members_view}
 pub use Rattle.city_model.specs.Actions.{Action, Edits, GoesBack, Marks, Refuses, action, attached, deleted, detached}
 pub use Rattle.city_model.specs.Actions.{is_wrong_family, new_object, with_child, with_parent, without_child}
 pub use Rattle.city_model.specs.Actions.{without_id, without_parent}
@@ -33,7 +30,6 @@ pub use Rattle.city_model.specs.Chunks.{ids_left}
 pub use Rattle.city_model.specs.CityMap.{CityMap, Entries, Objects, changed, children_of, found_in, has_id, object_at}
 pub use Rattle.city_model.specs.CityMap.{parents_of, same_id}
 pub use Rattle.city_model.specs.FrameLaw.{AgreeOn}
-pub use Rattle.city_model.specs.Integral.{members_integral}
 pub use Rattle.city_model.specs.Least.{IsLeast}
 pub use Rattle.city_model.specs.Marks.{IsSoundView, Marked, Snapshot, marks_from, unmarked}
 pub use Rattle.city_model.specs.Meaning.{Answers, Does, Effect, GoesOn, IsReply, answer, applied, effect, exclusively}
@@ -70,7 +66,6 @@ pub use Rattle.city_model.specs.declared.object_type.ObjectType.TheVariants.{Bri
 pub use Rattle.city_model.specs.declared.object_type.ObjectType.TheVariants.{Road}
 pub use Rattle.city_model.specs.internal.Plans.{unlinked}
 pub use Rattle.city_model.specs.internal.RelationTests.{are_distinct, are_increasing, are_increasing_from}
-pub use Rattle.city_model.specs.internal.RelationTests.{is_misrelated}
-pub use Rattle.city_model.specs.internal.RelationTests.{parent_fits}
+pub use Rattle.city_model.specs.internal.RelationTests.{is_misrelated, parent_fits}
 pub use Rattle.city_model.specs.internal.RingFaults.{is_faulty}
 pub use Rattle.city_model.specs.internal.RisingEdges.{rising}

@@ -2,7 +2,7 @@
 use Rattle.city_model.proofs.Prelude.{arith, ◌≡◌, ℕ, List, [], ◌∷◌, ◌++◌, true, false, if◌then◌else◌, same_id, has_id}
 use Rattle.city_model.proofs.Prelude.{without_id, AreDistinct}
 use Rattle.city_model.proofs.IdLists.{has_more, has_without, in_without, in_more, distinct_without, distinct_more}
-use Rattle.city_model.proofs.Ids.{same_id_true, same_id_itself, same_id_back, by_id}
+use Rattle.city_members.proofs.Ids.{same_id_true, same_id_itself, same_id_back, by_id}
 
 -- the parents of each id, or its children
 abbrev pub Relatives : Type 0

@@ -6,7 +6,7 @@ use Rattle.city_model.proofs.Prelude.{IsLeast, Snapshot, unmarked, Effect, effec
 use Rattle.city_model.proofs.Prelude.{Scripted}
 use Rattle.city_model.proofs.Prelude.{EndsAt, EndsFrom, IsScriptResult, left_by, IsEndOf, IsSerialHistoryFrom}
 use Rattle.city_model.proofs.Prelude.{IsSerialHistory}
-use Rattle.city_model.proofs.Ids.{same_id_true}
+use Rattle.city_members.proofs.Ids.{same_id_true}
 use Rattle.city_model.specs.Meaning.{Commits, IsCommitReply}
 use Rattle.city_model.specs.SerialEnds.{is_no_memory, IsSerialFrom}
 use Rattle.city_model.proofs.GoingOn.{goes_on_case, answered_no_ending, is_ending}

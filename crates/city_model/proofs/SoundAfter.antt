@@ -15,10 +15,10 @@ use Rattle.city_model.specs.declared.command.Command.TheVariants.{Add, Set, Unse
 use Rattle.city_model.specs.Actions.{unless, rewrites, amends, amend, amendment_reply, put_at, add_at, amend_at}
 use Rattle.city_model.specs.Actions.{expect_at, delete_at, attach_at, detach_at}
 use Rattle.city_model.specs.Amendments.{NewBody, Setting, Unsetting, Reshaping}
-use Rattle.city_model.specs.Attributes.{has_attributes}
+use Rattle.city_members.specs.Attributes.{has_attributes}
 use Rattle.city_model.proofs.ActionKinds.{map_after}
 use Rattle.city_model.proofs.Amended.{IsAmended, is_amended, amended_faultless}
-use Rattle.city_model.proofs.Ids.{same_id_itself, same_id_true, same_id_back, by_id}
+use Rattle.city_members.proofs.Ids.{same_id_itself, same_id_true, same_id_back, by_id}
 use Rattle.city_model.proofs.Relatives.{AreAgreed, set_at, agreed_as, one_more, one_less, agreed_deleted}
 use Rattle.city_model.proofs.Relatives.{agreed_attached, agreed_detached}
 use Rattle.city_model.proofs.Soundness.{parents_in, children_in, AreInAgreement, HasNoFault, SameKinds, HasTiesOf}

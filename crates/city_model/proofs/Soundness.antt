@@ -3,7 +3,7 @@ use Rattle.city_model.proofs.Prelude.{arith, ◌≡◌, ℕ, List, [], ◌∷◌
 use Rattle.city_model.proofs.Prelude.{Object, CityMap, same_id, has_id, parents_of, children_of, body_fault}
 use Rattle.city_model.proofs.Prelude.{AreDistinct, same_family, IsSound}
 use Rattle.city_model.specs.Relations.{is_second_level}
-use Rattle.city_model.proofs.Ids.{same_id_itself}
+use Rattle.city_members.proofs.Ids.{same_id_itself}
 use Rattle.city_model.proofs.Relatives.{Relatives, AreAgreed}
 
 -- the object and this parent are there, of matching levels and families

@@ -17,7 +17,7 @@ use Rattle.city_model.specs.declared.command.Reply.TheVariants.{Expected}
 use Rattle.city_model.specs.CityMap.{CityMap, same_id, has_id, changed}
 use Rattle.city_model.specs.Relations.{is_second_level, same_family}
 use Rattle.city_model.specs.Shells.{body_fault}
-use Rattle.city_model.specs.Attributes.{has_attributes}
+use Rattle.city_members.specs.Attributes.{has_attributes}
 use Rattle.city_model.specs.Amendments.{Amendment, NewBody, Setting, Unsetting, Reshaping, amendment_fault, amended}
 
 pub data Action : Type 0 where

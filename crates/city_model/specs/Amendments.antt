@@ -6,7 +6,7 @@ use Rattle.city_model.specs.declared.object.Body.{Body}
 use Rattle.city_model.specs.declared.object.Geometry.{Geometry}
 use Rattle.city_model.specs.declared.command.Cause.{Cause}
 use Rattle.city_model.specs.declared.command.Cause.TheVariants.{TypeFixed, BadAttributes}
-use Rattle.city_model.specs.Attributes.{attributes_in, with_set, with_unset}
+use Rattle.city_members.specs.Attributes.{attributes_in, with_set, with_unset}
 use Rattle.city_model.specs.Relations.{same_type}
 use Rattle.city_model.specs.Shells.{body_fault, geometry_fault}
 

@@ -1,11 +1,11 @@
 -- A city as a map: the object of each id (CityJSON 2.0, section 2, `CityObjects`).
-use Rattle.std.specs.Prelude.{ℕ, List, [], Bool, Option, Some, None}
-use Rattle.std.specs.List.{list_any}
-use Rattle.std.specs.Ordering.{nat_cmp, is_eq}
+use Rattle.std.specs.Prelude.{ℕ, List, [], Option, Some, None}
+use Rattle.std.specs.Ordering.{nat_cmp}
 use Rattle.std.specs.Cmp.Lexicographic.{slice_cmp}
 use Rattle.std.specs.FinMap.{FinMap, get}
 use Rattle.std.specs.Map.{lookup, update}
 use Rattle.std.specs.BTreeMap.{is_at}
+pub use Rattle.city_members.specs.Ids.{same_id, has_id}
 use Rattle.city_model.specs.declared.frame.Frame.{Frame}
 use Rattle.city_model.specs.declared.object.Object.{Object}
 
@@ -31,12 +31,6 @@ Entries = List (List ℕ × Object)
 -- the object of an id in a list: the first one
 abbrev pub found_in : Entries → CityMap
 found_in es id = lookup (is_at (slice_cmp nat_cmp id)) es
-
-abbrev pub same_id : List ℕ → List ℕ → Bool
-same_id id other = is_eq (slice_cmp nat_cmp id other)
-
-abbrev pub has_id : List (List ℕ) → List ℕ → Bool
-has_id ids id = list_any (same_id id) ids
 
 -- the map with another object, or none, at an id
 abbrev pub changed : CityMap → List ℕ → Option Object → CityMap

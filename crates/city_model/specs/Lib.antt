@@ -1,15 +1,11 @@
 pub mod Actions
 pub mod Amendments
-pub mod Attributes
 pub mod Chunks
 pub mod CityMap
 pub mod FrameLaw
-pub mod Integral
-pub mod Kept
 pub mod Least
 pub mod Marks
 pub mod Meaning
-pub mod Members
 pub mod Misrelated
 pub mod Mode
 pub mod Nesting

@@ -2,15 +2,8 @@
 pub mod BorrowedAmendments
 pub mod BorrowedBounds
 pub mod ChunkSearch
-pub mod DataCode
 pub mod Faultless
-pub mod KeptIn
-pub mod KeptSizes
-pub mod KeptValues
-pub mod MemberLists
-pub mod MemberPlaces
 pub mod Plans
 pub mod RelationTests
 pub mod RingFaults
 pub mod RisingEdges
-pub mod Stored

@@ -11,9 +11,10 @@ ghost use Rattle.city_model.specs.Runs.{after_change};
 ghost use Rattle.city_model.specs.Writing.{write_in};
 
 use crate::OutOfMemory;
-use crate::copied::{Copied, copy_map};
+use crate::copied::copy_map;
 use crate::object::Object;
-use crate::text::Id;
+use city_members::copied::Copied;
+use city_members::text::Id;
 use std::alloc::Global;
 use std::collections::{BTreeMap, btree_map};
 use std::marker::Model;
@@ -34,7 +35,7 @@ impl Model for Change {
     ghost Value = { List (List ℕ × Option Object) };
 
     ghost use Rattle.std.specs.Coded.{codes};
-    ghost use Rattle.city_model.specs.internal.DataCode.{coded_members};
+    ghost use Rattle.city_members.specs.internal.DataCode.{coded_members};
 
     ghost coded = { Prim.hlevel (codes, coded_members) };
 

@@ -5,10 +5,11 @@ ghost use Rattle.std.specs.FinMap.{empty, entries, insert, len, remove};
 ghost use Rattle.city_model.specs.CityMap.{object_at, changed};
 
 use crate::OutOfMemory;
-use crate::copied::{Copied, copy_map};
+use crate::copied::copy_map;
 use crate::frame::Frame;
 use crate::object::Object;
-use crate::text::Id;
+use city_members::copied::Copied;
+use city_members::text::Id;
 use std::alloc::Global;
 use std::collections::{BTreeMap, btree_map};
 use std::marker::Model;
@@ -28,7 +29,7 @@ impl Model for City {
 
     ghost use Rattle.std.specs.Coded.{codes, coded×, coded_list, coded_ℕ};
     ghost use Rattle.std.specs.FinMap.{code, from_sorted};
-    ghost use Rattle.city_model.specs.internal.DataCode.{coded_members};
+    ghost use Rattle.city_members.specs.internal.DataCode.{coded_members};
 
     ghost coded = { coded× (Prim.hlevel (codes, coded_members))
         (code (coded_list coded_ℕ) (Prim.hlevel (codes, coded_members))) };

@@ -1,13 +1,9 @@
 //! The commands of a script, and the replies to them.
-use crate::kept::extra::Extra;
-use crate::kept::site::AtAttributes;
 use crate::object::{Body, Geometries, Object};
-use crate::sequence::Sequence;
-use crate::shared::Shared;
-use crate::text::{Id, Text};
-
-/// Attributes named by a command, each with a value.
-pub type Attributes = Extra<AtAttributes>;
+use city_members::kept::extra::Attributes;
+use city_members::sequence::Sequence;
+use city_members::shared::Shared;
+use city_members::text::{Id, Text};
 
 /// A command of a script.
 #[derive(Drop)]

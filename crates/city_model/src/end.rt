@@ -1,7 +1,7 @@
 //! How a script ended.
 use crate::command::{Cause, Reply};
-use crate::sequence::Sequence;
-use crate::text::Text;
+use city_members::sequence::Sequence;
+use city_members::text::Text;
 
 /// How a script ended. A number is the place, from 0, of the command that ended it.
 #[derive(Drop)]

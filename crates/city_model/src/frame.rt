@@ -1,6 +1,6 @@
 //! All of a document but its objects and vertices.
-use crate::kept::extra::Extra;
-use crate::kept::site::{AtTop, AtTransform};
+use city_members::kept::extra::Extra;
+use city_members::kept::site::{AtTop, AtTransform};
 
 /// The transform and the kept members of the top. No script changes a frame.
 #[derive(Drop)]

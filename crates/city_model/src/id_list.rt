@@ -7,10 +7,10 @@ ghost use Rattle.city_model.specs.Actions.{without_id};
 ghost use Rattle.city_model.specs.internal.RelationTests.{are_distinct, are_increasing};
 
 use crate::OutOfMemory;
-use crate::copied::Copied;
-use crate::sequence::Sequence;
 use crate::shared_ids::Chunk;
-use crate::text::Id;
+use city_members::copied::Copied;
+use city_members::sequence::Sequence;
+use city_members::text::Id;
 use std::alloc::Global;
 
 /// The ids of a list, in its order. Copying it copies no id.

@@ -1,14 +1,14 @@
 //! City objects and their geometries.
 ghost use Rattle.std.specs.Prelude.{◌≡◌};
 
-use crate::kept::extra::Extra;
-use crate::kept::shared_extra::SharedExtra;
-use crate::kept::site::AtGeometry;
 use crate::object_type::ObjectType;
-use crate::sequence::Sequence;
-use crate::shared::Shared;
 use crate::shared_ids::SharedIds;
-use crate::text::{Id, Text};
+use city_members::kept::extra::Extra;
+use city_members::kept::shared_extra::SharedExtra;
+use city_members::kept::site::AtGeometry;
+use city_members::sequence::Sequence;
+use city_members::shared::Shared;
+use city_members::text::{Id, Text};
 
 /// A point, in whole units; ordered by x, then y, then z.
 #[derive(Clone, Copy, Debug, PartialEq, Eq, PartialOrd, Ord, Hash)]

@@ -6,7 +6,7 @@ ghost use Rattle.city_model.specs.Relations.{is_orphan, HasNoOrphan, IsLeastOrph
 use crate::city::City;
 use crate::object::Object;
 use crate::object_type::level;
-use crate::text::Id;
+use city_members::text::Id;
 
 /// Whether an object is second-level and has no parent.
 pub fn is_orphan(object: &Object) -> bool

@@ -12,7 +12,7 @@ use crate::id_list::{are_distinct, is_same_id};
 use crate::object::Object;
 use crate::object_type::{self, ObjectType, family, level};
 use crate::orphans::is_orphan;
-use crate::text::Id;
+use city_members::text::Id;
 
 /// The least id, in byte order, of an object out of order or of an orphan; `None` if all relations
 /// agree. Doesn't allocate.

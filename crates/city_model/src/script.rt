@@ -9,8 +9,8 @@ ghost use Rattle.city_model.specs.TraceLaw.{TraceLaw};
 ghost use Rattle.city_model.specs.declared.command.Reply.{Reply};
 
 use crate::command::Command;
-use crate::sequence::Sequence;
-use crate::text::Text;
+use city_members::sequence::Sequence;
+use city_members::text::Text;
 use std::marker::Model;
 
 /// A name and commands; exactly the last command is `Commit` or `Abort`.
@@ -27,7 +27,7 @@ impl Model for Script {
     ghost Value = { List ℕ × List Command };
 
     ghost use Rattle.std.specs.Coded.{codes};
-    ghost use Rattle.city_model.specs.internal.DataCode.{coded_members};
+    ghost use Rattle.city_members.specs.internal.DataCode.{coded_members};
 
     ghost coded = { Prim.hlevel (codes, coded_members) };
 

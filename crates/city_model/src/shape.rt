@@ -3,7 +3,7 @@ ghost use Rattle.std.specs.Prelude.{◌≡◌};
 ghost use Rattle.city_model.specs.internal.BorrowedBounds.{boundaries_of, bounds_view};
 
 use crate::object::{Shape, Shell, Solid, Surface};
-use crate::sequence::Sequence;
+use city_members::sequence::Sequence;
 
 /// The boundaries of a shape, borrowed from it.
 #[derive(Clone, Copy)]

@@ -9,10 +9,10 @@ ghost use Rattle.city_model.specs.Chunks.{ids_left};
 ghost use Rattle.city_model.specs.internal.ChunkSearch.{HasIdAt};
 
 use crate::OutOfMemory;
-use crate::copied::Copied;
 use crate::id_list::{Ids, is_among, is_found_by_binary_search, without_id};
-use crate::sequence::Sequence;
-use crate::text::Id;
+use city_members::copied::Copied;
+use city_members::sequence::Sequence;
+use city_members::text::Id;
 use std::alloc::Global;
 use std::marker::Model;
 use std::sync::Arc;

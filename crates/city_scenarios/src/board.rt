@@ -11,11 +11,11 @@ use crate::written::Written;
 use city_crew::board::board;
 use city_crew::{MAX_VIEWERS, Poster, Viewer};
 use city_desk::{Desk, Shelf, Turn, read_texts};
+use city_members::copied::Copied;
+use city_members::sequence::Sequence;
 use city_model::OutOfMemory;
 use city_model::city::City;
-use city_model::copied::Copied;
 use city_model::script::Script;
-use city_model::sequence::Sequence;
 use std::alloc::Global;
 use std::sync::Wait;
 

@@ -2,8 +2,8 @@
 use crate::steps::{TakesSteps, stamped};
 use crate::written::Written;
 use city_locks::{LockTable, Mode};
+use city_members::text::Text;
 use city_model::OutOfMemory;
-use city_model::text::Text;
 use std::alloc::Global;
 
 /// A step is a stamp, a word and an id.

@@ -1,7 +1,7 @@
 //! The verb `members`: members kept at a place.
 use crate::written::Written;
-use city_model::kept::extra::Extra;
-use city_model::kept::site::{AtAttributes, AtGeometry, AtObject, AtTop, AtTransform, Site};
+use city_members::kept::extra::Extra;
+use city_members::kept::site::{AtAttributes, AtGeometry, AtObject, AtTop, AtTransform, Site};
 use serde_json::{Map, Value};
 use std::alloc::Global;
 

@@ -10,16 +10,16 @@ ghost use Rattle.city_model.specs.Scripts.{is_end, is_mark};
 
 use city_desk::{output_bytes, read_texts};
 use city_doc::FIXED_SEED;
+use city_members::copied::Copied;
+use city_members::sequence::Sequence;
+use city_members::text::Text;
 use city_model::OutOfMemory;
 use city_model::city::City;
 use city_model::command::{Cause, Command, Reply};
-use city_model::copied::Copied;
 use city_model::end::{End, Outcome};
 use city_model::orphans::least_orphan;
 use city_model::plan::{Plan, Writes, plan_of};
 use city_model::script::{Script, is_end};
-use city_model::sequence::Sequence;
-use city_model::text::Text;
 use std::alloc::Global;
 
 /// Writes a change into the city.

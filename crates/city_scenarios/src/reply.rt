@@ -1,11 +1,11 @@
 //! A reply or a cause by itself, as a report has it.
 use crate::written::Written;
 use city_doc::write_report;
+use city_members::sequence::Sequence;
+use city_members::text::Text;
 use city_model::OutOfMemory;
 use city_model::command::{Cause, Reply};
 use city_model::end::{End, Outcome};
-use city_model::sequence::Sequence;
-use city_model::text::Text;
 use std::alloc::Global;
 
 /// Adds a reply, as it stands in a report: a refusal as `add_cause`.

@@ -4,8 +4,8 @@ use crate::pieces::{add_in_pieces, pieces_of, words_of};
 use crate::written::Written;
 use city_desk::RunFault;
 use city_doc::{ScriptFault, read_scripts, read_scripts_by};
+use city_members::sequence::Sequence;
 use city_model::script::Script;
-use city_model::sequence::Sequence;
 use std::alloc::Global;
 use std::thread::Threads;
 

@@ -13,13 +13,13 @@ use city_crew::board::board;
 use city_crew::{MAX_VIEWERS, Poster, Viewer};
 use city_desk::{ListShelf, NullShelf, Shelf};
 use city_doc::read_city;
+use city_members::copied::Copied;
+use city_members::text::{Id, Text};
 use city_model::OutOfMemory;
 use city_model::change::Change;
 use city_model::city::City;
-use city_model::copied::Copied;
 use city_model::is_lawful::is_lawful;
 use city_model::object::Object;
-use city_model::text::{Id, Text};
 use std::alloc::Global;
 use std::sync::Wait;
 

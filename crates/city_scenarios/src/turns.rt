@@ -8,12 +8,12 @@ use crate::steps::{TakesSteps, take_steps};
 use crate::written::Written;
 use city_desk::{Desk, ListShelf, Turn, output_bytes, read_texts};
 use city_doc::FIXED_SEED;
+use city_members::sequence::Sequence;
 use city_model::OutOfMemory;
 use city_model::change::Change;
 use city_model::city::City;
 use city_model::end::End;
 use city_model::script::Script;
-use city_model::sequence::Sequence;
 use std::alloc::Global;
 
 /// Takes the steps at a desk, and answers each; then come the report, the model and the changes of the commits.

@@ -18,13 +18,13 @@ use crate::ghosts::opening_city::OpeningCity;
 use crate::progress::{Phase, Progress, unbegun_each, unopened, youngest};
 use crate::shelf::Shelf;
 use crate::turn::Turn;
+use city_members::copied::Copied;
+use city_members::sequence::Sequence;
+use city_members::text::Text;
 use city_model::OutOfMemory;
 use city_model::city::City;
-use city_model::copied::Copied;
 use city_model::end::{End, Outcome};
 use city_model::script::Script;
-use city_model::sequence::Sequence;
-use city_model::text::Text;
 use city_txn::Core;
 use std::alloc::Global;
 use std::marker::Model;
@@ -67,7 +67,7 @@ impl<S: Shelf> Model for Desk<S> {
     ghost Value = { DeskState × S };
 
     ghost use Rattle.std.specs.Coded.{codes};
-    ghost use Rattle.city_model.specs.internal.DataCode.{coded_members};
+    ghost use Rattle.city_members.specs.internal.DataCode.{coded_members};
     ghost use Rattle.city_txn.specs.internal.Codes.{coded_objects};
 
     ghost coded = { Prim.hlevel (codes, coded_members, coded_objects) };

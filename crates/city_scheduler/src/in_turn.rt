@@ -12,10 +12,10 @@ use crate::desk::{Desk, Finished};
 use crate::null_shelf::NullShelf;
 use crate::shelf::Shelf;
 use crate::turn::Turn;
+use city_members::sequence::Sequence;
 use city_model::OutOfMemory;
 use city_model::city::City;
 use city_model::script::Script;
-use city_model::sequence::Sequence;
 use std::alloc::Global;
 
 /// Runs script n to its end, turn by turn, while no other transaction is open. So it neither waits

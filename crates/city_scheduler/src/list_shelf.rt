@@ -2,9 +2,9 @@
 ghost use Rattle.std.specs.Prelude.{◌≡◌, [], None, IsOk};
 
 use crate::shelf::Shelf;
+use city_members::sequence::Sequence;
 use city_model::OutOfMemory;
 use city_model::change::Change;
-use city_model::sequence::Sequence;
 use std::alloc::Global;
 use std::marker::Model;
 use std::sync::Wait;
@@ -22,7 +22,7 @@ impl Model for ListShelf {
     ghost Value = { List Change };
 
     ghost use Rattle.std.specs.Coded.{codes};
-    ghost use Rattle.city_model.specs.internal.DataCode.{coded_members};
+    ghost use Rattle.city_members.specs.internal.DataCode.{coded_members};
 
     ghost coded = { Prim.hlevel (codes, coded_members) };
 

@@ -21,7 +21,7 @@ impl Model for NullShelf {
     ghost use Rattle.city_model.specs.Runs.{Change};
     ghost use Rattle.std.specs.Prelude.{List};
     ghost use Rattle.std.specs.Coded.{codes};
-    ghost use Rattle.city_model.specs.internal.DataCode.{coded_members};
+    ghost use Rattle.city_members.specs.internal.DataCode.{coded_members};
 
     ghost Value = { List Change };
 

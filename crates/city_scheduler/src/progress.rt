@@ -8,10 +8,10 @@ ghost use Rattle.city_scheduler.specs.Opening.{unbegun_each};
 ghost use Rattle.city_scheduler.specs.internal.Ready.{is_unopened, IsYoungest};
 
 use crate::replies::Replies;
+use city_members::text::Text;
 use city_model::OutOfMemory;
 use city_model::end::{End, Outcome};
 use city_model::script::Script;
-use city_model::text::Text;
 use std::alloc::Global;
 use std::mem;
 

@@ -1,9 +1,9 @@
 //! The replies in a script's open transaction, in preallocated room.
 ghost use Rattle.std.specs.Prelude.{◌≡◌, ◌<◌, ◌++◌, ◌∷◌, [], length, IfOk};
 
+use city_members::sequence::Sequence;
 use city_model::OutOfMemory;
 use city_model::command::Reply;
-use city_model::sequence::Sequence;
 use std::alloc::Global;
 use std::marker::Model;
 
@@ -16,7 +16,7 @@ pub struct Replies {
 impl Model for Replies {
     ghost use Rattle.std.specs.Prelude.{vec_capacity};
     ghost use Rattle.std.specs.Coded.{codes};
-    ghost use Rattle.city_model.specs.internal.DataCode.{coded_members};
+    ghost use Rattle.city_members.specs.internal.DataCode.{coded_members};
     ghost use Rattle.city_txn.specs.internal.Codes.{coded_objects};
     ghost use Rattle.city_scheduler.specs.RepliesValue.{RepliesValue};
 

@@ -15,7 +15,7 @@ use Rattle.serde_json.proofs.Views.{get_member-put, get_member-put_other}
 use Rattle.city_decimals.specs.Lines.{IsFramedTop, joined}
 use Rattle.city_decimals.specs.Shapes.{framed}
 use Rattle.city_model.specs.CityMap.{CityValue}
-use Rattle.city_model.specs.Members.{members_count}
+use Rattle.city_members.specs.Members.{members_count}
 use Rattle.city_model.specs.declared.frame.Frame.{Frame}
 use Rattle.city_writer.specs.document.Canonical.{transform_data, tree_of}
 use Rattle.city_writer.specs.Pool.{pool_of}

@@ -26,7 +26,7 @@ use Rattle.city_serve.specs.Decimals.{IsFaultOfDecimalsRun}
 use Rattle.city_serve.specs.internal.WholeTexts.{HasWholeNumbers}
 use Rattle.json.specs.Json as json
 use Rattle.serde_json.specs.Read as serde
-use Rattle.city_model.specs.Integral as model
+use Rattle.city_members.specs.Integral as model
 use Rattle.city_decimals.specs.Whole as decimals
 
 -- a text read in full has a value

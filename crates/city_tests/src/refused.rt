@@ -15,9 +15,9 @@ use city_doc::{
     FIXED_SEED, Pieces, ReadFault, append_city_by, read_city, read_city_by, write_city,
 };
 use city_locks::{LockTable, Mode};
+use city_members::text::Text;
 use city_model::city::City;
 use city_model::end::{End, Outcome};
-use city_model::text::Text;
 use std::alloc::Global;
 use std::sync::Wait;
 use std::test::Fail;

@@ -5,9 +5,9 @@ ghost use Rattle.city_model.specs.Relations.{IsLawful};
 
 use city_desk::{Desk, ListShelf};
 use city_doc::{read_city, read_scripts};
+use city_members::sequence::Sequence;
 use city_model::city::City;
 use city_model::script::Script;
-use city_model::sequence::Sequence;
 use std::alloc::Global;
 
 /// A document and scripts.

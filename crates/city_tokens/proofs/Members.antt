@@ -11,12 +11,12 @@ use Rattle.serde_json.proofs.Views.{get_member-put}
 use Rattle.city_tokens.specs.internal.Standing.{IsSlot}
 use Rattle.city_tokens.specs.internal.Taken.{IsValue}
 use Rattle.city_tokens.proofs.tree.Puts.{get_member-put_apart, without-absent, without-put_own}
-use Rattle.city_model.proofs.KeptIn.{put_back}
-use Rattle.city_model.specs.internal.KeptIn.{with_value}
-use Rattle.city_model.specs.internal.KeptValues.{value_data}
-use Rattle.city_model.specs.declared.kept.kept_value.KeptValue.{KeptValue}
-use Rattle.city_model.proofs.Puts.{all_above_lower, put_first, ordered_put}
-use Rattle.city_model.specs.Kept.{geometry_members}
+use Rattle.city_members.proofs.KeptIn.{put_back}
+use Rattle.city_members.specs.internal.KeptIn.{with_value}
+use Rattle.city_members.specs.internal.KeptValues.{value_data}
+use Rattle.city_members.specs.declared.kept.kept_value.KeptValue.{KeptValue}
+use Rattle.city_members.proofs.Puts.{all_above_lower, put_first, ordered_put}
+use Rattle.city_members.specs.Kept.{geometry_members}
 use Rattle.city_model.specs.declared.object_type.ObjectType.{ObjectType}
 use Rattle.city_model.specs.declared.shape_type.ShapeType.{ShapeType}
 use Rattle.city_tokens.specs.internal.Geometries.{IsKind, AreBoundaries, IsGeometrySoFar}

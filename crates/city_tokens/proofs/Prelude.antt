@@ -21,12 +21,12 @@ pub use Rattle.serde_json.specs.Data.{put, string}
 pub use Rattle.serde_json.specs.Find.{as_str, get, get_member, of_integer}
 pub use Rattle.serde_json.specs.Read.{converted, of_items, of_json, of_members}
 pub use Rattle.serde_json.specs.View.{items_of, items_view, members_view, view}
-pub use Rattle.city_model.proofs.Ids.{by_id, same_id_back}
+pub use Rattle.city_members.proofs.Ids.{by_id, same_id_back}
 pub use Rattle.city_model.proofs.MapsMade.{made}
-pub use Rattle.city_model.proofs.MemberLaws.{get_member-without}
+pub use Rattle.city_members.proofs.MemberLaws.{get_member-without}
 pub use Rattle.city_model.specs.CityMap.{Entries, has_id, same_id}
-pub use Rattle.city_model.specs.Integral.{is_integral, items_integral, members_integral}
-pub use Rattle.city_model.specs.Members.{AllAbove, AreOrdered, without, without_each}
+pub use Rattle.city_members.specs.Integral.{is_integral, items_integral, members_integral}
+pub use Rattle.city_members.specs.Members.{AllAbove, AreOrdered, without, without_each}
 pub use Rattle.city_model.specs.Scripts.{ends_once}
 pub use Rattle.city_model.specs.declared.command.Command.{Command}
 pub use Rattle.city_model.specs.declared.object.Body.{Body}

@@ -13,7 +13,7 @@ use Rattle.city_tokens.proofs.script.CommandLaws.{ends_once-read}
 use Rattle.city_tokens.proofs.document.BuiltFrames.{vertices_read}
 use Rattle.city_tokens.proofs.script.BuiltScripts.{all_items}
 use Rattle.city_tokens.proofs.tree.IntegralParts.{items_list-of}
-use Rattle.city_model.proofs.Puts.{cmp, put-swap}
+use Rattle.city_members.proofs.Puts.{cmp, put-swap}
 
 -- the last one of a name counts
 put_again : (k : List ℕ) (d e : Data) (ms : Members) → put k d (put k e ms) ≡ put k d ms

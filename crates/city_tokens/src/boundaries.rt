@@ -6,8 +6,8 @@ ghost use Rattle.city_tokens.specs.internal.Positions.{IsPosition, opened};
 ghost use Rattle.city_tokens.specs.internal.Standing.{IsArrayOf, IsReadAs};
 
 use crate::list::{FromTokens, read_rest};
+use city_members::sequence::Sequence;
 use city_model::object::{Point, Shell, Solid, Surface};
-use city_model::sequence::Sequence;
 use city_reader::{Reader, whole_of};
 use json::Token;
 use std::alloc::Global;

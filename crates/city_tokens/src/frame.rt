@@ -1,17 +1,17 @@
 //! Reads the frame of a document from the members of its top.
 ghost use Rattle.std.specs.Prelude.{◌≡◌, codes};
 ghost use Rattle.serde_json.specs.View.{view, members_view};
-ghost use Rattle.city_model.specs.Kept.{kept_at_top, kept_at_transform};
-ghost use Rattle.city_model.specs.Members.{without};
+ghost use Rattle.city_members.specs.Kept.{kept_at_top, kept_at_transform};
+ghost use Rattle.city_members.specs.Members.{without};
 ghost use Rattle.city_tokens.specs.tree.Members.{kept_if};
 ghost use Rattle.city_tokens.specs.document.Frames.{triple_at, more_of, without_transform_members};
 ghost use Rattle.city_tokens.specs.document.FramesOfRest.{frame_with, frame_of_rest};
 
 use crate::triples::triple_of;
+use city_members::kept::extra::Extra;
+use city_members::kept::site::{AtTop, AtTransform};
+use city_members::members::{into_object, take};
 use city_model::frame::Frame;
-use city_model::kept::extra::Extra;
-use city_model::kept::site::{AtTop, AtTransform};
-use city_model::members::{into_object, take};
 use serde_json::{Map, Value};
 
 /// The three whole numbers of the member of this name.

@@ -1,7 +1,7 @@
 //! Reads documents with pieces read beforehand by several workers.
 ghost use Rattle.std.specs.Prelude.{◌≡◌, [], true, IfSome};
 ghost use Rattle.serde_json.specs.Data.{Data, Members};
-ghost use Rattle.city_model.specs.Integral.{is_integral};
+ghost use Rattle.city_members.specs.Integral.{is_integral};
 ghost use Rattle.city_tokens.specs.internal.Objects.{AreObjects, IsListing};
 ghost use Rattle.city_tokens.specs.internal.Standing.{IsReadAs};
 ghost use Rattle.city_tokens.specs.internal.Taken.{IsRestOfObject};
@@ -18,8 +18,8 @@ use crate::pieces::Pieces;
 use crate::runs::Runs;
 use crate::text::text_of;
 use crate::whole_text::DEPTH;
-use city_model::sequence::Sequence;
-use city_model::text::Id;
+use city_members::sequence::Sequence;
+use city_members::text::Id;
 use city_reader::Reader;
 use json::Token;
 use std::alloc::Global;

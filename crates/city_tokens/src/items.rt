@@ -9,7 +9,7 @@ ghost use Rattle.city_tokens.specs.internal.Taken.{IsRestOfArray};
 
 use crate::list::FromTokens;
 use crate::run::Run;
-use city_model::sequence::Sequence;
+use city_members::sequence::Sequence;
 use city_reader::Reader;
 use json::Token;
 use std::alloc::Global;

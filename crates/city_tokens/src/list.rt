@@ -5,7 +5,7 @@ ghost use Rattle.serde_json.specs.View.{items_of};
 ghost use Rattle.city_tokens.specs.internal.Standing.{Pairs, IsArrayOf, IsReadAs};
 ghost use Rattle.city_tokens.specs.internal.Taken.{IsRestOfArray};
 
-use city_model::sequence::Sequence;
+use city_members::sequence::Sequence;
 use city_reader::Reader;
 use json::Token;
 use std::alloc::Global;

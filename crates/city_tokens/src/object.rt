@@ -9,14 +9,14 @@ use crate::list::FromTokens;
 use crate::member_visitor::{MemberVisitor, read_object as read_all_members};
 use crate::text::{is_name, read_str};
 use crate::value::read_value;
-use city_model::kept::kept_value::KeptValue;
-use city_model::kept::shared_extra::SharedExtra;
+use city_members::kept::kept_value::KeptValue;
+use city_members::kept::shared_extra::SharedExtra;
+use city_members::sequence::Sequence;
+use city_members::shared::Shared;
+use city_members::text::Id;
 use city_model::object::{Body, Geometry};
 use city_model::object_type::{ObjectType, type_named};
-use city_model::sequence::Sequence;
-use city_model::shared::Shared;
 use city_model::shared_ids::SharedIds;
-use city_model::text::Id;
 use city_reader::Reader;
 use serde_json::{Map, Value};
 use std::alloc::Global;
@@ -99,7 +99,7 @@ pub struct UnresolvedObject {
 impl Model for UnresolvedObject {
     ghost use Rattle.city_model.specs.declared.object.Object.{Object};
     ghost use Rattle.std.specs.Coded.{codes};
-    ghost use Rattle.city_model.specs.internal.DataCode.{coded_members};
+    ghost use Rattle.city_members.specs.internal.DataCode.{coded_members};
 
     ghost Value = { Object };
 

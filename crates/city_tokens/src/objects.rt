@@ -6,8 +6,8 @@ ghost use Rattle.city_tokens.specs.internal.Standing.{IsReadAs};
 use crate::member_visitor::{MemberVisitor, read_object as read_members};
 use crate::object::{UnresolvedObject, read_object};
 use crate::text::text_of;
-use city_model::sequence::Sequence;
-use city_model::text::Id;
+use city_members::sequence::Sequence;
+use city_members::text::Id;
 use city_reader::Reader;
 use std::alloc::Global;
 

@@ -9,8 +9,8 @@ use crate::list::FromTokens;
 use crate::object::{UnresolvedObject, read_object};
 use crate::text::text_of;
 use crate::vertices::Vertex;
+use city_members::text::Id;
 use city_model::script::Script;
-use city_model::text::Id;
 use city_reader::{Position, Reader};
 use std::alloc::Global;
 

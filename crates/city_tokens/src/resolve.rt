@@ -13,11 +13,11 @@ ghost use Rattle.city_tokens.specs.tree.Lists.{list_of};
 
 use crate::object::UnresolvedObject;
 use crate::vertices::Vertex;
+use city_members::sequence::Sequence;
+use city_members::shared::Shared;
+use city_members::text::Id;
 use city_model::body_fault::body_fault;
 use city_model::object::{Geometries, Geometry, Object, Point, Shape};
-use city_model::sequence::Sequence;
-use city_model::shared::Shared;
-use city_model::text::Id;
 use std::alloc::Global;
 use std::mem::replace;
 

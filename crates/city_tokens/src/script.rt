@@ -8,10 +8,10 @@ use crate::list::FromTokens;
 use crate::member_visitor::{MemberVisitor, read_object};
 use crate::resolve::ResolvePositions;
 use crate::vertices::Vertex;
+use city_members::sequence::Sequence;
+use city_members::text::Text;
 use city_model::command::Command;
 use city_model::script::Script;
-use city_model::sequence::Sequence;
-use city_model::text::Text;
 use city_reader::Reader;
 use std::alloc::Global;
 

@@ -1,7 +1,7 @@
 //! Reads whole texts of scripts.
 ghost use Rattle.std.specs.Prelude.{◌≡◌, [], true, Some, IfSome};
 ghost use Rattle.serde_json.specs.Data.{Data};
-ghost use Rattle.city_model.specs.Integral.{is_integral};
+ghost use Rattle.city_members.specs.Integral.{is_integral};
 ghost use Rattle.city_tokens.specs.internal.Parts.{IsNextScript};
 ghost use Rattle.city_tokens.specs.internal.Runs.{IsRun};
 ghost use Rattle.city_tokens.specs.internal.Scripts.{IsScript};
@@ -16,8 +16,8 @@ use crate::part::SCRIPT_DEPTH;
 use crate::pieces::Pieces;
 use crate::run::{Run, read_pieces};
 use crate::whole_text::read_whole_text;
+use city_members::sequence::Sequence;
 use city_model::script::Script;
-use city_model::sequence::Sequence;
 use city_reader::Reader;
 use std::alloc::Global;
 use std::thread::Threads;

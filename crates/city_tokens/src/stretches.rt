@@ -9,8 +9,8 @@ ghost use Rattle.city_tokens.specs.internal.Stretches.{AreJoined, PairsIfResolve
 use crate::object::UnresolvedObject;
 use crate::resolve::resolve_objects;
 use crate::vertices::Vertex;
+use city_members::text::Id;
 use city_model::object::Object;
-use city_model::text::Id;
 use std::alloc::Global;
 use std::mem::replace;
 use std::thread::{Threads, map_vec};

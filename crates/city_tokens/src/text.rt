@@ -6,7 +6,7 @@ ghost use Rattle.city_tokens.specs.internal.Standing.{IsString};
 ghost use Rattle.city_tokens.specs.internal.Taken.{IsValue};
 
 use crate::list::FromTokens;
-use city_model::text::{Id, Text};
+use city_members::text::{Id, Text};
 use city_reader::Reader;
 use json::Token;
 use std::alloc::Global;

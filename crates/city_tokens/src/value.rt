@@ -2,13 +2,13 @@
 ghost use Rattle.std.specs.Prelude.{◌≡◌, IfSome};
 ghost use Rattle.serde_json.specs.Data.{Data, put};
 ghost use Rattle.serde_json.specs.View.{members_view};
-ghost use Rattle.city_model.specs.internal.KeptValues.{value_data};
+ghost use Rattle.city_members.specs.internal.KeptValues.{value_data};
 ghost use Rattle.city_tokens.specs.internal.Taken.{IsValue, IsRestOfArray, IsRestOfObject};
 
-use city_model::kept::few_members::FewMembers;
-use city_model::kept::kept_items::KeptItems;
-use city_model::kept::kept_value::KeptValue;
-use city_model::kept::members_builder::MembersBuilder;
+use city_members::kept::few_members::FewMembers;
+use city_members::kept::kept_items::KeptItems;
+use city_members::kept::kept_value::KeptValue;
+use city_members::kept::members_builder::MembersBuilder;
 use city_reader::{Reader, whole_of};
 use json::Token;
 use serde_json::{Map, Number, Value};

@@ -1,7 +1,7 @@
 //! Reads whole texts.
 ghost use Rattle.std.specs.Prelude.{◌≡◌, [], true, IfSome};
 ghost use Rattle.serde_json.specs.Data.{Data};
-ghost use Rattle.city_model.specs.Integral.{is_integral};
+ghost use Rattle.city_members.specs.Integral.{is_integral};
 ghost use Rattle.city_tokens.specs.internal.Standing.{IsReadAs};
 ghost use Rattle.city_tokens.specs.tree.Texts.{HasTree};
 

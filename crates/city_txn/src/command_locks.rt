@@ -8,10 +8,10 @@ ghost use Rattle.city_txn.specs.internal.State.{store_view};
 
 use crate::store::Store;
 use city_locks::{Answer, LockTable, Mode};
+use city_members::text::Id;
 use city_model::OutOfMemory;
 use city_model::command::Command;
 use city_model::id_list::Ids;
-use city_model::text::Id;
 use std::slice;
 
 /// Asks for the locks of a command in their order, up to the first that isn't granted. If memory

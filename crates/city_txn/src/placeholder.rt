@@ -2,12 +2,12 @@
 ghost use Rattle.std.specs.Prelude.{◌≡◌, unwrap_or};
 ghost use Rattle.city_txn.specs.Placeholder.{placeholder};
 
-use city_model::kept::extra::Extra;
-use city_model::kept::shared_extra::SharedExtra;
+use city_members::kept::extra::Extra;
+use city_members::kept::shared_extra::SharedExtra;
+use city_members::sequence::Sequence;
+use city_members::shared::Shared;
 use city_model::object::{Body, Object};
 use city_model::object_type::ObjectType;
-use city_model::sequence::Sequence;
-use city_model::shared::Shared;
 use city_model::shared_ids::SharedIds;
 use serde_json::Map;
 use std::alloc::Global;

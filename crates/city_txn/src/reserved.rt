@@ -7,16 +7,16 @@ ghost use Rattle.city_txn.specs.Placeholder.{placeholder};
 ghost use Rattle.city_txn.specs.internal.Reserved.{HasRoom};
 
 use crate::placeholder::placeholder;
+use city_members::copied::Copied;
+use city_members::text::Id;
 use city_model::OutOfMemory;
 use city_model::city::City;
-use city_model::copied::Copied;
 use city_model::object::Object;
-use city_model::text::Id;
 use std::alloc::Global;
 
 /// Makes room for the id: a placeholder, if the object is absent. If memory runs out, the city is
 /// unchanged.
-#[tactic(auto, using(city_model::proofs::Ids::same_id_true, crate::proofs::StoreChanged::set_at))]
+#[tactic(auto, using(city_members::proofs::Ids::same_id_true, crate::proofs::StoreChanged::set_at))]
 pub fn make_room(city: &mut City, alloc: Global, id: &Id, absent: bool) -> Result<(), OutOfMemory>
     requires { absent ≡ is_none (object_at city.old.1 id.now) }
     ensures after { OnOk result ((q : List ℕ) → object_at city.new.1 q
@@ -82,7 +82,7 @@ pub fn put(
 }
 
 /// Sets the object, if there is one, at an id with room.
-#[tactic(auto, using(city_model::proofs::Ids::same_id_true, crate::proofs::StoreChanged::set_at))]
+#[tactic(auto, using(city_members::proofs::Ids::same_id_true, crate::proofs::StoreChanged::set_at))]
 pub fn refill(city: &mut City, id: Id, object: Option<Object>)
     requires { HasRoom city.old id }
     ensures after { (q : List ℕ) → object_at city.new.1 q
@@ -98,7 +98,7 @@ pub fn refill(city: &mut City, id: Id, object: Option<Object>)
 }
 
 /// Puts the object back at an id with room, or removes what stands there if there is none.
-#[tactic(auto, using(city_model::proofs::Ids::same_id_true, crate::proofs::StoreChanged::set_at))]
+#[tactic(auto, using(city_members::proofs::Ids::same_id_true, crate::proofs::StoreChanged::set_at))]
 pub fn put_back(city: &mut City, id: Id, object: Option<Object>)
     requires { HasRoom city.old id }
     ensures after { (q : List ℕ) → object_at city.new.1 q ≡ changed (object_at city.old.1) id object q }

@@ -26,15 +26,15 @@ ghost use Rattle.city_txn.specs.internal.State.{store_written, Touches, WritesOn
 use crate::end::End;
 use crate::transactions::Transactions;
 use crate::undo_logs::{Entry, OwnWrite, UndoLogs};
+use city_members::copied::Copied;
+use city_members::text::{Id, Text};
 use city_model::OutOfMemory;
 use city_model::change::Change;
 use city_model::city::City;
 use city_model::command::Reply;
-use city_model::copied::Copied;
 use city_model::object::Object;
 use city_model::orphans::is_orphan;
 use city_model::plan::object_lookup::ObjectLookup;
-use city_model::text::{Id, Text};
 use std::alloc::Global;
 use std::marker::Model;
 
@@ -61,7 +61,7 @@ impl Model for Store {
     ghost Value = { State };
 
     ghost use Rattle.std.specs.Coded.{codes};
-    ghost use Rattle.city_model.specs.internal.DataCode.{coded_members};
+    ghost use Rattle.city_members.specs.internal.DataCode.{coded_members};
     ghost use Rattle.city_txn.specs.internal.Codes.{coded_objects};
 
     ghost coded = { Prim.hlevel (codes, coded_members, coded_objects) };

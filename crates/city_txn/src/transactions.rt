@@ -20,12 +20,12 @@ use crate::placeholder::object_or_placeholder;
 use crate::reserved;
 use crate::undo_image::UndoImage;
 use city_locks::by_stamp::{push, push_at};
+use city_members::copied::Copied;
+use city_members::sequence::Sequence;
+use city_members::text::Id;
 use city_model::OutOfMemory;
 use city_model::city::City;
-use city_model::copied::Copied;
 use city_model::object::Object;
-use city_model::sequence::Sequence;
-use city_model::text::Id;
 use std::alloc::Global;
 use std::collections::BTreeMap;
 
@@ -116,7 +116,7 @@ impl Transactions {
     }
 
     /// Gives an id without image room, and an unwritten image. If memory runs out, nothing changes.
-    #[tactic(auto, using(city_model::proofs::Ids::same_id_true))]
+    #[tactic(auto, using(city_members::proofs::Ids::same_id_true))]
     fn add_image(&mut self, city: &mut City, stamp: u64, id: &Id) -> Result<(), OutOfMemory>
         requires { image_at self.old.images id.now ≡ None }
         ensures became { Became (λ q. is_ok result && same_id id.now q)
@@ -171,7 +171,7 @@ impl Transactions {
 
     /// Puts the object, or a placeholder, at an id, and the previous object into its image. Returns
     /// whether the id had no image. If memory runs out, nothing changes.
-    #[tactic(auto, using(city_model::proofs::Ids::same_id_true, crate::proofs::StoreChanged::set_at))]
+    #[tactic(auto, using(city_members::proofs::Ids::same_id_true, crate::proofs::StoreChanged::set_at))]
     fn place(
         &mut self,
         city: &mut City,
@@ -204,7 +204,7 @@ impl Transactions {
 
     /// Keeps the image of an id with room, and returns its old image. If memory runs out, the
     /// previous object goes back into the city.
-    #[tactic(auto, using(city_model::proofs::Ids::same_id_true))]
+    #[tactic(auto, using(city_members::proofs::Ids::same_id_true))]
     fn keep_image(
         &mut self,
         city: &mut City,
@@ -291,7 +291,7 @@ impl Transactions {
     }
 
     /// Ends a transaction at the id, and removes the id's image, if there is one. Doesn't allocate.
-    #[tactic(auto, using(city_model::proofs::Ids::same_id_true))]
+    #[tactic(auto, using(city_members::proofs::Ids::same_id_true))]
     pub fn end(&mut self, city: &mut City, end: End, id: &Id)
         requires { is_some (image_at self.old.images id.now) ≡ true → HasRoom city.old id.now }
         ensures became { Became (same_id id.now)

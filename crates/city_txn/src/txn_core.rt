@@ -19,10 +19,10 @@ use crate::command_locks::{lock, would_lock};
 use crate::end::End;
 use crate::store::Store;
 use city_locks::{Answer, LockTable};
+use city_members::copied::Copied;
 use city_model::change::Change;
 use city_model::city::City;
 use city_model::command::{Cause, Command, Reply};
-use city_model::copied::Copied;
 use std::alloc::Global;
 use std::marker::Model;
 use thiserror::Error;
@@ -78,7 +78,7 @@ impl Model for Core {
     ghost Value = { CoreState };
 
     ghost use Rattle.std.specs.Coded.{codes};
-    ghost use Rattle.city_model.specs.internal.DataCode.{coded_members};
+    ghost use Rattle.city_members.specs.internal.DataCode.{coded_members};
     ghost use Rattle.city_txn.specs.internal.Codes.{coded_objects};
 
     ghost coded = { Prim.hlevel (codes, coded_members, coded_objects) };

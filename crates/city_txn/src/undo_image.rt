@@ -10,9 +10,9 @@ ghost use Rattle.city_txn.specs.internal.Reserved.{HasRoom};
 
 use crate::end::End;
 use crate::reserved;
+use city_members::text::Id;
 use city_model::city::City;
 use city_model::object::Object;
-use city_model::text::Id;
 
 /// The object at an id before a transaction wrote it.
 #[derive(Drop)]
@@ -105,7 +105,7 @@ impl UndoImage {
     }
 
     /// Ends the transaction at the id: keeps its write, or restores the previous object.
-    #[tactic(auto, using(city_model::proofs::Ids::same_id_true, crate::proofs::StoreChanged::set_at))]
+    #[tactic(auto, using(city_members::proofs::Ids::same_id_true, crate::proofs::StoreChanged::set_at))]
     pub fn settle(self, city: &mut City, id: Id, end: End)
         requires { HasRoom city.old id }
         ensures after { (q : List ℕ) → object_at city.new.1 q

@@ -6,11 +6,11 @@ ghost use Rattle.city_txn.specs.UndoLog.{log_of};
 ghost use Rattle.city_txn.specs.internal.LogTests.{has_mark, is_at_mark, is_mark};
 
 use city_locks::by_stamp::push;
+use city_members::sequence::Sequence;
+use city_members::text::{Id, Text};
 use city_model::OutOfMemory;
 use city_model::id_list::is_same_id;
 use city_model::object::Object;
-use city_model::sequence::Sequence;
-use city_model::text::{Id, Text};
 use std::alloc::Global;
 use std::collections::BTreeMap;
 use std::marker::Model;

@@ -27,14 +27,14 @@ pub use Rattle.serde_json.specs.Data.{no_items, no_members, number, object, put,
 pub use Rattle.serde_json.specs.Find.{as_i64, get_member, of_integer}
 pub use Rattle.serde_json.specs.Read.{max_depth, of_items, of_json, of_members, read}
 pub use Rattle.serde_json.specs.View.{items_of, items_view, members_view}
-pub use Rattle.city_model.proofs.MemberLaws.{ordered_members}
+pub use Rattle.city_members.proofs.MemberLaws.{ordered_members}
 pub use Rattle.city_model.proofs.Objects.{entries_ascend}
 pub use Rattle.city_model.specs.Chunks.{ids_left}
 pub use Rattle.city_model.specs.CityMap.{CityValue, Entries}
-pub use Rattle.city_model.specs.Integral.{items_integral, members_integral}
-pub use Rattle.city_model.specs.Kept.{is_empty_object_or_absent, kept_at_geometry, kept_at_object, kept_at_top}
-pub use Rattle.city_model.specs.Kept.{kept_at_transform, lacks_each, top_members}
-pub use Rattle.city_model.specs.Members.{AllAbove, AreOrdered}
+pub use Rattle.city_members.specs.Integral.{items_integral, members_integral}
+pub use Rattle.city_members.specs.Kept.{is_empty_object_or_absent, kept_at_geometry, kept_at_object, kept_at_top}
+pub use Rattle.city_members.specs.Kept.{kept_at_transform, lacks_each, top_members}
+pub use Rattle.city_members.specs.Members.{AllAbove, AreOrdered}
 pub use Rattle.city_model.specs.Shells.{same_point}
 pub use Rattle.city_model.specs.Types.{name_of}
 pub use Rattle.city_model.specs.declared.frame.Frame.{Frame}
@@ -43,7 +43,7 @@ pub use Rattle.city_model.specs.declared.object.Geometry.{Geometry}
 pub use Rattle.city_model.specs.declared.object.Object.{Object}
 pub use Rattle.city_model.specs.declared.object.Point.{Point}
 pub use Rattle.city_model.specs.declared.object.Shape.{Shape}
-pub use Rattle.city_model.proofs.Puts.{all_put, ordered_put}
+pub use Rattle.city_members.proofs.Puts.{all_put, ordered_put}
 pub use Rattle.city_model.specs.Nesting.{Nested, nested, shape_name}
 pub use Rattle.city_writer.specs.tree.Lists.{list_data, put_list, triple_data}
 pub use Rattle.city_writer.specs.Pool.{city_points, number_of, object_points, pool_of, with_point, without_repeats}

@@ -16,7 +16,7 @@ use Rattle.city_doc.proofs.Prelude.{get_member-integral, object_is, all_put, ord
 use Rattle.city_doc.proofs.Prelude.{of_members}
 use Rattle.serde_json.specs.Data.{null, boolean}
 use Rattle.city_model.specs.Types.{type_named}
-use Rattle.city_model.proofs.Ids.{by_id}
+use Rattle.city_members.proofs.Ids.{by_id}
 use Rattle.city_tokens.specs.tree.Triples.{three_of}
 use Rattle.city_tokens.specs.document.Frames.{without_transform_members}
 use Rattle.city_doc.proofs.document.IntegralTrees.{at_geometry, at_object, at_transform, at_top}
@@ -25,7 +25,7 @@ use Rattle.city_doc.proofs.document.LawfulTrees.{StandsFor, stands_for, frame_pa
 use Rattle.city_doc.proofs.document.NoFault.{read_as}
 use Rattle.city_doc.proofs.document.Searches.{here, there}
 use Rattle.city_doc.proofs.object.FaultlessBodies.{body_parts, geometry_parts}
-use Rattle.city_model.proofs.Puts.{all_found}
+use Rattle.city_members.proofs.Puts.{all_found}
 use Rattle.json.specs.Json as json
 
 abbrev mutual

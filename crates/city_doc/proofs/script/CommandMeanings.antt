@@ -7,7 +7,7 @@ use Rattle.city_doc.proofs.Prelude.{as_object-integral, and_then_some}
 use Rattle.std.specs.Prelude.{◌||◌}
 use Rattle.std.proofs.lemmas.Bool.{not-false, or_parts}
 use Rattle.city_model.specs.declared.command.Command.TheVariants.{Put, Add, Set, Expect, Reshape}
-use Rattle.city_model.specs.Kept.{kept_at_attributes}
+use Rattle.city_members.specs.Kept.{kept_at_attributes}
 use Rattle.city_doc.specs.object.Faults.{unsupported_name}
 use Rattle.city_doc.specs.script.CommandFaults.{is_bad_object, is_no_good_form, has_bad_object, has_bad_geometry}
 use Rattle.city_doc.specs.script.CommandFaults.{names_vertex_beyond, form_names_bad_vertex}

@@ -3,7 +3,7 @@ use Rattle.city_doc.proofs.Prelude.{◌≡◌, List, Option, Some, refl, ap, ◌
 use Rattle.city_doc.proofs.Prelude.{Data, get}
 use Rattle.city_doc.proofs.Prelude.{as_object, as_str, Point, Command, command_of, kept_if, list_of}
 use Rattle.city_model.specs.declared.command.Command.TheVariants.{Put, Add, Set, Unset, Reshape, Expect}
-use Rattle.city_model.specs.Kept.{kept_at_attributes}
+use Rattle.city_members.specs.Kept.{kept_at_attributes}
 use Rattle.city_tokens.specs.script.CommandForms.{CommandForm, PutForm, AddForm, SetForm, UnsetForm, ReshapeForm}
 use Rattle.city_tokens.specs.script.CommandForms.{ExpectForm, form_of}
 use Rattle.city_tokens.specs.script.Commands.{unrelated_body, geometries_of, command_of_form}

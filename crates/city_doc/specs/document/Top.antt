@@ -3,7 +3,7 @@ use Rattle.std.specs.Prelude.{◌&&◌, ℕ, List, [], ◌∷◌, Bool, true, fa
 use Rattle.std.specs.Prelude.{is_some, if◌then◌else◌}
 use Rattle.serde_json.specs.Data.{Data, Members, no_members, member}
 use Rattle.serde_json.specs.Find.{get, as_object}
-use Rattle.city_model.specs.Kept.{is_empty_object_or_absent}
+use Rattle.city_members.specs.Kept.{is_empty_object_or_absent}
 use Rattle.city_tokens.specs.tree.Members.{is_text}
 use Rattle.city_tokens.specs.tree.Triples.{are_triples}
 use Rattle.city_tokens.specs.document.Frames.{triple_at}

@@ -6,7 +6,7 @@ use Rattle.std.specs.List.{list_any}
 use Rattle.std.specs.Str.{bytes_eq}
 use Rattle.serde_json.specs.Data.{Data, Items, no_items, item}
 use Rattle.serde_json.specs.Find.{get, as_array}
-use Rattle.city_model.specs.Kept.{has_location}
+use Rattle.city_members.specs.Kept.{has_location}
 use Rattle.city_tokens.specs.tree.Members.{text_at}
 use Rattle.city_tokens.specs.object.Bodies.{type_of, ids_at}
 use Rattle.city_doc.specs.shape.Forms.{is_number, is_position, are_geometries}

@@ -3,7 +3,7 @@ use Rattle.std.specs.Prelude.{◌≡◌, ◌⊎◌, ◌<◌, ◌&&◌, ◌||◌,
 use Rattle.std.specs.Prelude.{nat_lt, length, slice_get}
 use Rattle.std.specs.List.{list_any}
 use Rattle.serde_json.specs.Data.{Data}
-use Rattle.city_model.specs.Integral.{is_integral}
+use Rattle.city_members.specs.Integral.{is_integral}
 use Rattle.city_doc.specs.declared.fault.ScriptFault.{ScriptFault}
 use Rattle.city_doc.specs.declared.fault.ScriptFault.TheVariants.{OutOfMemory, TooLong, NotJson, NotWhole}
 use Rattle.city_doc.specs.declared.fault.ScriptFault.TheVariants.{NotScripts, BadScript, TooMany, BadCommand, BadVertex}

@@ -1,7 +1,7 @@
 -- The faults of a text of scripts, and the first of them.
 use Rattle.std.specs.Prelude.{◌≡◌, ◌⊎◌, ◌<◌, ℕ, List, Bool, true, false, Some, None, slice_get}
 use Rattle.serde_json.specs.Data.{Data}
-use Rattle.city_model.specs.Integral.{is_integral}
+use Rattle.city_members.specs.Integral.{is_integral}
 use Rattle.city_doc.specs.declared.fault.ScriptFault.{ScriptFault}
 use Rattle.city_tokens.specs.tree.Texts.{IsTooLong, IsNoJson, HasTree, HasOtherNumber}
 use Rattle.city_tokens.specs.script.Scripts.{ScriptParts, parts_of, are_too_many, vertex_count}

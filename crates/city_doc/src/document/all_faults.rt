@@ -2,7 +2,7 @@
 ghost use Rattle.std.specs.Prelude.{◌≡◌, ◌⊎◌, [], true, List, ℕ, Some, IfOk, slice_get};
 ghost use Rattle.serde_json.specs.View.{view, members_view};
 ghost use Rattle.city_model.specs.CityMap.{found_in};
-ghost use Rattle.city_model.specs.Integral.{is_integral};
+ghost use Rattle.city_members.specs.Integral.{is_integral};
 ghost use Rattle.city_doc.specs.declared.fault.ReadFault as fault;
 ghost use Rattle.city_doc.specs.document.Accepted.{IsAccepted};
 ghost use Rattle.city_doc.specs.document.AllFaults.{AreFaultsOf, AreThose, IsFaultOfTree, StandsAt};

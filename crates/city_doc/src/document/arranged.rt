@@ -10,21 +10,21 @@ ghost use Rattle.city_model.specs.Relations.{IsRelated};
 ghost use Rattle.city_doc.specs.internal.document.Arranged.{IsArranged, AreArranged};
 ghost use Rattle.city_model.specs.Least.{IsLeast};
 
+use city_members::copied::Copied;
+use city_members::kept::extra::Extra;
+use city_members::kept::shared_extra::SharedExtra;
+use city_members::kept::site::Site;
+use city_members::sequence::Sequence;
+use city_members::shared::Shared;
+use city_members::text::Id;
 use city_model::OutOfMemory;
 use city_model::city::City;
-use city_model::copied::Copied;
 use city_model::frame::Frame;
 use city_model::id_list::{Ids, are_increasing, is_same_id};
-use city_model::kept::extra::Extra;
-use city_model::kept::shared_extra::SharedExtra;
-use city_model::kept::site::Site;
 use city_model::object::{Body, Object};
 use city_model::object_type::ObjectType;
 use city_model::relations::relations_fault;
-use city_model::sequence::Sequence;
-use city_model::shared::Shared;
 use city_model::shared_ids::SharedIds;
-use city_model::text::Id;
 use serde_json::Map;
 use std::alloc::Global;
 

@@ -2,18 +2,18 @@
 ghost use Rattle.std.specs.Prelude.{◌≡◌, IfOk, option_map, option_and_then};
 ghost use Rattle.serde_json.specs.Find.{get_member, as_object};
 ghost use Rattle.serde_json.specs.View.{view, members_view};
-ghost use Rattle.city_model.specs.Members.{without};
+ghost use Rattle.city_members.specs.Members.{without};
 ghost use Rattle.city_doc.specs.document.CityFaults.{lenient_object_of};
 ghost use Rattle.city_doc.specs.internal.document.LenientCities.{listed, lenient_entries_of, lenient_city_of};
 
 use crate::object::body::body_of;
 use crate::object::ids::ids_or_none;
+use city_members::members::{into_object, take};
+use city_members::shared::Shared;
+use city_members::text::Id;
 use city_model::OutOfMemory;
 use city_model::city::City;
-use city_model::members::{into_object, take};
 use city_model::object::{Object, Point};
-use city_model::shared::Shared;
-use city_model::text::Id;
 use city_tokens::frame_of_rest;
 use serde_json::{Map, Value};
 use std::alloc::Global;

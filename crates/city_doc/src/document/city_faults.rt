@@ -14,12 +14,12 @@ ghost use Rattle.city_doc.specs.internal.document.LenientCities.{first_body, les
 use crate::document::arranged::least_misrelated;
 use crate::fault::ReadFault;
 use crate::tree::values::to_text;
+use city_members::copied::Copied;
+use city_members::text::Id;
 use city_model::OutOfMemory;
 use city_model::body_fault::{any_open_shell, any_same_twice, any_short_ring};
 use city_model::city::City;
-use city_model::copied::Copied;
 use city_model::object::Body;
-use city_model::text::Id;
 use std::alloc::Global;
 
 /// A fault of a body.

@@ -3,7 +3,7 @@ ghost use Rattle.std.specs.Prelude.{◌≡◌, ◌++◌, ℕ, List, Option, IfOk
 ghost use Rattle.serde_json.specs.Data.{Data};
 ghost use Rattle.serde_json.specs.View.{view, members_view};
 ghost use Rattle.city_model.specs.CityMap.{found_in};
-ghost use Rattle.city_model.specs.Members.{AreOrdered};
+ghost use Rattle.city_members.specs.Members.{AreOrdered};
 ghost use Rattle.city_model.specs.Shells.{some_shape, has_open_shell};
 ghost use Rattle.city_doc.specs.declared.fault.ReadFault as fault;
 ghost use Rattle.city_doc.specs.document.AllFaults.{is_misplaced};
@@ -17,9 +17,9 @@ use crate::fault::ReadFault;
 use crate::object::faults::{has_bad_vertex, is_bad_geometry, type_of, unsupported_name};
 use crate::object::ids::has_bad_list;
 use crate::tree::values::to_text;
+use city_members::text::Id;
 use city_model::OutOfMemory;
 use city_model::body_fault::any_open_shell;
-use city_model::text::Id;
 use serde_json::{Map, Value};
 use std::alloc::Global;
 

@@ -10,13 +10,13 @@ ghost use Rattle.city_model.specs.internal.RelationTests.{children_fit, is_misre
 ghost use Rattle.city_model.specs.internal.RelationTests.{parents_fit, relatives_once};
 ghost use Rattle.city_doc.specs.internal.document.IdSets.{IsSetOf};
 
+use city_members::copied::Copied;
+use city_members::text::Id;
 use city_model::OutOfMemory;
-use city_model::copied::Copied;
 use city_model::id_list::{Ids, is_same_id};
 use city_model::object::{Body, Object};
 use city_model::object_type::{self, ObjectType, family, level};
 use city_model::orphans::is_orphan;
-use city_model::text::Id;
 use std::alloc::Global;
 use std::collections::{BTreeMap, BTreeSet};
 use std::marker::Model;
@@ -56,7 +56,7 @@ impl Model for IndexedObject {
     ghost Value = { Object };
 
     ghost use Rattle.std.specs.Coded.{codes};
-    ghost use Rattle.city_model.specs.internal.DataCode.{coded_members};
+    ghost use Rattle.city_members.specs.internal.DataCode.{coded_members};
 
     ghost coded = { Prim.hlevel (codes, coded_members) };
 

@@ -5,7 +5,7 @@ ghost use Rattle.serde_json.specs.Data.{Data};
 ghost use Rattle.serde_json.specs.View.{view};
 ghost use Rattle.city_model.specs.CityMap.{object_at, CityValue};
 ghost use Rattle.city_model.specs.Relations.{IsLawful, IsRelated};
-ghost use Rattle.city_model.specs.Integral.{is_integral};
+ghost use Rattle.city_members.specs.Integral.{is_integral};
 ghost use Rattle.city_tokens.specs.document.Cities.{city_of, IsAdmitted};
 ghost use Rattle.city_doc.specs.document.Faults.{vertices_in, StandsIn, IsFirst, DocumentFault};
 ghost use Rattle.city_doc.specs.document.Top.{wrong_member};

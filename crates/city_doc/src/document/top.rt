@@ -4,7 +4,7 @@ ghost use Rattle.serde_json.specs.View.{view, members_view};
 ghost use Rattle.city_doc.specs.document.Top.{is_transform};
 ghost use Rattle.city_doc.specs.document.Top.{all_objects, are_all_objects, are_objects, are_vertices, wrong_member};
 
-use city_model::kept::site::is_empty_object_or_absent;
+use city_members::kept::site::is_empty_object_or_absent;
 use city_tokens::{are_triples, is_text, triple_at};
 use serde_json::{Map, Value};
 

@@ -4,7 +4,7 @@ ghost use Rattle.std.specs.Char.{encode_utf8};
 ghost use Rattle.std.specs.Fmt.{WritesOnOk};
 ghost use Rattle.json.specs.Print.{escape, escape_letter, quoted};
 
-use city_model::text::Text;
+use city_members::text::Text;
 use std::fmt::{self, Display, Formatter, Write};
 
 /// Shows a text as a JSON text: in quotes, with the shortest escapes.

@@ -1,18 +1,18 @@
 //! Builds the body of an object from its tree.
 ghost use Rattle.std.specs.Prelude.{◌≡◌, IfOk, codes};
 ghost use Rattle.serde_json.specs.View.{view, members_view};
-ghost use Rattle.city_model.specs.Kept.{kept_at_object};
-ghost use Rattle.city_model.specs.Members.{without};
+ghost use Rattle.city_members.specs.Kept.{kept_at_object};
+ghost use Rattle.city_members.specs.Members.{without};
 ghost use Rattle.city_tokens.specs.object.Bodies.{body_of};
 ghost use Rattle.city_tokens.specs.tree.Members.{kept_if};
 
 use crate::object::faults::type_of;
 use crate::shape::geometry::geometries_of;
+use city_members::kept::extra::Extra;
+use city_members::kept::shared_extra::SharedExtra;
+use city_members::kept::site::AtObject;
+use city_members::members::{into_object, take};
 use city_model::OutOfMemory;
-use city_model::kept::extra::Extra;
-use city_model::kept::shared_extra::SharedExtra;
-use city_model::kept::site::AtObject;
-use city_model::members::{into_object, take};
 use city_model::object::{Body, Point};
 use serde_json::{Map, Value};
 use std::alloc::Global;

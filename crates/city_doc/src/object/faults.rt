@@ -11,7 +11,7 @@ ghost use Rattle.city_doc.specs.object.Faults.{unsupported_name, is_bad_geometry
 use crate::shape::form::are_geometries;
 use crate::shape::nested::{AnyNumber, PositionBelow};
 use crate::tree::values::text_at;
-use city_model::kept::site::has_location;
+use city_members::kept::site::has_location;
 use city_model::object_type::{ObjectType, type_named};
 use serde_json::Value;
 

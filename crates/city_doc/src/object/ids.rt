@@ -7,10 +7,10 @@ ghost use Rattle.city_doc.specs.document.CityFaults.{or_empty};
 ghost use Rattle.city_doc.specs.object.Faults.{has_bad_list};
 
 use crate::tree::texts::{has_other_item, texts_of};
+use city_members::sequence::Sequence;
+use city_members::text::Id;
 use city_model::OutOfMemory;
-use city_model::sequence::Sequence;
 use city_model::shared_ids::SharedIds;
-use city_model::text::Id;
 use serde_json::Value;
 use std::alloc::Global;
 

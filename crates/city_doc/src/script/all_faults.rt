@@ -2,7 +2,7 @@
 ghost use Rattle.std.specs.Prelude.{◌≡◌, ◌⊎◌, ◌++◌, [], true, List, ℕ, Some, IfOk, OnOk, slice_get, map, length};
 ghost use Rattle.serde_json.specs.Data.{Data};
 ghost use Rattle.serde_json.specs.View.{view};
-ghost use Rattle.city_model.specs.Integral.{is_integral};
+ghost use Rattle.city_members.specs.Integral.{is_integral};
 ghost use Rattle.city_doc.specs.declared.fault.ScriptFault as fault;
 ghost use Rattle.city_doc.specs.script.AllFaults.{AreFaultsOf, AreThose, IsAccepted, IsFaultOfTree, StandsAt};
 ghost use Rattle.city_doc.specs.script.Faults.{ScriptTextFault};

@@ -2,7 +2,7 @@
 ghost use Rattle.std.specs.Prelude.{◌≡◌, IfOk, option_map, option_and_then, codes};
 ghost use Rattle.serde_json.specs.Find.{get, as_str, as_object};
 ghost use Rattle.serde_json.specs.View.{view};
-ghost use Rattle.city_model.specs.Kept.{kept_at_attributes};
+ghost use Rattle.city_members.specs.Kept.{kept_at_attributes};
 ghost use Rattle.city_tokens.specs.script.Commands.{unrelated_body, geometries_of, command_of};
 ghost use Rattle.city_tokens.specs.tree.Lists.{list_of};
 ghost use Rattle.city_tokens.specs.tree.Members.{kept_if};
@@ -13,13 +13,13 @@ use crate::script::command_form::{Form, form_of};
 use crate::shape::geometry;
 use crate::tree::texts::texts_of;
 use crate::tree::values::to_text;
+use city_members::kept::extra::{Attributes, Extra};
+use city_members::members::{into_object, take};
+use city_members::shared::Shared;
+use city_members::text::Id;
 use city_model::OutOfMemory;
-use city_model::command::{Attributes, Command};
-use city_model::kept::extra::Extra;
-use city_model::members::{into_object, take};
+use city_model::command::Command;
 use city_model::object::{Body, Point};
-use city_model::shared::Shared;
-use city_model::text::Id;
 use serde_json::Value;
 use std::alloc::Global;
 

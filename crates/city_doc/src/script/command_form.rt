@@ -7,7 +7,7 @@ ghost use Rattle.city_tokens.specs.script.CommandForms.{pair_form, members_form,
 ghost use Rattle.city_doc.specs.internal.script.Forms.{form_view};
 
 use crate::tree::texts::has_other_item;
-use city_model::members::{member, members_count};
+use city_members::members::{member, members_count};
 use serde_json::{Map, Value};
 
 /// The parts of a command, borrowed from its tree.

@@ -3,7 +3,7 @@ ghost use Rattle.std.specs.Prelude.{◌≡◌, ◌⊎◌, ℕ, true, Bool, None,
 ghost use Rattle.std.specs.List.{list_all};
 ghost use Rattle.serde_json.specs.Data.{Data};
 ghost use Rattle.serde_json.specs.View.{view};
-ghost use Rattle.city_model.specs.Integral.{is_integral};
+ghost use Rattle.city_members.specs.Integral.{is_integral};
 ghost use Rattle.city_doc.specs.script.CommandFaults.{is_bad_command, names_bad_vertex};
 ghost use Rattle.city_tokens.specs.tree.Lists.{array_of, all_read};
 ghost use Rattle.city_tokens.specs.script.Scripts.{count_of, vertex_count, parts_of, scripts_of_parts, scripts_of};

@@ -1,6 +1,6 @@
 //! Reads the forms of scripts: their names and parts. Their commands stay unread.
 ghost use Rattle.std.specs.Prelude.{◌≡◌, ◌⊎◌, true, map, Some, IfOk, IfErr, IfSome, codes, option_map};
-ghost use Rattle.city_model.specs.Members.{without};
+ghost use Rattle.city_members.specs.Members.{without};
 ghost use Rattle.serde_json.specs.View.{view, members_view};
 ghost use Rattle.city_tokens.specs.script.CommandForms.{text_in};
 ghost use Rattle.city_tokens.specs.tree.Lists.{all_read};
@@ -13,9 +13,9 @@ ghost use Rattle.city_doc.specs.internal.script.Searches.{first_at, bad_script};
 use crate::fault::ScriptFault;
 use crate::script::script_form::ScriptForm;
 use crate::tree::values::{into_array, into_text};
-use city_model::members::{into_object, member, members_count, take};
-use city_model::sequence::Sequence;
-use city_model::text::Text;
+use city_members::members::{into_object, member, members_count, take};
+use city_members::sequence::Sequence;
+use city_members::text::Text;
 use city_tokens::{MAX_COMMANDS, MAX_SCRIPTS, are_triples};
 use serde_json::{Map, Value};
 use std::alloc::Global;

@@ -3,7 +3,7 @@ ghost use Rattle.std.specs.Prelude.{◌≡◌, true, map};
 ghost use Rattle.serde_json.specs.View.{view};
 ghost use Rattle.city_tokens.specs.script.Scripts.{word_ends};
 
-use city_model::text::Text;
+use city_members::text::Text;
 use serde_json::Value;
 
 /// The parts of a script's tree.

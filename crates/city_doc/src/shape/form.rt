@@ -5,8 +5,8 @@ ghost use Rattle.city_doc.specs.shape.Forms.{is_boundaries, are_boundaries_of, i
 
 use crate::shape::nested::{Formed, Leaf};
 use crate::tree::values::text_at;
+use city_members::sequence::Sequence;
 use city_model::object::{Geometry, Shell, Solid, Surface};
-use city_model::sequence::Sequence;
 use city_model::shape_type::ShapeType;
 use serde_json::Value;
 

@@ -2,8 +2,8 @@
 ghost use Rattle.std.specs.Prelude.{◌≡◌, IfOk, option_map, option_and_then, codes};
 ghost use Rattle.serde_json.specs.Find.{as_str, get_member};
 ghost use Rattle.serde_json.specs.View.{view, items_view, members_view};
-ghost use Rattle.city_model.specs.Kept.{kept_at_geometry};
-ghost use Rattle.city_model.specs.Members.{without};
+ghost use Rattle.city_members.specs.Kept.{kept_at_geometry};
+ghost use Rattle.city_members.specs.Members.{without};
 ghost use Rattle.city_tokens.specs.tree.Lists.{read_items, list_or_absent};
 ghost use Rattle.city_tokens.specs.shape.Geometries.{shape_of, geometry_of};
 ghost use Rattle.city_doc.specs.internal.shape.Geometries.{shape_in, geometry_with};
@@ -11,15 +11,15 @@ ghost use Rattle.city_tokens.specs.tree.Members.{kept_if};
 
 use crate::shape::nested::Nested;
 use crate::tree::values::{into_array, into_text, text_at};
+use city_members::kept::extra::Extra;
+use city_members::kept::site::AtGeometry;
+use city_members::members::{into_object, take};
+use city_members::sequence::Sequence;
+use city_members::shared::Shared;
+use city_members::text::Text;
 use city_model::OutOfMemory;
-use city_model::kept::extra::Extra;
-use city_model::kept::site::AtGeometry;
-use city_model::members::{into_object, take};
 use city_model::object::{Geometries, Geometry, Point, Shape};
-use city_model::sequence::Sequence;
 use city_model::shape_type::ShapeType;
-use city_model::shared::Shared;
-use city_model::text::Text;
 use serde_json::{Map, Value};
 use std::alloc::Global;
 

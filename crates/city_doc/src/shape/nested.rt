@@ -7,9 +7,9 @@ ghost use Rattle.city_tokens.specs.tree.Lists.{read_items, list_of};
 ghost use Rattle.city_tokens.specs.shape.Geometries.{point_at};
 ghost use Rattle.city_doc.specs.shape.Forms.{is_number, is_position, position_of, all_items, is_list_of};
 
+use city_members::sequence::Sequence;
 use city_model::OutOfMemory;
 use city_model::object::Point;
-use city_model::sequence::Sequence;
 use serde_json::Value;
 use std::alloc::Global;
 

@@ -6,9 +6,9 @@ ghost use Rattle.city_tokens.specs.document.Cities.{points_in};
 ghost use Rattle.city_doc.specs.document.Faults.{vertices_in};
 ghost use Rattle.city_tokens.specs.tree.Triples.{point_of, points_of};
 
+use city_members::sequence::Sequence;
 use city_model::OutOfMemory;
 use city_model::object::Point;
-use city_model::sequence::Sequence;
 use city_tokens::triple_of;
 use serde_json::Value;
 use std::alloc::Global;

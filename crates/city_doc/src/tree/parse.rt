@@ -1,12 +1,12 @@
 //! Parses a text as a JSON tree of whole numbers.
 ghost use Rattle.std.specs.Prelude.{◌≡◌, true, IfOk, IfErr};
 ghost use Rattle.serde_json.specs.View.{view};
-ghost use Rattle.city_model.specs.Integral.{is_integral};
+ghost use Rattle.city_members.specs.Integral.{is_integral};
 ghost use Rattle.city_tokens.specs.tree.Texts.{HasTree};
 ghost use Rattle.city_doc.specs.internal.tree.TextFaults.{IsRefused};
 
 use crate::fault::{ReadFault, ScriptFault};
-use city_model::integral::is_integral;
+use city_members::integral::is_integral;
 use city_tokens::MAX_TEXT;
 use serde_json::Value;
 use std::alloc::Global;

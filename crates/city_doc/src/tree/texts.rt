@@ -5,9 +5,9 @@ ghost use Rattle.serde_json.specs.View.{view, items_view};
 ghost use Rattle.city_tokens.specs.tree.Lists.{read_items, list_of};
 
 use crate::tree::values::{into_array, into_text};
+use city_members::sequence::Sequence;
+use city_members::text::Text;
 use city_model::OutOfMemory;
-use city_model::sequence::Sequence;
-use city_model::text::Text;
 use serde_json::Value;
 use std::alloc::Global;
 

@@ -5,8 +5,8 @@ ghost use Rattle.serde_json.specs.View.{view, items_view};
 ghost use Rattle.city_tokens.specs.tree.Lists.{array_of};
 ghost use Rattle.city_tokens.specs.tree.Members.{text_at};
 
+use city_members::text::Text;
 use city_model::OutOfMemory;
-use city_model::text::Text;
 use serde_json::Value;
 use std::alloc::Global;
 

@@ -8,18 +8,19 @@ ghost use Rattle.city_model.specs.internal.Plans.{IsPlanOf};
 
 use crate::OutOfMemory;
 use crate::body_fault::{body_fault, geometry_fault};
-use crate::command::{Attributes, Cause, Reply};
-use crate::copied::Copied;
-use crate::kept::shared_extra::SharedExtra;
+use crate::command::{Cause, Reply};
 use crate::object::{Body, Geometries, Object};
 use crate::object_type::{ObjectType, is_same};
 use crate::plan::Plan;
 use crate::plan::object_lookup::ObjectLookup;
 use crate::plan::objects::with_body;
 use crate::plan::writes::{no_object, one};
-use crate::sequence::Sequence;
-use crate::shared::Shared;
-use crate::text::{Id, Text};
+use city_members::copied::Copied;
+use city_members::kept::extra::Attributes;
+use city_members::kept::shared_extra::SharedExtra;
+use city_members::sequence::Sequence;
+use city_members::shared::Shared;
+use city_members::text::{Id, Text};
 use std::alloc::Global;
 
 /// An edit of one object; its type and its relations stay.

@@ -7,14 +7,14 @@ ghost use Rattle.city_model.specs.declared.command.Command.{Command};
 
 use crate::OutOfMemory;
 use crate::command::{Cause, Reply};
-use crate::copied::Copied;
 use crate::id_list::Ids;
 use crate::object::Object;
 use crate::plan::Plan;
 use crate::plan::object_lookup::ObjectLookup;
 use crate::plan::objects::without_child;
 use crate::plan::writes::{Writes, no_object};
-use crate::text::Id;
+use city_members::copied::Copied;
+use city_members::text::Id;
 use std::alloc::Global;
 
 /// The plan of a delete.

@@ -4,7 +4,7 @@ ghost use Rattle.city_model.specs.CityMap.{CityMap, object_at};
 
 use crate::city::City;
 use crate::object::Object;
-use crate::text::Id;
+use city_members::text::Id;
 
 /// Object lookup by id.
 pub trait ObjectLookup {

@@ -5,11 +5,11 @@ ghost use Rattle.city_model.specs.Actions.{new_object, with_parent, with_child, 
 ghost use Rattle.city_model.specs.Actions.{without_id};
 
 use crate::OutOfMemory;
-use crate::copied::Copied;
 use crate::object::{Body, Object};
-use crate::shared::Shared;
 use crate::shared_ids::SharedIds;
-use crate::text::Id;
+use city_members::copied::Copied;
+use city_members::shared::Shared;
+use city_members::text::Id;
 use std::alloc::Global;
 
 /// An object of this body, without relations. Doesn't allocate.

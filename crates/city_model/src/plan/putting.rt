@@ -8,15 +8,15 @@ ghost use Rattle.city_model.specs.declared.command.Command.{Command};
 use crate::OutOfMemory;
 use crate::body_fault::body_fault;
 use crate::command::{Cause, Reply};
-use crate::copied::Copied;
 use crate::object::Body;
 use crate::plan::Plan;
 use crate::plan::amending::{Amendment, plan_amend_there};
 use crate::plan::object_lookup::ObjectLookup;
 use crate::plan::objects::new_object;
 use crate::plan::writes::one;
-use crate::shared::Shared;
-use crate::text::Id;
+use city_members::copied::Copied;
+use city_members::shared::Shared;
+use city_members::text::Id;
 use std::alloc::Global;
 
 /// The plan of a put.

@@ -4,12 +4,13 @@ ghost use Rattle.city_model.specs.internal.Plans.{IsPlan};
 ghost use Rattle.city_model.specs.declared.command.Command.{Command};
 
 use crate::OutOfMemory;
-use crate::command::{Attributes, Cause, Reply};
-use crate::copied::Copied;
+use crate::command::{Cause, Reply};
 use crate::plan::Plan;
 use crate::plan::object_lookup::ObjectLookup;
 use crate::plan::writes::{Writes, no_object};
-use crate::text::Id;
+use city_members::copied::Copied;
+use city_members::kept::extra::Attributes;
+use city_members::text::Id;
 use std::alloc::Global;
 
 /// The plan of a read.

@@ -13,7 +13,7 @@ use crate::plan::object_lookup::ObjectLookup;
 use crate::plan::objects::{with_child, with_parent, without_child, without_parent};
 use crate::plan::writes::{no_object, two};
 use crate::relations::is_wrong_family;
-use crate::text::Id;
+use city_members::text::Id;
 use std::alloc::Global;
 
 /// The plan of an attach.

@@ -5,11 +5,11 @@ ghost use Rattle.city_model.specs.declared.plan.Plan.{Plan};
 
 use crate::OutOfMemory;
 use crate::command::Cause;
-use crate::copied::Copied;
 use crate::object::Object;
 use crate::plan::Plan;
-use crate::sequence::Sequence;
-use crate::text::Id;
+use city_members::copied::Copied;
+use city_members::sequence::Sequence;
+use city_members::text::Id;
 use std::alloc::Global;
 
 /// The writes of a command: ids, each with its object afterwards, or `None` if the object is

@@ -24,7 +24,7 @@ pub struct OpeningCity {
 impl Model for OpeningCity {
     ghost use Rattle.std.specs.Prelude.{slice_index_or};
     ghost use Rattle.std.specs.Coded.{codes};
-    ghost use Rattle.city_model.specs.internal.DataCode.{coded_members};
+    ghost use Rattle.city_members.specs.internal.DataCode.{coded_members};
     ghost use Rattle.city_txn.specs.internal.Codes.{coded_objects};
     ghost use Rattle.city_model.specs.CityMap.{CityValue};
     ghost use Rattle.city_scheduler.specs.internal.NoCity.{no_city};

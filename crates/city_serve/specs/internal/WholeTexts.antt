@@ -1,7 +1,7 @@
 -- Texts with only whole numbers.
 use Rattle.std.specs.Prelude.{◌≡◌, ℕ, true, List}
 use Rattle.serde_json.specs.Data.{Data}
-use Rattle.city_model.specs.Integral.{is_integral}
+use Rattle.city_members.specs.Integral.{is_integral}
 use Rattle.city_tokens.specs.tree.Texts.{HasTree}
 
 -- each tree the editor may read from the text has only whole numbers

@@ -4,7 +4,7 @@ use Rattle.city_tokens.proofs.Prelude.{option_and_then, Data, object, Members, g
 use Rattle.city_tokens.proofs.Prelude.{Point, Entries, without, Vertex, entries_of, objects_of, IsVertex, points_of}
 use Rattle.city_tokens.proofs.Prelude.{Pairs, IsArrayOf, read_items}
 use Rattle.std.specs.Prelude.{option_map, ◌&&◌}
-use Rattle.city_model.specs.Kept.{kept_at_top}
+use Rattle.city_members.specs.Kept.{kept_at_top}
 use Rattle.city_tokens.specs.document.Frames.{triple_at, more_of, without_top_members, frame_of}
 use Rattle.city_tokens.specs.document.FramesOfRest.{frame_of_rest, without_rest_members}
 use Rattle.city_tokens.specs.internal.Frames.{built_frame}

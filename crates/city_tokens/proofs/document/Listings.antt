@@ -14,7 +14,7 @@ use Rattle.city_model.specs.Shells.{body_fault}
 use Rattle.city_model.proofs.MapsMade.{put_each}
 use Rattle.city_tokens.specs.internal.Faultless.{AreFaultless}
 use Rattle.city_tokens.specs.internal.Objects.{IsNamedObject, IsListing, put_all}
-use Rattle.city_model.proofs.Puts.{cmp}
+use Rattle.city_members.proofs.Puts.{cmp}
 use Rattle.city_tokens.proofs.Pairing.{pairs_push, pairs_over}
 
 pub at_listed : (es : Entries) → object_at (objects_of es) ≡ found_in es

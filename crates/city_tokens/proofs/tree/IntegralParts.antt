@@ -9,7 +9,7 @@ use Rattle.std.proofs.lemmas.Bool.{and_from, and_parts}
 use Rattle.serde_json.specs.declared.value.Value.{Value}
 use Rattle.city_tokens.specs.tree.Lists.{items_list}
 use Rattle.city_tokens.specs.script.Scripts.{count_of}
-use Rattle.city_model.proofs.Puts.{all_put, all_found}
+use Rattle.city_members.proofs.Puts.{all_put, all_found}
 
 pub array_is : (d : Data) (ds : Items) → as_array d ≡ Some ds → d ≡ array ds
 array_is d ds h = grind arith

@@ -4,9 +4,9 @@ use Rattle.city_tokens.proofs.Prelude.{true, false, None, true≢false}
 use Rattle.city_tokens.proofs.Prelude.{Data, Members, no_members, member, put}
 use Rattle.city_tokens.proofs.Prelude.{without, without_each, get_member, same_id, has_id}
 use Rattle.city_tokens.proofs.Prelude.{members_integral, by_id, get_member-without}
-use Rattle.city_model.specs.Kept.{lacks_each}
-use Rattle.city_model.proofs.Ids.{same_id_itself}
-use Rattle.city_model.proofs.MemberLaws.{get_member-without_same, members_integral-without}
+use Rattle.city_members.specs.Kept.{lacks_each}
+use Rattle.city_members.proofs.Ids.{same_id_itself}
+use Rattle.city_members.proofs.MemberLaws.{get_member-without_same, members_integral-without}
 use Rattle.serde_json.proofs.Views.{get_member-put_other}
 
 pub without-swap : (a b : List ℕ) (ms : Members) → without a (without b ms) ≡ without b (without a ms)

@@ -7,7 +7,7 @@ use Rattle.serde_json.specs.Find.{get, as_object}
 use Rattle.city_model.specs.declared.object.Point.{Point}
 use Rattle.city_model.specs.CityMap.{Objects, CityValue, Entries, object_at}
 use Rattle.city_model.specs.Relations.{IsLawful}
-use Rattle.city_model.specs.Integral.{is_integral}
+use Rattle.city_members.specs.Integral.{is_integral}
 use Rattle.city_tokens.specs.object.Bodies.{object_of}
 use Rattle.city_tokens.specs.tree.Members.{is_text}
 use Rattle.city_tokens.specs.document.Frames.{frame_of}

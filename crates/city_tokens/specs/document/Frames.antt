@@ -3,8 +3,8 @@ use Rattle.std.specs.Prelude.{ℕ, ℤ, List, Option, option_and_then, option_ma
 use Rattle.serde_json.specs.Data.{Data, Members}
 use Rattle.serde_json.specs.Find.{get, as_object}
 use Rattle.city_model.specs.declared.frame.Frame.{Frame}
-use Rattle.city_model.specs.Kept.{top_members, transform_members, kept_at_top, kept_at_transform}
-use Rattle.city_model.specs.Members.{without_each}
+use Rattle.city_members.specs.Kept.{top_members, transform_members, kept_at_top, kept_at_transform}
+use Rattle.city_members.specs.Members.{without_each}
 use Rattle.city_tokens.specs.tree.Members.{kept_if}
 use Rattle.city_tokens.specs.tree.Steps.{◌>>=◌}
 use Rattle.city_tokens.specs.tree.Triples.{triple_of}

@@ -3,8 +3,8 @@ use Rattle.std.specs.Prelude.{Option, drop, option_map, codes}
 use Rattle.serde_json.specs.Data.{Data, Members}
 use Rattle.serde_json.specs.Find.{get_member}
 use Rattle.city_model.specs.declared.frame.Frame.{Frame}
-use Rattle.city_model.specs.Kept.{top_members, kept_at_top}
-use Rattle.city_model.specs.Members.{without_each}
+use Rattle.city_members.specs.Kept.{top_members, kept_at_top}
+use Rattle.city_members.specs.Members.{without_each}
 use Rattle.city_tokens.specs.document.Frames.{triple_at, more_of}
 use Rattle.city_tokens.specs.tree.Members.{kept_if}
 use Rattle.city_tokens.specs.tree.Steps.{◌>>=◌}

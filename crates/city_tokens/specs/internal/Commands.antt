@@ -6,7 +6,7 @@ use Rattle.city_model.specs.declared.command.Command.{Command}
 use Rattle.city_model.specs.declared.command.Command.TheVariants.{Put, Add, Reshape}
 use Rattle.city_model.specs.declared.object.Body.{Body}
 use Rattle.city_model.specs.declared.object.Point.{Point}
-use Rattle.city_model.specs.Kept.{kept_at_attributes}
+use Rattle.city_members.specs.Kept.{kept_at_attributes}
 use Rattle.city_tokens.specs.declared.body.BodyParts.{BodyParts}
 use Rattle.city_tokens.specs.declared.command.CommandParts.{CommandParts}
 use Rattle.city_tokens.specs.declared.command.Verb.{Verb}

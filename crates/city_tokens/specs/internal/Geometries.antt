@@ -6,8 +6,8 @@ use Rattle.city_model.specs.declared.object.Geometry.{Geometry}
 use Rattle.city_model.specs.declared.object.Shape.{Shape}
 use Rattle.city_model.specs.declared.object.Shape.TheVariants as shape
 use Rattle.city_model.specs.declared.shape_type.ShapeType.{ShapeType}
-use Rattle.city_model.specs.Kept.{kept_at_geometry}
-use Rattle.city_model.specs.Members.{AreOrdered}
+use Rattle.city_members.specs.Kept.{kept_at_geometry}
+use Rattle.city_members.specs.Members.{AreOrdered}
 use Rattle.city_model.specs.ShapeTypes.{type_name}
 use Rattle.city_tokens.specs.declared.boundaries.Boundaries.{Boundaries}
 use Rattle.city_tokens.specs.declared.boundaries.Boundaries.TheVariants.{Surfaces, Shells, Solids}

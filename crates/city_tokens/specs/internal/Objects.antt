@@ -5,11 +5,11 @@ use Rattle.serde_json.specs.Find.{get_member, as_str}
 use Rattle.city_model.specs.declared.object.Object.{Object}
 use Rattle.city_model.specs.declared.object.Point.{Point}
 use Rattle.city_model.specs.declared.object_type.ObjectType.{ObjectType}
-use Rattle.city_model.specs.Kept.{kept_at_object}
-use Rattle.city_model.specs.Members.{without, AreOrdered}
+use Rattle.city_members.specs.Kept.{kept_at_object}
+use Rattle.city_members.specs.Members.{without, AreOrdered}
 use Rattle.city_model.specs.Shells.{body_fault}
 use Rattle.city_model.specs.Types.{type_named}
-use Rattle.city_model.specs.internal.KeptValues.{value_data}
+use Rattle.city_members.specs.internal.KeptValues.{value_data}
 use Rattle.city_tokens.specs.declared.object.ObjectParts.{ObjectParts}
 use Rattle.city_tokens.specs.declared.objects.Listing.{Listing}
 use Rattle.city_tokens.specs.object.Bodies.{without_object_members, object_of}

@@ -4,7 +4,7 @@ use Rattle.json.specs.Token.{Token}
 use Rattle.json.specs.Json.{value, items, members}
 use Rattle.serde_json.specs.Data.{Data, Items, Members, no_members}
 use Rattle.serde_json.specs.Read.{of_json, of_items, of_members, converted}
-use Rattle.city_model.specs.Integral.{is_integral, items_integral, members_integral}
+use Rattle.city_members.specs.Integral.{is_integral, items_integral, members_integral}
 
 -- a value, nested no deeper than the number, stands before the tokens left
 pub record IsValue (depth : ℕ) (old : List Token) (d : Data) (new : List Token) : Type 0 where

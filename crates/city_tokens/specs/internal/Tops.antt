@@ -5,7 +5,7 @@ use Rattle.serde_json.specs.Find.{get_member}
 use Rattle.serde_json.specs.View.{members_view}
 use Rattle.city_model.specs.CityMap.{CityValue, Entries, object_at}
 use Rattle.city_model.specs.internal.Faultless.{IsFaultless}
-use Rattle.city_model.specs.Members.{without, AreOrdered}
+use Rattle.city_members.specs.Members.{without, AreOrdered}
 use Rattle.city_tokens.specs.declared.document.Top.{Top}
 use Rattle.city_tokens.specs.declared.document.TopParts.{TopParts}
 use Rattle.city_tokens.specs.declared.in_pieces.TopInPieces.{TopInPieces}

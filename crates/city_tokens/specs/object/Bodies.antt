@@ -7,8 +7,8 @@ use Rattle.city_model.specs.declared.object.Body.{Body}
 use Rattle.city_model.specs.declared.object.Object.{Object}
 use Rattle.city_model.specs.declared.object_type.ObjectType.{ObjectType}
 use Rattle.city_model.specs.Types.{type_named}
-use Rattle.city_model.specs.Kept.{object_members, kept_at_object}
-use Rattle.city_model.specs.Members.{without_each}
+use Rattle.city_members.specs.Kept.{object_members, kept_at_object}
+use Rattle.city_members.specs.Members.{without_each}
 use Rattle.city_tokens.specs.tree.Lists.{list_or_absent}
 use Rattle.city_tokens.specs.tree.Members.{kept_if, text_at}
 use Rattle.city_tokens.specs.tree.Steps.{◌>>=◌}

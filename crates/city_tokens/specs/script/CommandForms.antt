@@ -5,7 +5,7 @@ use Rattle.std.specs.Option.{option_or}
 use Rattle.std.specs.Str.{bytes_eq}
 use Rattle.serde_json.specs.Data.{Data, Members, object}
 use Rattle.serde_json.specs.Find.{get_member, as_str, as_object}
-use Rattle.city_model.specs.Members.{members_count}
+use Rattle.city_members.specs.Members.{members_count}
 use Rattle.city_tokens.specs.tree.Lists.{list_of}
 use Rattle.city_tokens.specs.tree.Steps.{◌>>=◌}
 

@@ -9,7 +9,7 @@ use Rattle.city_model.specs.declared.object.Body.{Body}
 use Rattle.city_model.specs.declared.command.Command.{Command}
 use Rattle.city_model.specs.declared.command.Command.TheVariants.{Read, Put, Add, Set, Unset, Reshape, Expect}
 use Rattle.city_model.specs.declared.command.Command.TheVariants.{Delete, Attach, Detach, Mark, Back, Commit, Abort}
-use Rattle.city_model.specs.Kept.{kept_at_attributes}
+use Rattle.city_members.specs.Kept.{kept_at_attributes}
 use Rattle.city_tokens.specs.object.Bodies.{body_of}
 use Rattle.city_tokens.specs.shape.Geometries.{geometry_of}
 use Rattle.city_tokens.specs.tree.Lists.{list_or_absent}

@@ -7,8 +7,8 @@ use Rattle.serde_json.specs.Data.{Data, Members}
 use Rattle.serde_json.specs.Find.{get_member, as_str, as_object}
 use Rattle.city_model.specs.declared.object.Point.{Point}
 use Rattle.city_model.specs.Runs.{Scripted}
-use Rattle.city_model.specs.Members.{members_count}
-use Rattle.city_model.specs.Integral.{is_integral}
+use Rattle.city_members.specs.Members.{members_count}
+use Rattle.city_members.specs.Integral.{is_integral}
 use Rattle.city_tokens.specs.script.CommandForms.{text_in}
 use Rattle.city_tokens.specs.script.Commands.{command_of}
 use Rattle.city_tokens.specs.tree.Triples.{points_of, are_triples}

@@ -6,8 +6,8 @@ use Rattle.serde_json.specs.Find.{get, as_object, as_number, as_i64}
 use Rattle.city_model.specs.declared.object.Point.{Point}
 use Rattle.city_model.specs.declared.object.Shape.{Shape}
 use Rattle.city_model.specs.declared.object.Geometry.{Geometry}
-use Rattle.city_model.specs.Kept.{geometry_members, kept_at_geometry}
-use Rattle.city_model.specs.Members.{without_each}
+use Rattle.city_members.specs.Kept.{geometry_members, kept_at_geometry}
+use Rattle.city_members.specs.Members.{without_each}
 use Rattle.city_model.specs.Nesting.{Nested}
 use Rattle.city_tokens.specs.shape.GeometryTypes.{geometry_type}
 use Rattle.city_tokens.specs.tree.Lists.{list_of}

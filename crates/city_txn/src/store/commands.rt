@@ -16,12 +16,12 @@ ghost use Rattle.city_txn.specs.internal.State.{store_written, is_reserved, writ
 ghost use Rattle.city_txn.specs.internal.State.{ChangesWrites, OthersWritesStay};
 
 use crate::store::{Seen, Store};
+use city_members::copied::Copied;
+use city_members::text::{Id, Text};
 use city_model::OutOfMemory;
 use city_model::command::{Cause, Command, Reply};
-use city_model::copied::Copied;
 use city_model::object::Object;
 use city_model::plan::{Plan, Writes, plan_of};
-use city_model::text::{Id, Text};
 
 impl Store {
     /// Does a command under its locks, which the stamp holds. If memory runs out, nothing is

@@ -6,7 +6,7 @@ use Rattle.city_writer.proofs.Prelude.{lacks_each, kept_at_geometry, members_int
 use Rattle.city_writer.proofs.Prelude.{top_members, kept_at_top}
 use Rattle.city_writer.proofs.Prelude.{is_empty_object_or_absent, kept_at_transform}
 use Rattle.std.proofs.Common.{codes}
-use Rattle.city_model.proofs.Puts.{each_lacking}
+use Rattle.city_members.proofs.Puts.{each_lacking}
 
 pub record LacksGeometryMembers (ms : Members) : Type 0 where
   pub no_type : get_member (codes "type") ms ≡ None

@@ -10,7 +10,7 @@ use Rattle.std.proofs.Common.{codes}
 use Rattle.city_writer.specs.internal.document.Pieces.{frame_own}
 use Rattle.city_writer.specs.internal.tree.OwnMembers.{Own}
 use Rattle.city_writer.proofs.tree.Among.{puts, put_if}
-use Rattle.city_model.proofs.Puts.{put-swap}
+use Rattle.city_members.proofs.Puts.{put-swap}
 
 abbrev pub geometry_own : List Point → Geometry → Own
 geometry_own pool g =

@@ -8,7 +8,7 @@ use Rattle.city_writer.proofs.Prelude.{tokens_of_members, tokens_of_own, closing
 use Rattle.city_writer.proofs.Prelude.{ordered_put, all_put}
 use Rattle.std.proofs.Common.{Greater}
 use Rattle.city_writer.specs.internal.tree.ReadsBack.{OwnReadsBack}
-use Rattle.city_model.proofs.Puts.{turned, back, all_above_lower, above_put, put_first}
+use Rattle.city_members.proofs.Puts.{turned, back, all_above_lower, above_put, put_first}
 use Rattle.city_writer.proofs.tree.ReadBack.{and_then, and_then-none, object_reads}
 
 abbrev cmp : List ℕ → List ℕ → Ordering

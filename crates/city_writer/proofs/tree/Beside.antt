@@ -2,16 +2,16 @@
 use Rattle.city_writer.proofs.Prelude.{◌≡◌, ℕ, List, Ordering, Less, Equal, refl, ap, ◌∙◌, arith, nat_cmp, slice_cmp}
 use Rattle.city_writer.proofs.Prelude.{nat_list_cmp_total, Data, Members, no_members, member, put}
 use Rattle.city_writer.proofs.Prelude.{None, Option, Some, and_parts, members_integral, subst, true}
-use Rattle.city_model.specs.Integral.{is_integral}
+use Rattle.city_members.specs.Integral.{is_integral}
 use Rattle.serde_json.specs.declared.value.Value.{Value}
 use Rattle.city_writer.specs.internal.tree.MembersLeft.{with_first}
 use Rattle.city_writer.specs.internal.tree.Parted.{begins_before}
-use Rattle.city_model.proofs.MemberLists.{put_equal}
+use Rattle.city_members.proofs.MemberLists.{put_equal}
 use Rattle.std.proofs.Common.{Bor, Greater, ◌||◌}
 use Rattle.std.specs.Prelude.{IfNone}
 use Rattle.std.proofs.lemmas.Map.Lookups.{exact_bytes}
 use Rattle.std.specs.Ordering.{is_lt, ordering_reverse}
-use Rattle.city_model.proofs.Puts.{turned, back}
+use Rattle.city_members.proofs.Puts.{turned, back}
 
 abbrev cmp : List ℕ → List ℕ → Ordering
 cmp = slice_cmp nat_cmp

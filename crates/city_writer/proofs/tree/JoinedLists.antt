@@ -1,8 +1,8 @@
 -- Members in lists, one behind the other.
 use Rattle.city_writer.proofs.Prelude.{◌≡◌, ◌++◌, Members, no_members, member, and_parts, append_assoc, closing_members}
 use Rattle.city_writer.proofs.Prelude.{members_integral, MembersReadBack, refl, tokens_of_members, true}
-use Rattle.city_model.specs.Integral.{is_integral}
-use Rattle.city_model.specs.internal.MemberLists.{joined}
+use Rattle.city_members.specs.Integral.{is_integral}
+use Rattle.city_members.specs.internal.MemberLists.{joined}
 
 pub closing_joined : (ms ns : Members)
     → closing_members (joined ms ns) ≡ tokens_of_members ms ++ closing_members ns

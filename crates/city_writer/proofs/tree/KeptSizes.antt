@@ -2,10 +2,10 @@
 use Rattle.city_writer.proofs.Prelude.{◌≡◌, ◌<◌, ◌≤◌, ℕ, List, [], ◌∷◌, and_parts, arith, items_integral, length}
 use Rattle.city_writer.proofs.Prelude.{members_integral, true}
 use Rattle.std.proofs.Common.{Global, String, get_or, suc, zero}
-use Rattle.city_model.specs.Integral.{is_integral}
-use Rattle.city_model.specs.declared.kept.kept_value.KeptValue.{KeptValue}
-use Rattle.city_model.specs.internal.KeptValues.{value_data, items_data, members_data, data_size, items_size}
-use Rattle.city_model.specs.internal.KeptValues.{members_size}
+use Rattle.city_members.specs.Integral.{is_integral}
+use Rattle.city_members.specs.declared.kept.kept_value.KeptValue.{KeptValue}
+use Rattle.city_members.specs.internal.KeptValues.{value_data, items_data, members_data, data_size, items_size}
+use Rattle.city_members.specs.internal.KeptValues.{members_size}
 
 pub item_within : (vs : List KeptValue) (i : ℕ) (v : KeptValue) → i < length vs → v ≡ get_or vs i v
     → data_size (value_data v) ≤ items_size (items_data vs)

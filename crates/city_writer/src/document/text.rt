@@ -1,6 +1,6 @@
 //! Writes a city: its objects, and the other members of its top.
 ghost use Rattle.std.specs.Prelude.{◌≡◌, ◌++◌, [], OnOk, true};
-ghost use Rattle.city_model.specs.Kept.{kept_at_transform};
+ghost use Rattle.city_members.specs.Kept.{kept_at_transform};
 ghost use Rattle.city_writer.specs.document.Canonical.{transform_data, tree_of};
 ghost use Rattle.city_writer.specs.internal.document.KeptMembers.{IsKeptCity};
 ghost use Rattle.city_writer.specs.Pool.{pool_of};

@@ -21,13 +21,13 @@ use crate::point_numbers::PointNumbers;
 use crate::pool::VertexPool;
 use crate::shape::text::Written;
 use crate::tree::kept_members::KeptMembers;
+use city_members::sequence::Sequence;
+use city_members::text::Id;
 use city_model::OutOfMemory;
 use city_model::city::City;
 use city_model::id_list::Ids;
 use city_model::object::Object;
 use city_model::object_type::name;
-use city_model::sequence::Sequence;
-use city_model::text::Id;
 use json::Writer;
 use std::collections::btree_map::Iter;
 

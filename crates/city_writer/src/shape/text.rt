@@ -16,9 +16,9 @@ use crate::point_numbers::PointNumbers;
 use crate::pool::VertexPool;
 use crate::tree::kept_members::KeptMembers;
 use crate::tree::whole_numbers::write_u64;
+use city_members::sequence::Sequence;
 use city_model::OutOfMemory;
 use city_model::object::{Geometry, Point, Shape};
-use city_model::sequence::Sequence;
 use city_model::shape::Bounds;
 use json::Writer;
 

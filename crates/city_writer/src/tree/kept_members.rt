@@ -3,16 +3,16 @@ ghost use Rattle.std.specs.Prelude.{◌≡◌, ◌++◌, ◌∷◌, [], IfNone, 
 ghost use Rattle.json.specs.Token.{key, end_object};
 ghost use Rattle.serde_json.specs.Data.{no_members, member, put};
 ghost use Rattle.serde_json.specs.View.{members_view};
-ghost use Rattle.city_model.specs.Integral.{is_integral, members_integral};
-ghost use Rattle.city_model.specs.internal.KeptIn.{lent};
+ghost use Rattle.city_members.specs.Integral.{is_integral, members_integral};
+ghost use Rattle.city_members.specs.internal.KeptIn.{lent};
 ghost use Rattle.city_writer.specs.internal.tree.MembersLeft.{members_left, value_of, with_first};
 ghost use Rattle.city_writer.specs.internal.tree.Parted.{begins_before, members_before, members_from};
 ghost use Rattle.city_writer.specs.internal.tree.PartTokens.{tokens_of_members};
 ghost use Rattle.city_writer.specs.internal.tree.ReadsBack.{MembersReadBack};
 
 use crate::tree::member_value::MemberValue;
+use city_members::kept::shared_extra::LentMembers;
 use city_model::OutOfMemory;
-use city_model::kept::shared_extra::LentMembers;
 use json::Writer;
 use serde_json::{Map, Value};
 use std::cmp::Ordering;
@@ -36,14 +36,14 @@ impl<'a> Model for KeptMembers<'a> {
 
     ghost Value = { Members };
 
-    ghost use Rattle.city_model.specs.internal.DataCode.{coded_members};
+    ghost use Rattle.city_members.specs.internal.DataCode.{coded_members};
 
     ghost coded = { coded_members };
 
     ghost use Rattle.std.specs.Prelude.{◌≡◌, IfNone, true};
     ghost use Rattle.serde_json.specs.Data.{no_members};
     ghost use Rattle.serde_json.specs.View.{members_view};
-    ghost use Rattle.city_model.specs.Integral.{members_integral};
+    ghost use Rattle.city_members.specs.Integral.{members_integral};
     ghost use Rattle.city_writer.specs.internal.tree.MembersLeft.{members_left, with_first};
 
     ghost view = { λ a. members_left a.own a.first a.others };

@@ -1,14 +1,14 @@
 //! Writes kept JSON values from their lists.
 ghost use Rattle.std.specs.Prelude.{◌≡◌, ◌++◌, OnOk, true};
-ghost use Rattle.city_model.specs.Integral.{is_integral, items_integral, members_integral};
-ghost use Rattle.city_model.specs.internal.KeptValues.{value_data, items_data, members_data};
+ghost use Rattle.city_members.specs.Integral.{is_integral, items_integral, members_integral};
+ghost use Rattle.city_members.specs.internal.KeptValues.{value_data, items_data, members_data};
 ghost use Rattle.city_writer.specs.internal.tree.PartTokens.{closing_items, closing_members};
 ghost use Rattle.city_writer.specs.internal.tree.ReadsBack.{ReadsBack, ItemsReadBack, MembersReadBack};
 ghost use Rattle.city_writer.specs.tree.Tokens.{tokens_of};
 
 use crate::tree::text::write_number;
+use city_members::kept::kept_value::KeptValue;
 use city_model::OutOfMemory;
-use city_model::kept::kept_value::KeptValue;
 use json::Writer;
 
 /// Writes a value of `i64` numbers.

@@ -1,8 +1,8 @@
 //! Writes the value of a kept member.
 ghost use Rattle.std.specs.Prelude.{◌≡◌, ◌++◌, OnOk, true};
-ghost use Rattle.city_model.specs.Integral.{is_integral, members_integral};
-ghost use Rattle.city_model.specs.Members.{AreOrdered};
-ghost use Rattle.city_model.specs.internal.MemberLists.{all_joined};
+ghost use Rattle.city_members.specs.Integral.{is_integral, members_integral};
+ghost use Rattle.city_members.specs.Members.{AreOrdered};
+ghost use Rattle.city_members.specs.internal.MemberLists.{all_joined};
 ghost use Rattle.city_writer.specs.internal.tree.MembersLeft.{value_of};
 ghost use Rattle.city_writer.specs.internal.tree.PartTokens.{closing_members, tokens_of_members};
 ghost use Rattle.city_writer.specs.internal.tree.ReadsBack.{ReadsBack, MembersReadBack};
@@ -10,10 +10,10 @@ ghost use Rattle.city_writer.specs.tree.Tokens.{tokens_of};
 
 use crate::tree::kept_value::{write_kept, write_members};
 use crate::tree::text::write_value;
+use city_members::kept::few_members::FewMembers;
+use city_members::kept::member_list::MemberList;
+use city_members::kept::shared_members::{List, SharedMembers};
 use city_model::OutOfMemory;
-use city_model::kept::few_members::FewMembers;
-use city_model::kept::member_list::MemberList;
-use city_model::kept::shared_members::{List, SharedMembers};
 use json::Writer;
 use serde_json::Value;
 

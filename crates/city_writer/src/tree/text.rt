@@ -2,8 +2,8 @@
 ghost use Rattle.std.specs.Prelude.{◌≡◌, ◌++◌, OnOk, true};
 ghost use Rattle.serde_json.specs.Data.{number};
 ghost use Rattle.serde_json.specs.View.{view, number_view, items_view, members_view};
-ghost use Rattle.city_model.specs.Integral.{is_integral, items_integral, members_integral};
-ghost use Rattle.city_model.specs.Members.{AreOrdered};
+ghost use Rattle.city_members.specs.Integral.{is_integral, items_integral, members_integral};
+ghost use Rattle.city_members.specs.Members.{AreOrdered};
 ghost use Rattle.city_writer.specs.tree.Tokens.{tokens_of};
 ghost use Rattle.city_writer.specs.internal.tree.PartTokens.{closing_items, closing_members};
 ghost use Rattle.city_writer.specs.internal.tree.ReadsBack.{ReadsBack, ItemsReadBack};

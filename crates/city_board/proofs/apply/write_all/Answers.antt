@@ -1,7 +1,7 @@
 use Rattle.city_board.proofs.Prelude.{rules, ◌≡◌, ◌∷◌, ◌∙◌, ap, sym, subst, is_some, keys_of, CityMap, object_at}
 use Rattle.city_board.proofs.Prelude.{same_id, has_id, Change, after_change, changed_apart}
 use Rattle.std.proofs.lemmas.Bool.{or_left, or_right}
-use Rattle.city_model.proofs.Ids.{same_id_itself}
+use Rattle.city_members.proofs.Ids.{same_id_itself}
 use Rattle.city_model.proofs.ChangeLaws.{Ascends, first_once}
 use Rattle.city_board.proofs.apply.write_all.Goals as goal
 

@@ -9,7 +9,7 @@ use Rattle.serde_json.specs.Find.{get_member, as_object}
 use Rattle.city_model.specs.declared.object.Point.{Point}
 use Rattle.city_model.specs.declared.object.Body.{Body}
 use Rattle.city_model.specs.CityMap.{Entries, CityValue}
-use Rattle.city_model.specs.Members.{without, AreOrdered}
+use Rattle.city_members.specs.Members.{without, AreOrdered}
 use Rattle.city_model.specs.declared.frame.Frame.{Frame}
 use Rattle.city_doc.specs.document.CityFaults.{lenient_object_of}
 use Rattle.city_doc.specs.internal.document.Forms.{AreReadable}

@@ -5,7 +5,7 @@ use Rattle.serde_json.specs.Find.{get, get_member, as_str}
 use Rattle.city_model.specs.declared.object.Geometry.{Geometry}
 use Rattle.city_model.specs.declared.object.Point.{Point}
 use Rattle.city_model.specs.declared.object.Shape.{Shape}
-use Rattle.city_model.specs.Kept.{kept_at_geometry}
+use Rattle.city_members.specs.Kept.{kept_at_geometry}
 use Rattle.city_tokens.specs.shape.Geometries.{shape_of, without_geometry_members}
 use Rattle.city_tokens.specs.tree.Members.{kept_if, text_at}
 use Rattle.city_tokens.specs.tree.Steps.{◌>>=◌}

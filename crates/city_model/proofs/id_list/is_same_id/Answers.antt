@@ -1,6 +1,6 @@
 use Rattle.city_model.proofs.Prelude.{rules, false≢true}
 use Rattle.std.proofs.lemmas.Bool.{false_from_ne_true}
-use Rattle.city_model.proofs.Ids.{same_id_true}
+use Rattle.city_members.proofs.Ids.{same_id_true}
 use Rattle.city_model.proofs.id_list.is_same_id.Goals as goal
 
 pub returns-else-end_alike : goal.returns-else-end_alike

@@ -1,7 +1,7 @@
 use Rattle.city_tokens.proofs.Prelude.{◌≡◌, ◌∙◌, refl, sym, codes, get_member, true, rules, AreOrdered, members_view}
 use Rattle.city_tokens.proofs.Prelude.{Some}
-use Rattle.city_model.specs.Kept.{object_members, kept_at_object}
-use Rattle.city_model.specs.internal.KeptIn.{with_value}
+use Rattle.city_members.specs.Kept.{object_members, kept_at_object}
+use Rattle.city_members.specs.internal.KeptIn.{with_value}
 use Rattle.city_tokens.proofs.Members.{own_back, ordered_without}
 use Rattle.city_tokens.proofs.tree.Puts.{get_member-without_each}
 use Rattle.city_tokens.specs.internal.Objects.{IsType}

@@ -1,6 +1,6 @@
 use Rattle.city_tokens.proofs.Prelude.{◌≡◌, ◌++◌, true, refl, sym, ap, ◌∙◌, arith, rules, token_of, array, object}
 use Rattle.city_tokens.proofs.Prelude.{items_of}
-use Rattle.city_model.specs.Kept.{kept_at_attributes}
+use Rattle.city_members.specs.Kept.{kept_at_attributes}
 use Rattle.city_tokens.proofs.Reading.{seen_token, array_value, object_value}
 use Rattle.city_tokens.proofs.other.read_attributes.Goals as goal
 

@@ -1,7 +1,7 @@
 use Rattle.city_tokens.proofs.Prelude.{◌≡◌, [], ◌∷◌, ◌++◌, Some, refl, ap, ◌∙◌, arith, rules, read_key, token_of, put}
 use Rattle.std.proofs.Common.{string_bytes}
 use Rattle.std.proofs.lemmas.List.{map-append}
-use Rattle.city_model.specs.internal.KeptValues.{value_data, members_built}
+use Rattle.city_members.specs.internal.KeptValues.{value_data, members_built}
 use Rattle.city_reader.specs.Taken.{IsWholeTaken}
 use Rattle.city_tokens.proofs.Options.{ok_then}
 use Rattle.city_tokens.proofs.Reading.{value_shorter, member_shorter, seen_token, seen_value, null_value, boolean_value}

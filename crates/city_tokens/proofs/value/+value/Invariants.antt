@@ -1,5 +1,5 @@
 use Rattle.city_tokens.proofs.Prelude.{◌+◌, ◌*◌, length, map}
-use Rattle.city_model.specs.internal.KeptValues.{value_data, members_built}
+use Rattle.city_members.specs.internal.KeptValues.{value_data, members_built}
 use Rattle.city_tokens.proofs.Reading.{AreRead, AreFound}
 use Rattle.city_tokens.proofs.value.+value.Given as goal
 

@@ -1,7 +1,7 @@
 use Rattle.city_tokens.proofs.Prelude.{◌≡◌, refl, ap, ◌∙◌, arith, rules, put, members_view, view}
 use Rattle.std.proofs.Common.{string_bytes}
 use Rattle.serde_json.proofs.Views.{members_view-insert_entry}
-use Rattle.city_model.specs.internal.KeptValues.{value_data}
+use Rattle.city_members.specs.internal.KeptValues.{value_data}
 use Rattle.city_tokens.proofs.value.read_member.Goals as goal
 
 pub returns : goal.returns

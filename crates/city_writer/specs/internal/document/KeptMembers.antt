@@ -6,7 +6,7 @@ use Rattle.std.specs.FinMap.{entries}
 use Rattle.city_model.specs.declared.object.Geometry.{Geometry}
 use Rattle.city_model.specs.declared.object.Object.{Object}
 use Rattle.city_model.specs.CityMap.{Entries, CityValue}
-use Rattle.city_model.specs.Kept.{kept_at_top, kept_at_transform, kept_at_object, kept_at_geometry}
+use Rattle.city_members.specs.Kept.{kept_at_top, kept_at_transform, kept_at_object, kept_at_geometry}
 
 unfoldable pub is_kept_geometry : Geometry → Bool
 is_kept_geometry g = kept_at_geometry g.extra

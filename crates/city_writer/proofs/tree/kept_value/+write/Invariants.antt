@@ -1,8 +1,8 @@
 use Rattle.std.specs.Prelude.{◌*◌}
 use Rattle.city_writer.proofs.Prelude.{◌≡◌, ◌+◌, ◌++◌, drop, items_integral, members_integral}
 use Rattle.city_writer.proofs.Prelude.{closing_items, closing_members, ItemsReadBack, MembersReadBack}
-use Rattle.city_model.specs.internal.KeptValues.{value_data, items_data, members_data, data_size, items_size}
-use Rattle.city_model.specs.internal.KeptValues.{members_size}
+use Rattle.city_members.specs.internal.KeptValues.{value_data, items_data, members_data, data_size, items_size}
+use Rattle.city_members.specs.internal.KeptValues.{members_size}
 use Rattle.city_writer.proofs.tree.kept_value.+write.Given as goal
 
 abbrev pub decreases-write_kept : goal.decreases-write_kept

@@ -1,5 +1,5 @@
 use Rattle.city_writer.proofs.Prelude.{◌≡◌, ◌++◌, drop, members_integral, tokens_of_members, MembersReadBack}
-use Rattle.city_model.specs.internal.MemberLists.{entries_view}
+use Rattle.city_members.specs.internal.MemberLists.{entries_view}
 use Rattle.city_writer.proofs.tree.member_value.write_list.Given as goal
 
 -- the rest ends the list

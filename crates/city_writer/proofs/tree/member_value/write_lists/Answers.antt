@@ -1,8 +1,8 @@
 use Rattle.city_writer.proofs.Prelude.{◌≡◌, ◌∙◌, ◌+◌, ◌++◌, MembersReadBack, ap, append_assoc, closing_members, drop}
 use Rattle.city_writer.proofs.Prelude.{members_integral, no_members, subst, sym, tokens_of_members, true}
 use Rattle.std.specs.Arc.{arc_value}
-use Rattle.city_model.specs.internal.MemberLists.{all_joined}
-use Rattle.city_model.proofs.ListPlaces.{next_list}
+use Rattle.city_members.specs.internal.MemberLists.{all_joined}
+use Rattle.city_members.proofs.ListPlaces.{next_list}
 use Rattle.city_writer.proofs.tree.JoinedLists.{closing_joined, reads_joined, whole_parts}
 use Rattle.city_writer.proofs.tree.member_value.write_lists.Goals as goal
 

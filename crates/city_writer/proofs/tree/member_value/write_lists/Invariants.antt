@@ -1,5 +1,5 @@
 use Rattle.city_writer.proofs.Prelude.{◌≡◌, ◌++◌, drop, members_integral, closing_members, MembersReadBack}
-use Rattle.city_model.specs.internal.MemberLists.{all_joined}
+use Rattle.city_members.specs.internal.MemberLists.{all_joined}
 use Rattle.city_writer.proofs.tree.member_value.write_lists.Given as goal
 
 -- the rest ends the object

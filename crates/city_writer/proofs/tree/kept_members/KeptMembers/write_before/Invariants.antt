@@ -1,5 +1,5 @@
 use Rattle.city_writer.proofs.Prelude.{◌≡◌, ◌++◌, members_before, members_from, tokens_of_members, MembersReadBack}
-use Rattle.city_model.specs.Members.{members_count}
+use Rattle.city_members.specs.Members.{members_count}
 use Rattle.city_writer.proofs.tree.kept_members.KeptMembers.write_before.Given as goal
 
 abbrev pub invariant-loop-member_name : goal.invariant-loop-member_name

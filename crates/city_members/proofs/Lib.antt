@@ -1,0 +1,12 @@
+pub mod AttributeLaws
+pub mod Crossing
+pub mod Ids
+pub mod KeptIn
+mod KeptLists
+pub mod ListPlaces
+pub mod MemberLaws
+pub mod MemberLists
+pub mod Prelude
+pub mod Puts
+pub mod SameValues
+pub mod SetAndExpected

@@ -1,0 +1,38 @@
+//! The attributes of an object (CityJSON 2.0, section 2), compared.
+ghost use Rattle.std.specs.Prelude.{◌≡◌, option_map};
+ghost use Rattle.serde_json.specs.View.{view, members_view};
+ghost use Rattle.city_members.specs.Attributes.{members_of, members_or_none, are_among};
+
+use crate::kept::site::has_no_member;
+use crate::members::member;
+use crate::same_value::same_value;
+use serde_json::{Map, Value};
+
+/// Whether the value of `attributes`, if there is one, has these members, with these values.
+/// Doesn't allocate.
+pub(crate) fn has_attributes(found: Option<&Value>, named: &Map<String, Value>) -> bool
+    ensures { result ≡ are_among (members_view named.now.entries)
+        (members_of (members_or_none (option_map (λ v. view v.now) found.entry))) }
+{
+    let found = match found {
+        None => None,
+        Some(value) => value.as_object(),
+    };
+    match found {
+        Some(found) => are_among(named, found),
+        None => has_no_member(named),
+    }
+}
+
+/// Whether each of the named members is among the others, with the same value.
+fn are_among(named: &Map<String, Value>, found: &Map<String, Value>) -> bool
+    ensures { result ≡ are_among (members_view named.now.entries) (members_view found.now.entries) }
+{
+    for (name, value) in named.iter() {
+        match member(found, name.as_str()) {
+            Some(other) if same_value(value, other) => {},
+            _ => return false,
+        }
+    }
+    true
+}

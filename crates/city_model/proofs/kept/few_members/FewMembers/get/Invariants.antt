@@ -1,8 +1,0 @@
-use Rattle.city_model.proofs.Prelude.{◌≡◌, drop}
-use Rattle.city_model.specs.internal.KeptValues.{members_data}
-use Rattle.serde_json.specs.Find.{get_member}
-use Rattle.city_model.proofs.kept.few_members.FewMembers.get.Given as goal
-
-abbrev pub invariant-loop-other : goal.invariant-loop-other
-invariant-loop-other l =
-    get_member l.name (members_data l.other-items) ≡ get_member l.name (members_data (drop l.other-index l.other-items))

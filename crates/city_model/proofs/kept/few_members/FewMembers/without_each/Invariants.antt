@@ -1,8 +1,0 @@
-use Rattle.city_model.proofs.Prelude.{◌≡◌, drop}
-use Rattle.city_model.specs.Members.{without_each}
-use Rattle.city_model.proofs.kept.few_members.FewMembers.without_each.Given as goal
-
--- the members so far, with the rest taken out
-abbrev pub invariant-loop-name : goal.invariant-loop-name
-invariant-loop-name l =
-    without_each l.fn.names l.fn.self ≡ without_each (drop l.name-index l.names) l.left

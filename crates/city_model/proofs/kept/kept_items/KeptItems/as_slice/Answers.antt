@@ -1,6 +1,0 @@
-use Rattle.city_model.proofs.Prelude.{◌∙◌, ap}
-use Rattle.city_model.specs.internal.KeptValues.{items_data}
-use Rattle.city_model.proofs.kept.kept_items.KeptItems.as_slice.Goals as goal
-
-pub returns : goal.returns
-returns c = ap items_data c.as_slice.ensures.value ∙ c.self.view_is

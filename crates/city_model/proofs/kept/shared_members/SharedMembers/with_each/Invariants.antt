@@ -1,8 +1,0 @@
-use Rattle.city_model.proofs.Prelude.{◌≡◌, members_view}
-use Rattle.city_model.specs.Attributes.{put_each}
-use Rattle.city_model.proofs.kept.shared_members.SharedMembers.with_each.Given as goal
-
--- the members so far, with the rest put
-abbrev pub invariant-loop-name : goal.invariant-loop-name
-invariant-loop-name l =
-    put_each (members_view l.fn.named.entries) l.fn.self ≡ put_each (members_view l.name-iterator) l.members
