@@ -8,8 +8,8 @@ use Rattle.std.specs.Option.{unwrap_or}
 use Rattle.std.specs.List.Sorted.{IsStrictlySortedBy}
 use Rattle.std.proofs.lemmas.Map.Keys.{sorted_tail}
 use Rattle.city_model.specs.Writing.{write_in}
-use Rattle.city_model.proofs.IdLists.{bool_cases, not_both}
-use Rattle.city_members.proofs.Ids.{same_id_true, same_id_back, same_id_itself}
+use Rattle.city_model.proofs.IdLists.{not_both}
+use Rattle.city_members.proofs.Ids.{bool_cases, same_id_true, same_id_back, same_id_itself}
 use Rattle.city_model.proofs.Writing.{same_map}
 
 -- each id is below the ids after it

@@ -3,8 +3,7 @@ use Rattle.city_model.proofs.Prelude.{arith, ◌≡◌, ℕ, Bool, true, false, 
 use Rattle.city_model.proofs.Prelude.{refl, ◌∙◌, nat_cmp, AllByRecursion, list_all, slice_cmp, entries, is_at, keys_of}
 use Rattle.city_model.proofs.Prelude.{lookup, and_from, nat_list_cmp_total, lookup-none, Object, Objects, Entries}
 use Rattle.city_model.proofs.Prelude.{object_at, found_in, IsLeast}
-use Rattle.city_members.proofs.Ids.{bool_cases}
-use Rattle.city_members.proofs.Ids.{same_id_itself, same_id_back, same_id_true}
+use Rattle.city_members.proofs.Ids.{bool_cases, same_id_itself, same_id_back, same_id_true}
 use Rattle.std.specs.List.Sorted.{IsStrictlySortedBy}
 use Rattle.std.proofs.lemmas.Map.Entries.{none_below_head}
 use Rattle.city_model.proofs.Objects.{at_entries, entries_ascend}

@@ -16,8 +16,7 @@ use Rattle.city_members.specs.Attributes.{has_attributes}
 use Rattle.city_model.specs.Shells.{geometry_fault}
 use Rattle.city_model.specs.Meaning.{delete_locks}
 use Rattle.city_model.specs.Standing.{locked_ids, exclusive_ids}
-use Rattle.city_members.proofs.Ids.{same_id_itself, same_id_back}
-use Rattle.city_members.proofs.Ids.{bool_cases}
+use Rattle.city_members.proofs.Ids.{same_id_itself, same_id_back, bool_cases}
 use Rattle.city_model.proofs.IdLists.{without_absent}
 use Rattle.city_model.proofs.Soundness.{sound_agrees}
 

@@ -9,7 +9,7 @@ use Rattle.std.proofs.Common.{◌&&◌}
 use Rattle.std.specs.Prelude.{not}
 use Rattle.std.proofs.lemmas.Bool.{or_left, or_from, not_from_false}
 use Rattle.std.proofs.lemmas.List.Folds.{list_any_at}
-use Rattle.city_members.proofs.Ids.{same_id_true, same_id_back}
+use Rattle.city_members.proofs.Ids.{bool_cases, same_id_true, same_id_back}
 use Rattle.std.specs.List.{HoldsAt}
 
 -- ---- tests

@@ -11,8 +11,7 @@ use Rattle.std.specs.Prelude.{Ok}
 use Rattle.city_model.specs.Actions.{creates, amends, amendment_reply, rewrites, attach_at, detach_at}
 use Rattle.city_model.specs.internal.Plans.{AreOf, AreWritesOf}
 use Rattle.city_model.proofs.FrameLaw.{unwritten_stays}
-use Rattle.city_members.proofs.Ids.{bool_cases}
-use Rattle.city_members.proofs.Ids.{same_id_itself, same_id_back, same_id_true}
+use Rattle.city_members.proofs.Ids.{bool_cases, same_id_itself, same_id_back, same_id_true}
 
 -- ---- one object is written
 

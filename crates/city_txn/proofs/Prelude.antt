@@ -12,8 +12,7 @@ pub use Rattle.std.specs.List.Sorted.{IsStrictlySortedBy}
 pub use Rattle.std.specs.Map.{keys_of}
 pub use Rattle.std.specs.Ordering.{nat_cmp}
 pub use Rattle.city_locks.proofs.Ids.{has_id_more}
-pub use Rattle.city_members.proofs.Ids.{bool_cases}
-pub use Rattle.city_members.proofs.Ids.{same_id_back, same_id_itself, same_id_true}
+pub use Rattle.city_members.proofs.Ids.{bool_cases, same_id_back, same_id_itself, same_id_true}
 pub use Rattle.city_model.proofs.MarksKept.{from_mapped}
 pub use Rattle.city_model.proofs.Refused.{refused_stays}
 pub use Rattle.city_model.specs.CityMap.{has_id, object_at, same_id}
