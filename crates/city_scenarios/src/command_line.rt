@@ -2,7 +2,7 @@
 use crate::steps::TakesSteps;
 use crate::written::Written;
 use city_model::OutOfMemory;
-use city_serve::command_line::{Asked, LineFault, asked_by};
+use city_program::command_line::{Asked, LineFault, asked_by};
 use city_serve::{Destination, Options};
 use std::alloc::Global;
 

@@ -2,7 +2,7 @@
 use crate::steps::TakesSteps;
 use crate::written::Written;
 use city_model::OutOfMemory;
-use city_serve::seen_line::seen_line;
+use city_program::seen_line::seen_line;
 use std::alloc::Global;
 
 /// Each step is a viewer's number and the numbers of changes it saw, answered by the line.

@@ -1,4 +1,3 @@
-mod Checked
 pub mod EnoughRead
 pub mod FramedCities
 pub mod Given
@@ -10,4 +9,3 @@ pub mod Prelude
 mod Replacing
 mod Reported
 mod Serving
-mod Telling

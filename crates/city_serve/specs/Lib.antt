@@ -1,9 +1,6 @@
-pub mod Checks
 pub mod Decimals
 pub mod Destinations
 pub mod FaultTexts
-pub mod Programs
-pub mod SeenTexts
 pub mod Served
 pub mod ServedTexts
 pub mod internal

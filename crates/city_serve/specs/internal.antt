@@ -1,4 +1,3 @@
 -- Definitions for private functions and proofs: nobody has to read them to know the promises of the crate.
 pub mod Framed
-pub mod Telling
 pub mod WholeTexts

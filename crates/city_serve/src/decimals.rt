@@ -88,7 +88,7 @@ fn is_tagged_object(members: &Map<String, Value>) -> bool
 
 /// Encodes a text in its place, and lets the given one go. If the text is too long or no JSON it
 /// stays as it is: it is refused for that.
-pub(crate) fn encode_text(alloc: Global, text: &mut Text) -> Result<(), OutOfMemory>
+pub fn encode_text(alloc: Global, text: &mut Text) -> Result<(), OutOfMemory>
     ensures given { OnOk result (IsGiven text.old.bytes.items text.new.bytes.items) }
     ensures whole { OnOk result (HasWholeNumbers text.new.bytes.items) }
 {

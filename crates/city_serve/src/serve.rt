@@ -91,7 +91,7 @@ pub fn serve_input<T: Threads + Wait + Sync, G: Gate + Sync, R: Read, W: Write>(
 
 /// Reads a document and, after the first newline, scripts. No more bytes are taken from the reader than
 /// 2 * `MAX_TEXT` + 2, and without a newline there are no scripts.
-pub(crate) fn read_input<R: Read>(
+pub fn read_input<R: Read>(
     alloc: Global,
     reader: &mut Device<R>,
 ) -> Result<(Vec<u8>, Vec<u8>), ServeFault>

@@ -42,17 +42,17 @@ impl Text {
     }
 
     /// Whether it isn't there yet.
-    pub(crate) fn is_unread(&self) -> bool {
+    pub fn is_unread(&self) -> bool {
         matches!(self.stage, Stage::Unread)
     }
 
     /// Whether it is as it was given.
-    pub(crate) fn is_given(&self) -> bool {
+    pub fn is_given(&self) -> bool {
         matches!(self.stage, Stage::Given)
     }
 
     /// Gives its memory back.
-    pub(crate) fn let_go(&mut self, alloc: Global) {
+    pub fn let_go(&mut self, alloc: Global) {
         self.bytes = Vec::new(alloc);
     }
 }

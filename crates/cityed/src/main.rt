@@ -9,12 +9,13 @@
 //! nothing is run: standard output gets a line for each fault of a model and of scripts. Status 1:
 //! a fault, told on standard error, or faults found by a check; 2: a refused command line; 3: a
 //! withheld model. A fault is explained with `--explain`, and if standard error is a terminal. All
-//! this is city_serve's `run_program`: here it gets the real files and streams.
+//! this is city_program's `run_program`: here it gets the real files and streams.
 #![tactic(auto)]
 
 use city_crew::OpenGate;
-use city_serve::command_line::LineFault;
-use city_serve::{Device, RuntimeFiles, drawn_seed, refuse_line, run_program};
+use city_program::command_line::LineFault;
+use city_program::{refuse_line, run_program};
+use city_serve::{Device, RuntimeFiles, drawn_seed};
 use std::io::{ErrorKind, IsTerminal};
 use std::process::ExitCode;
 use std::{env, io};

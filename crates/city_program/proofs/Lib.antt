@@ -1,0 +1,3 @@
+mod Checked
+pub mod Prelude
+mod Telling

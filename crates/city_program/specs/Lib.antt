@@ -1,0 +1,4 @@
+pub mod Checks
+pub mod Programs
+pub mod SeenTexts
+pub mod internal

@@ -1,0 +1,192 @@
+-- The program's answer to the words of its command line.
+use Rattle.std.specs.Prelude.{◌≡◌, ◌⊎◌, ◌+◌, ⊤, ℕ, Bool, true, false, List, [], ◌∷◌, ◌++◌, codes, string_bytes, All}
+use Rattle.std.specs.Prelude.{◌||◌, Option, IfSome, Result, Ok, Err, IsErr, IfOk, option_map}
+use Rattle.std.specs.Global.{Vec}
+use Rattle.std.specs.Io.KnownBytes.{Keeps, Appends}
+use Rattle.city_options.specs.declared.command_line.Asked.{Asked}
+use Rattle.city_options.specs.declared.command_line.LineFault.{LineFault}
+use Rattle.city_serve.specs.declared.fault.ServeFault.{ServeFault}
+use Rattle.city_program.specs.declared.status.Status.{Status}
+use Rattle.city_program.specs.Checks.{AreCheckLines, HasLines, OfFiles}
+use Rattle.city_options.specs.CommandLines.{IsName, Line, IsLineOf, AnswersNames, AnswersOptions, AsksForText, HasOptions}
+use Rattle.city_options.specs.CommandLines.{IsShown, MeetsUnknownOption}
+use Rattle.city_serve.specs.Destinations.{Folder, IsDelivered, IsDeliveryFault}
+use Rattle.city_options.specs.RunOptions.{plain_options, plain_destination}
+use Rattle.city_serve.specs.FaultTexts.{fault_text}
+use Rattle.city_program.specs.SeenTexts.{seen_text}
+use Rattle.city_serve.specs.Served.{read_of, document_part, scripts_part, IsDeviceFault}
+use Rattle.city_serve.specs.ServedTexts.{AppendsSome}
+
+abbrev pub status_code : Status → ℕ
+status_code Status.Done = 0
+status_code Status.Failed = 1
+status_code Status.Faulty = 1
+status_code Status.Refused = 2
+status_code Status.Withheld = 3
+
+-- the files, standard input and standard output, before and after
+pub record Streams : Type 0 where
+  pub before : Folder
+  pub after : Folder
+  -- whether a file couldn't be replaced
+  pub files_failed : Bool
+  -- the bytes of standard input, if known, and whether it failed
+  pub input : Option (List ℕ)
+  pub reader_failed : Bool
+  -- the bytes of standard output, before and after, and whether it failed
+  pub old : Option (List ℕ)
+  pub new : Option (List ℕ)
+  pub failed : Bool
+
+-- ---- requests
+
+-- the words behind the program's name are answered so: the promises for a command line
+pub record AsksFor (arguments : List (List ℕ)) (asked : Result Asked LineFault) : Type 0 where
+  pub names : All IsName arguments → AnswersNames plain_options plain_destination arguments asked
+  pub shown : (word : List ℕ) (rest : List (List ℕ)) → AsksForText word → arguments ≡ word ∷ rest → IsShown asked
+  pub unknown : MeetsUnknownOption arguments → IsErr asked
+  pub options : (line : Line) → IsLineOf line arguments → AnswersOptions line asked
+  pub within : IfOk asked HasOptions
+
+-- ---- how it is answered
+
+-- a property of the two requested texts, if they are known: the input's, or the two files', the model's first
+abbrev pub OfTexts : Streams → Asked → (List ℕ → List ℕ → Type 0) → Type 0
+OfTexts s (Asked.Input options destination) P =
+    IfSome s.input (λ all. P (document_part (read_of all)) (scripts_part (read_of all)))
+OfTexts s (Asked.Files options destination model scripts) P =
+    IfSome (s.before model.now) (λ document. IfSome (s.before scripts.now) (λ commands. P document commands))
+OfTexts s (Asked.Check options model scripts) P = ⊤
+OfTexts s (Asked.Text text) P = ⊤
+
+-- a property of the lines of a check, if the checked texts are known
+abbrev pub OfLines : Streams → Asked → (List ℕ → Type 0) → Type 0
+OfLines s (Asked.Check options model scripts) P =
+    OfFiles s.before model.now (option_map (λ t. t.now) scripts) (λ document commands.
+    (lines : List ℕ) × AreCheckLines options.decimals document commands lines × P lines)
+OfLines s _ P = ⊤
+
+-- output has got the lines of a check, some or none, and all files are as they were
+abbrev pub IsChecked : Streams → Asked → Bool → Type 0
+IsChecked s asked faulty =
+    (s.after ≡ s.before) × OfLines s asked (λ lines. HasLines faulty lines × Appends s.old s.new lines)
+
+-- the request is done: the output of a run on the two texts went to its destination, or output has got the text. The
+-- model of a run may be withheld
+abbrev pub IsAnswered : Streams → Asked → List (Vec ℕ) → Bool → Type 0
+IsAnswered s (Asked.Input options destination) seen withheld =
+    OfTexts s (Asked.Input options destination) (λ document scripts.
+    IsDelivered destination options document scripts seen withheld s.before s.after s.old s.new)
+IsAnswered s (Asked.Files options destination model scripts) seen withheld =
+    OfTexts s (Asked.Files options destination model scripts) (λ document commands.
+    IsDelivered destination options document commands seen withheld s.before s.after s.old s.new)
+IsAnswered s (Asked.Check options model scripts) seen withheld =
+    (seen ≡ []) × (withheld ≡ false) × IsChecked s (Asked.Check options model scripts) false
+IsAnswered s (Asked.Text text) seen withheld =
+    (seen ≡ []) × (withheld ≡ false) × (s.after ≡ s.before) × Appends s.old s.new (string_bytes text)
+
+-- the texts couldn't be read: nothing is written
+abbrev pub IsUnread : Streams → Bool → ServeFault → Type 0
+IsUnread s reader_failed f = IsDeviceFault reader_failed f × Keeps s.old s.new × (s.after ≡ s.before)
+
+-- why it isn't done, and the bytes written then: none, if the reader, a file or the run is at fault
+abbrev pub IsUnanswered : Streams → Asked → ServeFault → Type 0
+IsUnanswered s (Asked.Input options destination) f =
+    IsUnread s s.reader_failed f ⊎ OfTexts s (Asked.Input options destination) (λ document scripts.
+    IsDeliveryFault destination options document scripts s.before s.after s.files_failed s.old s.new s.failed f)
+IsUnanswered s (Asked.Files options destination model scripts) f =
+    IsUnread s true f ⊎ OfTexts s (Asked.Files options destination model scripts) (λ document commands.
+    IsDeliveryFault destination options document commands s.before s.after s.files_failed s.old s.new s.failed f)
+IsUnanswered s (Asked.Check options model scripts) f =
+    IsUnread s true f
+    ⊎ ((f ≡ ServeFault.Write) × (s.failed ≡ true) × (s.after ≡ s.before)
+    × OfLines s (Asked.Check options model scripts) (AppendsSome s.old s.new))
+IsUnanswered s (Asked.Text text) f =
+    (f ≡ ServeFault.Write) × (s.failed ≡ true) × (s.after ≡ s.before) × AppendsSome s.old s.new (string_bytes text)
+
+-- ---- the texts on standard error
+
+-- if it hasn't failed, it has got this text, and no other bytes
+abbrev pub IsTold : Option (List ℕ) → Option (List ℕ) → Bool → List ℕ → Type 0
+IsTold old new failed text = failed ≡ false → Appends old new text
+
+-- a refused command line is told by its text, and running out of memory for one is a fault
+abbrev pub IsLineTold : Status → LineFault → Option (List ℕ) → Option (List ℕ) → Bool → Type 0
+IsLineTold Status.Refused (LineFault.Refused text) old new failed = IsTold old new failed (string_bytes text)
+IsLineTold Status.Failed LineFault.OutOfMemory old new failed = ⊤
+IsLineTold _ _ old new failed = ⊥
+
+-- a line for each viewer, from the one of this number on
+abbrev pub seen_lines : ℕ → List (Vec ℕ) → List ℕ
+seen_lines viewer [] = []
+seen_lines viewer (seen ∷ rest) = (seen_text viewer seen.items ++ 10 ∷ []) ++ seen_lines (viewer + 1) rest
+
+-- a fault is explained on a terminal, and on request
+abbrev pub is_explained : Bool → Asked → Bool
+is_explained terminal (Asked.Input options destination) = terminal || options.explain
+is_explained terminal (Asked.Files options destination model scripts) = terminal || options.explain
+is_explained terminal (Asked.Check options model scripts) = terminal || options.explain
+is_explained terminal (Asked.Text text) = terminal
+
+-- the line of a fault, and any lines behind it if it is explained; if memory is short for it, the line of running out
+-- of memory
+abbrev pub IsToldFault : Bool → ServeFault → List ℕ → Type 0
+IsToldFault false f text = (text ≡ fault_text f ++ 10 ∷ []) ⊎ (text ≡ codes "cityed: out of memory\n")
+IsToldFault true f text =
+    ((behind : List ℕ) × (text ≡ (fault_text f ++ 10 ∷ []) ++ behind)) ⊎ (text ≡ codes "cityed: out of memory\n")
+
+-- ---- how the program ends
+
+-- the request is done, and standard error has got what each viewer saw
+pub record IsDone (asked : Asked) (withheld : Bool) (s : Streams) (told telling : Option (List ℕ)) (mute : Bool)
+    : Type 0 where
+  pub seen : List (Vec ℕ)
+  pub answered : IsAnswered s asked seen withheld
+  pub seen_told : IsTold told telling mute (seen_lines 0 seen)
+
+-- a check found faults, and output has got them; standard error has got nothing
+abbrev pub IsFoundFaulty : Asked → Streams → Option (List ℕ) → Option (List ℕ) → Bool → Type 0
+IsFoundFaulty (Asked.Check options model scripts) s told telling mute =
+    IsChecked s (Asked.Check options model scripts) true × IsTold told telling mute []
+IsFoundFaulty _ s told telling mute = ⊥
+
+-- it isn't done, and standard error has got why
+pub record IsFaulty (terminal : Bool) (asked : Asked) (s : Streams) (told telling : Option (List ℕ)) (mute : Bool)
+    : Type 0 where
+  pub fault : ServeFault
+  pub unanswered : IsUnanswered s asked fault
+  pub line : List ℕ
+  pub line_is : IsToldFault (is_explained terminal asked) fault line
+  pub why : IsTold told telling mute line
+
+-- the promises at each status once it is known what is asked for, and whether standard error is a terminal: a fault is
+-- the answer's, or of memory for telling what viewers saw, after a complete answer
+abbrev pub EndsAsked : Bool → Asked → Status → Streams → Option (List ℕ) → Option (List ℕ) → Bool → Type 0
+EndsAsked terminal asked Status.Done s told telling mute = IsDone asked false s told telling mute
+EndsAsked terminal asked Status.Withheld s told telling mute = IsDone asked true s told telling mute
+EndsAsked terminal asked Status.Faulty s told telling mute = IsFoundFaulty asked s told telling mute
+EndsAsked terminal asked Status.Failed s told telling mute =
+    IsFaulty terminal asked s told telling mute
+    ⊎ ((seen : List (Vec ℕ)) × (withheld : Bool) × IsAnswered s asked seen withheld)
+EndsAsked terminal asked Status.Refused s told telling mute = ⊥
+
+-- the words make this request, and the status is the request's
+pub record EndsAnswered (terminal : Bool) (arguments : List (List ℕ)) (status : Status) (s : Streams)
+    (told telling : Option (List ℕ)) (mute : Bool) : Type 0 where
+  pub asked : Asked
+  pub asks : AsksFor arguments (Ok asked)
+  pub ended : EndsAsked terminal asked status s told telling mute
+
+-- the words ask for nothing, or memory was short for them: nothing is written, and a refusal is told by its text
+pub record EndsRefused (arguments : List (List ℕ)) (status : Status) (s : Streams) (told telling : Option (List ℕ))
+    (mute : Bool) : Type 0 where
+  pub fault : LineFault
+  pub asks : AsksFor arguments (Err fault)
+  pub kept : Keeps s.old s.new
+  pub same : s.after ≡ s.before
+  pub line : IsLineTold status fault told telling mute
+
+-- the promises for the end of the program
+abbrev pub Ends : Bool → List (List ℕ) → Status → Streams → Option (List ℕ) → Option (List ℕ) → Bool → Type 0
+Ends terminal arguments status s told telling mute =
+    EndsAnswered terminal arguments status s told telling mute ⊎ EndsRefused arguments status s told telling mute

@@ -1,0 +1,2 @@
+-- Definitions for private functions and proofs: nobody has to read them to know the promises of the crate.
+pub mod Telling

@@ -1,0 +1,103 @@
+//! Tells all faults of a model and of scripts, and runs nothing.
+
+ghost use Rattle.std.specs.Prelude.{◌≡◌, ◌⊎◌, true, List, ℕ, option_map, IfOk, IfErr, OnOk};
+ghost use Rattle.std.specs.Io.KnownBytes.{Appends, Keeps};
+ghost use Rattle.city_serve.specs.declared.fault.ServeFault.{ServeFault};
+ghost use Rattle.city_program.specs.Checks.{AreCheckLines, AreModelLines, AreScriptsLines, HasLines, IsJudged};
+ghost use Rattle.city_program.specs.Checks.{OfFiles};
+ghost use Rattle.city_serve.specs.Served.{IsDeviceFault};
+ghost use Rattle.city_serve.specs.ServedTexts.{AppendsSome};
+
+use city_diagnostics::{check_document, check_scripts};
+use city_model::OutOfMemory;
+use city_serve::serve::write_output;
+use city_serve::{Device, ServeFault, Text, TextFiles, Texts, encode_text};
+use std::alloc::Global;
+use std::io::Write;
+
+/// Writes a line for each fault of the model, then for each of the scripts if there are any, and
+/// says whether there is a line.
+///
+/// The model is read to its end before the scripts are opened. Nothing is written before all lines
+/// are known, and each text is let go once its lines are.
+pub(crate) fn check<F: TextFiles, W: Write>(
+    alloc: Global,
+    files: &F,
+    texts: &mut Texts,
+    decimals: bool,
+    model: &str,
+    scripts: Option<&str>,
+    output: &mut Device<W>,
+) -> Result<bool, ServeFault>
+    ensures checked { IfOk result (λ faulty.
+        OfFiles (F.text files.now) model.now (option_map (λ s. s.now) scripts.entry)
+        (λ document commands. (lines : List ℕ) × AreCheckLines decimals document commands lines
+        × (HasLines faulty lines × Appends (W.contents output.old.0) (W.contents output.new.0) lines))) }
+    ensures fault { IfErr result (λ f.
+        (IsDeviceFault true f × Keeps (W.contents output.old.0) (W.contents output.new.0))
+        ⊎ ((f ≡ ServeFault.Write) × (output.new.1 ≡ true)
+        × OfFiles (F.text files.now) model.now (option_map (λ s. s.now) scripts.entry)
+        (λ document commands. (lines : List ℕ) × AreCheckLines decimals document commands lines
+        × AppendsSome (W.contents output.old.0) (W.contents output.new.0) lines))) }
+{
+    let lines = all_lines(alloc, files, texts, decimals, model, scripts)?;
+    if !write_output(output, lines.as_slice()) {
+        return Err(ServeFault::Write);
+    }
+    Ok(!lines.is_empty())
+}
+
+/// The lines of all faults of the model and the scripts.
+fn all_lines<F: TextFiles>(
+    alloc: Global,
+    files: &F,
+    texts: &mut Texts,
+    decimals: bool,
+    model: &str,
+    scripts: Option<&str>,
+) -> Result<Vec<u8>, ServeFault>
+    ensures lines { IfOk result (λ v. OfFiles (F.text files.now) model.now (option_map (λ s. s.now) scripts.entry)
+        (λ document commands. AreCheckLines decimals document commands v.items)) }
+    ensures fault { IfErr result (IsDeviceFault true) }
+{
+    texts.document = Text::given(files.read(model)?);
+    let mut lines = document_lines(alloc, decimals, &mut texts.document)?;
+    let Some(scripts) = scripts else {
+        return Ok(lines);
+    };
+    texts.scripts = Text::given(files.read(scripts)?);
+    let more = scripts_lines(alloc, decimals, &mut texts.scripts)?;
+    lines.extend_from_slice(more.as_slice())?;
+    Ok(lines)
+}
+
+/// Returns the lines of all faults of a document, and lets it go.
+fn document_lines(alloc: Global, decimals: bool, text: &mut Text) -> Result<Vec<u8>, OutOfMemory>
+    ensures { IfOk result (λ v. AreModelLines decimals text.old.bytes.items v.items) }
+{
+    judge(alloc, decimals, text)?;
+    let lines = check_document(alloc, text.bytes.as_slice(), text.is_given())?;
+    text.let_go(alloc);
+    Ok(lines)
+}
+
+/// Returns the lines of all faults of scripts, and lets them go.
+fn scripts_lines(alloc: Global, decimals: bool, text: &mut Text) -> Result<Vec<u8>, OutOfMemory>
+    ensures { IfOk result (λ v. AreScriptsLines decimals text.old.bytes.items v.items) }
+{
+    judge(alloc, decimals, text)?;
+    let lines = check_scripts(alloc, text.bytes.as_slice(), text.is_given())?;
+    text.let_go(alloc);
+    Ok(lines)
+}
+
+/// Prepares a text for judging: if numbers of any form are taken, it is encoded as for a run.
+fn judge(alloc: Global, decimals: bool, text: &mut Text) -> Result<(), OutOfMemory>
+    ensures { OnOk result (IsJudged decimals text.old.bytes.items text.new.bytes.items) }
+{
+    if decimals {
+        encode_text(alloc, text)
+    } else {
+        Ok(())
+    }
+}

@@ -1,0 +1,165 @@
+//! Explains a fault behind its line: the file, the place in it, the mistake, and the repair.
+use city_desk::RunFault;
+use city_diagnostics::{explain_document, explain_scripts};
+use city_doc::{ReadFault, ScriptFault};
+use city_model::OutOfMemory;
+use city_options::command_line::Asked;
+use city_serve::{Device, ServeFault, Text, TextFiles, Texts};
+use std::alloc::Global;
+use std::io;
+
+/// The explanation of a fault of a request: indented lines, each with its newline. Empty for a
+/// fault of neither a text nor a file.
+///
+/// The texts are as the fault left them, and so are the files and the streams.
+pub(crate) fn explanation<F: TextFiles, R, W>(
+    alloc: Global,
+    fault: &ServeFault,
+    asked: &Asked<'_>,
+    texts: &Texts,
+    files: &F,
+    input: &Device<R>,
+    output: &Device<W>,
+) -> Result<String, OutOfMemory> {
+    match fault {
+        ServeFault::Read => unread(alloc, asked, texts, files.why(), input.failure()),
+        ServeFault::Write => unwritten(alloc, asked, files.why(), output.failure()),
+        ServeFault::Run(RunFault::Read(fault)) => document(alloc, asked, &texts.document, fault),
+        ServeFault::Run(RunFault::Script(fault)) => scripts(alloc, asked, &texts.scripts, fault),
+        ServeFault::Run(_) => Ok(String::new(alloc)),
+    }
+}
+
+/// The explanation of a fault of a document.
+fn document(
+    alloc: Global,
+    asked: &Asked<'_>,
+    text: &Text,
+    fault: &ReadFault,
+) -> Result<String, OutOfMemory> {
+    let told = explain_document(alloc, text.bytes.as_slice(), text.is_given(), fault)?;
+    around(alloc, asked, model_name(asked), told.as_str())
+}
+
+/// The explanation of a fault of scripts.
+fn scripts(
+    alloc: Global,
+    asked: &Asked<'_>,
+    text: &Text,
+    fault: &ScriptFault,
+) -> Result<String, OutOfMemory> {
+    let told = explain_scripts(alloc, text.bytes.as_slice(), text.is_given(), fault)?;
+    around(alloc, asked, scripts_name(asked), told.as_str())
+}
+
+/// The explanation of a text's fault, between the line with the file and the command to tell all
+/// faults.
+fn around(alloc: Global, asked: &Asked<'_>, name: &str, told: &str) -> Result<String, OutOfMemory> {
+    let mut lines = String::new(alloc);
+    push_line(&mut lines, "file", name)?;
+    lines.push_str(told)?;
+    match asked {
+        Asked::Files(options, _, model, scripts) => {
+            push_command(&mut lines, "", options.decimals, *model, *scripts)?;
+        }
+        Asked::Input(options, _) => {
+            let words = "put the two texts into files, and run ";
+            push_command(&mut lines, words, options.decimals, "MODEL", "SCRIPTS")?;
+        }
+        _ => {}
+    }
+    Ok(lines)
+}
+
+/// Adds the line with the command to tell all faults.
+fn push_command(
+    lines: &mut String,
+    words: &str,
+    decimals: bool,
+    model: &str,
+    scripts: &str,
+) -> Result<(), OutOfMemory> {
+    lines.push_str("  all faults: ")?;
+    lines.push_str(words)?;
+    lines.push_str("cityed --check ")?;
+    if decimals {
+        lines.push_str("--decimals ")?;
+    }
+    lines.push_str(model)?;
+    lines.push_str(" ")?;
+    lines.push_str(scripts)?;
+    lines.push_str("\n")
+}
+
+/// The explanation of an unread text: which, and why. The model is read before the scripts.
+fn unread(
+    alloc: Global,
+    asked: &Asked<'_>,
+    texts: &Texts,
+    file_error: Option<io::Error>,
+    input_error: Option<io::Error>,
+) -> Result<String, OutOfMemory> {
+    match asked {
+        Asked::Input(..) => device(alloc, "standard input", input_error),
+        _ if texts.document.is_unread() => device(alloc, model_name(asked), file_error),
+        _ => device(alloc, scripts_name(asked), file_error),
+    }
+}
+
+/// The explanation of unwritten output: standard output, or else the output file.
+fn unwritten(
+    alloc: Global,
+    asked: &Asked<'_>,
+    file_error: Option<io::Error>,
+    output_error: Option<io::Error>,
+) -> Result<String, OutOfMemory> {
+    match output_file(asked) {
+        Some(path) if output_error.is_none() => device(alloc, path, file_error),
+        _ => device(alloc, "standard output", output_error),
+    }
+}
+
+/// The lines for a failed file or stream: its name, and why, if known.
+fn device(alloc: Global, name: &str, error: Option<io::Error>) -> Result<String, OutOfMemory> {
+    let mut lines = String::new(alloc);
+    push_line(&mut lines, "file", name)?;
+    if let Some(error) = error {
+        let words = error.to_string(alloc)?;
+        push_line(&mut lines, "what", words.as_str())?;
+    }
+    Ok(lines)
+}
+
+/// Adds an indented line: a word, and the text told of it.
+fn push_line(lines: &mut String, word: &str, told: &str) -> Result<(), OutOfMemory> {
+    lines.push_str("  ")?;
+    lines.push_str(word)?;
+    lines.push_str(": ")?;
+    lines.push_str(told)?;
+    lines.push_str("\n")
+}
+
+/// The model's name, as it is told.
+fn model_name<'a>(asked: &Asked<'a>) -> &'a str {
+    match asked {
+        Asked::Files(_, _, model, _) | Asked::Check(_, model, _) => *model,
+        Asked::Input(..) | Asked::Text(_) => "standard input, its first line",
+    }
+}
+
+/// The scripts' name, as it is told.
+fn scripts_name<'a>(asked: &Asked<'a>) -> &'a str {
+    match asked {
+        Asked::Files(_, _, _, scripts) | Asked::Check(_, _, Some(scripts)) => *scripts,
+        Asked::Check(_, model, None) => *model,
+        Asked::Input(..) | Asked::Text(_) => "standard input, behind its first line",
+    }
+}
+
+/// The path of the output file, if there is one.
+fn output_file<'a>(asked: &Asked<'a>) -> Option<&'a str> {
+    match asked {
+        Asked::Input(_, destination) | Asked::Files(_, destination, _, _) => destination.file,
+        Asked::Check(..) | Asked::Text(_) => None,
+    }
+}

@@ -1,0 +1,19 @@
+//! The program's answers to command lines.
+//!
+//! - `program`: how a command line is answered, and told; `status`: how the program ends
+//! - `check`: all faults of two texts, told; `explain`: the lines behind a fault's line
+//! - `seen_line`: a viewer's line
+//!
+//! Made for a program that ends once its output is written: the city of a run is left to the end of the
+//! process.
+#![tactic(auto)]
+
+mod check;
+mod explain;
+mod program;
+pub mod seen_line;
+mod status;
+
+pub use city_options::command_line;
+pub use program::{refuse_line, run_program};
+pub use status::Status;

@@ -1,0 +1,373 @@
+//! Answers the words of a command line.
+ghost use Rattle.std.specs.Prelude.{◌≡◌, ◌++◌, ◌∷◌, [], ℕ, List, false, drop, map, string_bytes, IfOk, IfErr, OnOk};
+ghost use Rattle.city_options.specs.CommandLines.{HasOptions};
+ghost use Rattle.city_serve.specs.FaultTexts.{fault_text};
+ghost use Rattle.city_program.specs.SeenTexts.{seen_text};
+ghost use Rattle.city_program.specs.declared.status.Status.{Status};
+ghost use Rattle.city_program.specs.Programs.{is_explained, IsUnanswered, IsLineTold, IsToldFault};
+ghost use Rattle.city_program.specs.Programs.{Ends, EndsAsked};
+ghost use Rattle.city_program.specs.internal.Telling.{run_status, check_status, IsAnsweredAs, IsFaultText, IsToldAfter};
+ghost use Rattle.city_program.specs.internal.Telling.{IsSeenTold};
+
+use crate::check::check;
+use crate::explain::explanation;
+use crate::seen_line::seen_line;
+use crate::status::Status;
+use city_crew::Gate;
+use city_desk::RunFault;
+use city_model::OutOfMemory;
+use city_model::city::City;
+use city_options::command_line::{Asked, LineFault, asked_by};
+use city_serve::fault_line::fault_line;
+use city_serve::serve::{read_input, write_output};
+use city_serve::serve_texts::serve_to;
+use city_serve::{Delivered, Device, OutputFiles, ServeFault, Text, Texts};
+use std::alloc::Global;
+use std::io::{Read, Write};
+use std::mem::forget;
+use std::sync::Wait;
+use std::thread::Threads;
+
+/// Told if memory runs out.
+const MEMORY_LINE: &str = "cityed: out of memory\n";
+
+/// Answers the words of a command line, the program's name first.
+///
+/// Output gets everything served, or the requested text; an output file is replaced whole, or stays
+/// as it was. Errors get a line for each viewer once the output is written, or why there is none. A
+/// failure to write errors changes no status. The memory of the final city isn't given back: the
+/// process is taken to end.
+pub fn run_program<
+    T: Threads + Wait + Sync,
+    G: Gate + Sync,
+    F: OutputFiles,
+    R: Read,
+    W: Write,
+    E: Write,
+>(
+    rt: &T,
+    alloc: Global,
+    gate: &G,
+    seed: u64,
+    files: &mut F,
+    words: &[String],
+    input: &mut Device<R>,
+    output: &mut Device<W>,
+    errors: &mut Device<E>,
+    terminal: bool,
+) -> Status
+    ensures { Ends terminal (drop 1 (map string_bytes words.now)) result
+        (record {
+          before = F.text files.old;
+          after = F.text files.new;
+          files_failed = F.have_failed files.new;
+          input = R.remaining input.old.0;
+          reader_failed = input.new.1;
+          old = W.contents output.old.0;
+          new = W.contents output.new.0;
+          failed = output.new.1;
+        })
+        (E.contents errors.old.0) (E.contents errors.new.0) errors.new.1 }
+{
+    match asked_by(alloc, words) {
+        Ok(asked) => run_asked(
+            rt, alloc, gate, seed, files, &asked, input, output, errors, terminal,
+        ),
+        Err(fault) => refuse_line(alloc, &fault, errors),
+    }
+}
+
+/// Answers a request, and tells what viewers saw, or why there is no answer.
+fn run_asked<T: Threads + Wait + Sync, G: Gate + Sync, F: OutputFiles, R: Read, W: Write, E: Write>(
+    rt: &T,
+    alloc: Global,
+    gate: &G,
+    seed: u64,
+    files: &mut F,
+    asked: &Asked<'_>,
+    input: &mut Device<R>,
+    output: &mut Device<W>,
+    errors: &mut Device<E>,
+    terminal: bool,
+) -> Status
+    requires { HasOptions asked.now }
+    ensures { EndsAsked terminal asked.now result
+        (record {
+          before = F.text files.old;
+          after = F.text files.new;
+          files_failed = F.have_failed files.new;
+          input = R.remaining input.old.0;
+          reader_failed = input.new.1;
+          old = W.contents output.old.0;
+          new = W.contents output.new.0;
+          failed = output.new.1;
+        })
+        (E.contents errors.old.0) (E.contents errors.new.0) errors.new.1 }
+{
+    let mut texts = Texts::unread(alloc);
+    match answer(
+        rt, alloc, gate, seed, files, &mut texts, asked, input, output,
+    ) {
+        Ok(answer) => tell_seen(alloc, answer.seen.as_slice(), answer.status, errors),
+        Err(fault) => tell_unanswered(
+            alloc, terminal, fault, asked, texts, files, input, output, errors,
+        ),
+    }
+}
+
+/// Tells why a request isn't answered, with the explanation, if any.
+fn tell_unanswered<F: OutputFiles, R: Read, W: Write, E: Write>(
+    alloc: Global,
+    terminal: bool,
+    fault: ServeFault,
+    asked: &Asked<'_>,
+    texts: Texts,
+    files: &F,
+    input: &Device<R>,
+    output: &Device<W>,
+    errors: &mut Device<E>,
+) -> Status
+    ensures status { result ≡ Status.Failed }
+    ensures told { (text : List ℕ) × IsToldFault (is_explained terminal asked.now) fault text
+        × IsToldAfter errors.old.1 (E.contents errors.old.0) (E.contents errors.new.0) errors.new.1 text }
+{
+    let behind = behind_line(alloc, terminal, &fault, asked, &texts, files, input, output);
+    tell_fault(alloc, &fault, behind.as_str(), errors)
+}
+
+/// The lines behind a fault's line: none if it isn't explained, or memory is short for them.
+fn behind_line<F: OutputFiles, R: Read, W: Write>(
+    alloc: Global,
+    terminal: bool,
+    fault: &ServeFault,
+    asked: &Asked<'_>,
+    texts: &Texts,
+    files: &F,
+    input: &Device<R>,
+    output: &Device<W>,
+) -> String
+    ensures { is_explained terminal asked.now ≡ false → string_bytes result ≡ [] }
+{
+    if !is_explained(terminal, asked) {
+        return String::new(alloc);
+    }
+    match explanation(alloc, fault, asked, texts, files, input, output) {
+        Ok(lines) => lines,
+        Err(OutOfMemory) => String::new(alloc),
+    }
+}
+
+/// Whether a fault is explained: on a terminal, and on request.
+fn is_explained(terminal: bool, asked: &Asked<'_>) -> bool
+    ensures { result ≡ is_explained terminal asked.now }
+{
+    match asked {
+        Asked::Input(options, _) | Asked::Files(options, _, _, _) | Asked::Check(options, _, _) => {
+            terminal || options.explain
+        }
+        Asked::Text(_) => terminal,
+    }
+}
+
+/// The result of a request, once done.
+#[derive(Drop)]
+struct Answered {
+    /// For each viewer, the numbers of the changes it saw.
+    seen: Vec<Vec<u64>>,
+    status: Status,
+}
+
+/// The answer of a check.
+fn check_answer(alloc: Global, faulty: bool) -> Answered
+    ensures seen { result.seen.items ≡ [] }
+    ensures status { result.status ≡ check_status faulty }
+{
+    let status = if faulty { Status::Faulty } else { Status::Done };
+    Answered {
+        seen: Vec::new(alloc),
+        status,
+    }
+}
+
+/// The answer of a run, whose final city is left to the end of the process: to drop it object by
+/// object would take time.
+fn run_answer(delivered: Delivered, city: City) -> Answered
+    ensures seen { result.seen ≡ delivered.seen }
+    ensures status { result.status ≡ run_status delivered.withheld }
+{
+    forget(city);
+    let status = if delivered.withheld {
+        Status::Withheld
+    } else {
+        Status::Done
+    };
+    Answered {
+        seen: delivered.seen,
+        status,
+    }
+}
+
+/// Writes the answer to a request. MODEL is read to its end before SCRIPTS is opened.
+fn answer<T: Threads + Wait + Sync, G: Gate + Sync, F: OutputFiles, R: Read, W: Write>(
+    rt: &T,
+    alloc: Global,
+    gate: &G,
+    seed: u64,
+    files: &mut F,
+    texts: &mut Texts,
+    asked: &Asked<'_>,
+    input: &mut Device<R>,
+    output: &mut Device<W>,
+) -> Result<Answered, ServeFault>
+    requires { HasOptions asked.now }
+    ensures answered { IfOk result (λ a. IsAnsweredAs
+        (record {
+          before = F.text files.old;
+          after = F.text files.new;
+          files_failed = F.have_failed files.new;
+          input = R.remaining input.old.0;
+          reader_failed = input.new.1;
+          old = W.contents output.old.0;
+          new = W.contents output.new.0;
+          failed = output.new.1;
+        })
+        asked.now a.seen.items a.status) }
+    ensures fault { IfErr result (IsUnanswered
+        (record {
+          before = F.text files.old;
+          after = F.text files.new;
+          files_failed = F.have_failed files.new;
+          input = R.remaining input.old.0;
+          reader_failed = input.new.1;
+          old = W.contents output.old.0;
+          new = W.contents output.new.0;
+          failed = output.new.1;
+        })
+        asked.now) }
+{
+    match asked {
+        Asked::Text(text) => {
+            if !write_output(output, text.as_bytes()) {
+                return Err(ServeFault::Write);
+            }
+            Ok(Answered {
+                seen: Vec::new(alloc),
+                status: Status::Done,
+            })
+        }
+        Asked::Check(options, model, scripts) => {
+            let (decimals, scripts) = (options.decimals, *scripts);
+            let faulty = check(alloc, files, texts, decimals, *model, scripts, output)?;
+            Ok(check_answer(alloc, faulty))
+        }
+        Asked::Input(options, destination) => {
+            let (document, scripts) = read_input(alloc, input)?;
+            *texts = Texts::given(document, scripts);
+            let (to, options) = (*destination, *options);
+            let (delivered, city) = serve_to(
+                rt, alloc, gate, seed, texts, files, to, output, options,
+            )?;
+            Ok(run_answer(delivered, city))
+        }
+        Asked::Files(options, destination, model, scripts) => {
+            texts.document = Text::given(files.read(*model)?);
+            texts.scripts = Text::given(files.read(*scripts)?);
+            let (to, options) = (*destination, *options);
+            let (delivered, city) = serve_to(
+                rt, alloc, gate, seed, texts, files, to, output, options,
+            )?;
+            Ok(run_answer(delivered, city))
+        }
+    }
+}
+
+/// Tells what each viewer saw. The output is written by then: if errors can't be, the status is the
+/// run's.
+fn tell_seen<E: Write>(
+    alloc: Global,
+    seen: &[Vec<u64>],
+    status: Status,
+    errors: &mut Device<E>,
+) -> Status
+    ensures { IsSeenTold status result (E.contents errors.old.0) (E.contents errors.new.0) errors.new.1 seen.now }
+{
+    for (viewer, numbers) in seen.iter().enumerate() {
+        let Ok(()) = tell_viewer(alloc, viewer, numbers.as_slice(), errors) else {
+            return tell_memory(errors);
+        };
+    }
+    status
+}
+
+/// Tells what a viewer saw.
+fn tell_viewer<E: Write>(
+    alloc: Global,
+    viewer: usize,
+    seen: &[u64],
+    errors: &mut Device<E>,
+) -> Result<(), OutOfMemory>
+    ensures { OnOk result (IsToldAfter errors.old.1 (E.contents errors.old.0) (E.contents errors.new.0) errors.new.1
+        (seen_text viewer seen.now ++ 10 ∷ [])) }
+{
+    let mut line = seen_line(alloc, viewer, seen)?;
+    line.push_str("\n")?;
+    tell(errors, line.as_str());
+    Ok(())
+}
+
+/// Tells why the command line is refused, or that memory ran out for it.
+pub fn refuse_line<E: Write>(alloc: Global, fault: &LineFault, errors: &mut Device<E>) -> Status
+    ensures { IsLineTold result fault.now (E.contents errors.old.0) (E.contents errors.new.0) errors.new.1 }
+{
+    match fault {
+        LineFault::Refused(text) => {
+            tell(errors, text.as_str());
+            Status::Refused
+        }
+        LineFault::OutOfMemory => tell_memory(errors),
+    }
+}
+
+/// Tells that memory ran out.
+fn tell_memory<E: Write>(errors: &mut Device<E>) -> Status
+    ensures { result ≡ Status.Failed }
+{
+    tell(errors, MEMORY_LINE);
+    Status::Failed
+}
+
+/// Tells a fault, with its explanation behind its line. If memory is short for that, tells that
+/// memory ran out.
+fn tell_fault<E: Write>(
+    alloc: Global,
+    fault: &ServeFault,
+    behind: &str,
+    errors: &mut Device<E>,
+) -> Status
+    ensures status { result ≡ Status.Failed }
+    ensures told { (text : List ℕ) × IsFaultText fault.now behind.now text
+        × IsToldAfter errors.old.1 (E.contents errors.old.0) (E.contents errors.new.0) errors.new.1 text }
+{
+    match ended_line(alloc, fault, behind) {
+        Ok(line) => tell(errors, line.as_str()),
+        Err(OutOfMemory) => tell(errors, MEMORY_LINE),
+    }
+    Status::Failed
+}
+
+/// The line to report a fault, its newline, and the lines behind it.
+fn ended_line(alloc: Global, fault: &ServeFault, behind: &str) -> Result<String, OutOfMemory>
+    ensures { IfOk result (λ s. string_bytes s ≡ (fault_text fault.now ++ 10 ∷ []) ++ behind.now) }
+{
+    let mut line = fault_line(alloc, fault)?;
+    line.push_str("\n")?;
+    line.push_str(behind)?;
+    Ok(line)
+}
+
+/// Writes a text to errors. If that fails, only the status is left, and nobody is told.
+fn tell<E: Write>(errors: &mut Device<E>, text: &str)
+    ensures { IsToldAfter errors.old.1 (E.contents errors.old.0) (E.contents errors.new.0) errors.new.1 text.now }
+{
+    let _ = write_output(errors, text.as_bytes());
+}
