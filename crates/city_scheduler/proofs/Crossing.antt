@@ -2,7 +2,8 @@
 use denote.Param.Send.{IsSend, IsSync, recorded_send, sendable, struct_send, view_send}
 use denote.RattleType.{RattleType}
 use denote.Struct.Declared.{Declared, row, field, shape}
-use Rattle.city_model.proofs.Crossing.{text_sends, text_syncs, body_sends, body_syncs, object_sends, city_field_sends}
+use Rattle.city_members.proofs.Crossing.{text_sends, text_syncs}
+use Rattle.city_model.proofs.Crossing.{body_sends, body_syncs, object_sends, city_field_sends}
 use Rattle.city_scheduler.specs.declared.shelf.Shelf.{Ghosts}
 use Rattle.std.proofs.Crossing as values
 use Rattle.std.proofs.MapsCrossing as maps

@@ -5,7 +5,8 @@ use denote.RattleType.{RattleType}
 use Rattle.std.proofs.Crossing as values
 use Rattle.std.proofs.MapsCrossing as maps
 use Rattle.serde_json.proofs.value.Value.TheLaws.TheKnot as json
-use Rattle.city_model.proofs.Crossing.{text_sends, text_syncs, body_sends, body_syncs}
+use Rattle.city_members.proofs.Crossing.{text_sends, text_syncs}
+use Rattle.city_model.proofs.Crossing.{body_sends, body_syncs}
 use Rattle.city_model.proofs.object.Shape.TheSendSync as shape
 use Rattle.city_model.specs.contracts.object.Geometry as Geometry
 use Rattle.city_model.specs.contracts.script.Script as Script

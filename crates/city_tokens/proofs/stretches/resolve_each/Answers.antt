@@ -1,7 +1,8 @@
 use Rattle.city_tokens.proofs.Prelude.{◌≡◌, length, IfSome, arith, Pairs, IsResolvedObject, points_of}
 use denote.Param.Send.{sendable}
 use Rattle.std.proofs.Crossing as values
-use Rattle.city_model.proofs.Crossing.{text_sends, object_sends}
+use Rattle.city_members.proofs.Crossing.{text_sends}
+use Rattle.city_model.proofs.Crossing.{object_sends}
 use Rattle.city_tokens.proofs.Crossing.{unresolved_sends}
 use Rattle.city_tokens.proofs.Options.{given}
 use Rattle.city_tokens.proofs.Pairing.{pairs_given}

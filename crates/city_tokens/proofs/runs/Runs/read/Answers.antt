@@ -1,6 +1,6 @@
 use denote.Param.Send.{sendable}
 use Rattle.std.proofs.Crossing as values
-use Rattle.city_model.proofs.Crossing.{text_sends}
+use Rattle.city_members.proofs.Crossing.{text_sends}
 use Rattle.city_tokens.proofs.Crossing.{unresolved_sends}
 use Rattle.city_tokens.proofs.runs.Runs.read.Goals as goal
 

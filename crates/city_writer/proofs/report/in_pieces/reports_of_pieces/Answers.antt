@@ -4,7 +4,8 @@ use Rattle.std.proofs.Crossing as values
 use Rattle.std.proofs.MapsCrossing as maps
 use Rattle.serde_json.proofs.value.Value.TheLaws.TheKnot as json
 use denote.Param.Send.{sendable}
-use Rattle.city_model.proofs.Crossing.{text_syncs, object_syncs}
+use Rattle.city_members.proofs.Crossing.{text_syncs}
+use Rattle.city_model.proofs.Crossing.{object_syncs}
 use Rattle.city_writer.specs.internal.Reports.{IsReport}
 use Rattle.city_writer.proofs.EachPiece.{each_made}
 use Rattle.city_writer.proofs.report.in_pieces.reports_of_pieces.Goals as goal
