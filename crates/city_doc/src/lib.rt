@@ -22,7 +22,8 @@ mod script;
 mod shape;
 mod tree;
 
-pub use city_tokens::{MAX_TEXT, Pieces};
+pub use city_texts::Pieces;
+pub use city_tokens::MAX_TEXT;
 pub use city_writer::{FIXED_SEED, VertexPool, append_report, write_report};
 pub use document::all_faults::faults_of;
 pub use document::read::{read_city, read_city_by};

@@ -1,7 +1,7 @@
 //! In how many pieces a text is read, and in how many a city or a report is written.
 ghost use Rattle.std.specs.Prelude.{◌≡◌, ◌<◌};
 
-use city_tokens::Pieces;
+use city_texts::Pieces;
 
 /// How many bytes a piece of a text has at least: a smaller one isn't worth a thread.
 pub const LEAST_PIECE: usize = 262_144;

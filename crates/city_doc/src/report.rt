@@ -6,7 +6,7 @@ ghost use Rattle.city_writer.specs.report.Reports.{report_text};
 use crate::pieces::piece_len;
 use city_model::OutOfMemory;
 use city_model::end::End;
-use city_tokens::Pieces;
+use city_texts::Pieces;
 use city_writer::{append_report, append_report_in_pieces};
 use std::alloc::Global;
 use std::thread::Threads;

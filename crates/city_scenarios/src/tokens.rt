@@ -1,7 +1,7 @@
 //! The verb `tokens`: whether a text is read from its tokens.
 use crate::pieces::pieces_of;
 use crate::written::Written;
-use city_tokens::{city_in_pieces, scripts_in_pieces, streamed_city, streamed_scripts};
+use city_texts::{city_in_pieces, scripts_in_pieces, streamed_city, streamed_scripts};
 use std::alloc::Global;
 use std::thread::Threads;
 

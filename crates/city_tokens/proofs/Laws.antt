@@ -1,7 +1,7 @@
 -- Laws over the definitions of this crate, for the crates above.
 pub use Rattle.city_tokens.proofs.document.BuiltFrames.{frame_is}
 pub use Rattle.city_tokens.proofs.document.Listings.{OfEach, at_listed, listed_again, of_each_listed}
-pub use Rattle.city_tokens.proofs.script.BuiltScripts.{built_few, built_many}
+pub use Rattle.city_tokens.proofs.script.BuiltScripts.{built_few, built_many, scripts_read}
 pub use Rattle.city_tokens.proofs.script.CommandLaws.{ends_once-read}
 pub use Rattle.city_tokens.proofs.script.OwnForms.{form_owns, owns}
 pub use Rattle.city_tokens.proofs.tree.IntegralParts.{array_is, array_of-integral}

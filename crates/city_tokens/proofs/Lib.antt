@@ -1,13 +1,12 @@
 mod CommandMembers
-mod Conversions
-pub mod Crossing
+pub mod Conversions
 pub mod Laws
-mod Members
+pub mod Members
 pub mod Options
-mod Pairing
-mod Parts
-mod ResolvedParts
+pub mod Pairing
 pub mod Prelude
-mod Reading
+pub mod Reading
+pub mod ResolvedParts
 mod ScriptMembers
+pub mod document
 pub mod tree

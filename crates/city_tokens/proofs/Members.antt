@@ -5,7 +5,7 @@ use Rattle.city_tokens.proofs.Prelude.{refl, sym, ◌∙◌, codes, if◌then◌
 use Rattle.city_tokens.proofs.Prelude.{no_members, member, put, get_member, same_id, has_id, without, without_each}
 use Rattle.city_tokens.proofs.Prelude.{AllAbove, AreOrdered, by_id, same_id_back, IsListSlot, IsArrayOf, IsString}
 use Rattle.city_tokens.proofs.Prelude.{IsReadAs, IsTaken, IsPassed, Token, Geometry, ObjectParts, IsGeometry}
-use Rattle.city_tokens.proofs.Prelude.{IsObjectSoFar, Object, Vertex, IsVertex}
+use Rattle.city_tokens.proofs.Prelude.{IsObjectSoFar}
 use Rattle.std.proofs.lemmas.Bool.{or_parts}
 use Rattle.serde_json.proofs.Views.{get_member-put}
 use Rattle.city_tokens.specs.internal.Standing.{IsSlot}
@@ -20,11 +20,9 @@ use Rattle.city_members.specs.Kept.{geometry_members}
 use Rattle.city_model.specs.declared.object_type.ObjectType.{ObjectType}
 use Rattle.city_model.specs.declared.shape_type.ShapeType.{ShapeType}
 use Rattle.city_tokens.specs.internal.Geometries.{IsKind, AreBoundaries, IsGeometrySoFar}
-use Rattle.city_tokens.specs.internal.Objects.{IsType, AreObjects}
+use Rattle.city_tokens.specs.internal.Objects.{IsType}
 use Rattle.city_tokens.specs.declared.boundaries.Boundaries.{Boundaries}
 use Rattle.city_tokens.specs.declared.geometry.GeometryParts.{GeometryParts}
-use Rattle.city_tokens.specs.declared.document.TopParts.{TopParts}
-use Rattle.city_tokens.specs.internal.Tops.{IsTopSoFar}
 
 -- members taken out
 above_without : (a n : List ℕ) (ms : Members) → AllAbove a ms → AllAbove a (without n ms)
@@ -176,25 +174,3 @@ geometry_kept {name = name} type lod boundaries =
     let o = other_name name in
     let others : has_id geometry_members name ≡ false = rw (o _ type, o _ lod, o _ boundaries) refl in
     (refl, λ d found kept h. search (kept_in, others, h))
-
-abbrev top_names : List (List ℕ)
-top_names = codes "CityObjects" ∷ codes "vertices" ∷ []
-
-module _ {old : TopParts} {name : List ℕ} {depth : ℕ} {before after : List Token} where
-  pub top_objects : {objects : List (List ℕ × Object)} → name ≡ codes "CityObjects"
-      → IsReadAs AreObjects objects depth before after
-      → IsTaken IsTopSoFar old (record old { objects = Some objects }) name depth before after
-  top_objects named read = (read.0, read.1, λ found kept h. rw named (search (put_in, put_own top_names, h, read)))
-
-  pub top_vertices : {vertices : List Vertex} → name ≡ codes "vertices"
-      → IsReadAs (IsArrayOf IsVertex) vertices depth before after
-      → IsTaken IsTopSoFar old (record old { vertices = Some vertices }) name depth before after
-  top_vertices named read = (read.0, read.1, λ found kept h. rw named (search (put_in, put_own top_names, h, read)))
-
-pub top_kept : {old : TopParts} {name : List ℕ} {before : List Token} → (name ≡ codes "CityObjects" → ⊥)
-    → (name ≡ codes "vertices" → ⊥)
-    → IsPassed IsTopSoFar old old name before before
-top_kept {name = name} objects vertices =
-    let o = other_name name in
-    let others : has_id top_names name ≡ false = rw (o _ objects, o _ vertices) refl in
-    (refl, λ d found kept h. search (kept_in, kept_more top_names, others, h))

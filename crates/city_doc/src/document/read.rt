@@ -22,7 +22,7 @@ use crate::shape::vertices::vertices_in;
 use crate::tree::parse::{parse, tree_of};
 use crate::tree::values::to_text;
 use city_model::city::City;
-use city_tokens::{Pieces, streamed_city, streamed_city_by};
+use city_texts::{Pieces, streamed_city, streamed_city_by};
 use serde_json::Value;
 use std::alloc::Global;
 use std::thread::Threads;

@@ -5,7 +5,8 @@ ghost use Rattle.city_doc.specs.document.Top.{is_transform};
 ghost use Rattle.city_doc.specs.document.Top.{all_objects, are_all_objects, are_objects, are_vertices, wrong_member};
 
 use city_members::kept::site::is_empty_object_or_absent;
-use city_tokens::{are_triples, is_text, triple_at};
+use city_texts::is_text;
+use city_tokens::{are_triples, triple_at};
 use serde_json::{Map, Value};
 
 fn is_transform(member: Option<&Value>) -> bool

@@ -18,7 +18,7 @@ ghost use Rattle.city_writer.specs.Pool.{pool_of};
 use crate::pieces::piece_len;
 use city_model::OutOfMemory;
 use city_model::city::City;
-use city_tokens::Pieces;
+use city_texts::Pieces;
 use city_writer::{FIXED_SEED, append_in_pieces, append_text};
 use std::alloc::Global;
 use std::thread::Threads;

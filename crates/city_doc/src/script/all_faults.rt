@@ -15,7 +15,7 @@ use crate::script::numbered::{NumberedForm, are_too_many, numbered_forms};
 use crate::tree::parse::{TextFault, parse};
 use crate::tree::values::into_array;
 use city_model::OutOfMemory;
-use city_tokens::streamed_scripts;
+use city_texts::streamed_scripts;
 use serde_json::Value;
 use std::alloc::Global;
 

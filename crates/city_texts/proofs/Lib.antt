@@ -1,0 +1,4 @@
+mod Crossing
+mod Parts
+pub mod Prelude
+mod TopMembers

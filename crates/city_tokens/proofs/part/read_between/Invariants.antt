@@ -1,9 +1,0 @@
-use Rattle.city_tokens.proofs.Prelude.{length}
-use Rattle.city_tokens.specs.internal.Parts.{AreNext}
-use Rattle.city_tokens.proofs.part.read_between.Given as goal
-
-abbrev pub invariant-parts : goal.invariant-parts
-invariant-parts g l = AreNext g.T.Part.stands l.parts.items l.initial.reader l.reader
-
-abbrev pub decreases-parts : goal.decreases-parts
-decreases-parts g l = length l.reader

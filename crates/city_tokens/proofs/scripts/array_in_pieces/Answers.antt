@@ -1,6 +1,0 @@
-use denote.Param.Send.{sendable}
-use Rattle.city_tokens.proofs.Crossing.{script_sends}
-use Rattle.city_tokens.proofs.scripts.array_in_pieces.Goals as goal
-
-pub read_pieces-requires-send-T : goal.read_pieces-requires-send-T
-read_pieces-requires-send-T g c κs within = search (script_sends, sendable) depth 60 fits 20000

@@ -1,6 +1,0 @@
-use Rattle.city_tokens.proofs.Prelude.{arith}
-use Rattle.city_tokens.proofs.script.BuiltScripts.{scripts_read}
-use Rattle.city_tokens.proofs.scripts.if_few.Goals as goal
-
-pub returns : goal.returns
-returns c d is = scripts_read c.args.scripts d (grind arith) is
