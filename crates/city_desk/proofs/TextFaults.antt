@@ -2,10 +2,10 @@
 use Rattle.city_desk.proofs.Prelude.{◌≡◌, ℕ, List, Result, Ok, Err, refl, CityValue}
 use Rattle.std.specs.Result.{IfErr, IsErrAnd}
 use Rattle.city_doc.specs.declared.fault.ReadFault.{ReadFault}
-use Rattle.city_doc.specs.declared.fault.ScriptFault.{ScriptFault}
+use Rattle.city_scripts.specs.declared.fault.ScriptFault.{ScriptFault}
 use Rattle.city_tokens.specs.document.Cities.{IsAdmitted}
 use Rattle.city_doc.specs.document.Faults.{DocumentFault}
-use Rattle.city_doc.specs.script.Faults.{ScriptTextFault}
+use Rattle.city_scripts.specs.Faults.{ScriptTextFault}
 use Rattle.city_desk.specs.RunFaults.{IsSerialFault, fault_of_document, fault_of_scripts}
 
 -- a fault of a text is the run's fault, and want of memory for the text is the run's

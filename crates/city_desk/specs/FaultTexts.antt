@@ -1,6 +1,7 @@
 -- The text of each fault of a run.
 use Rattle.std.specs.Prelude.{ℕ, List, codes}
-use Rattle.city_doc.specs.FaultTexts.{read_fault_text, script_fault_text}
+use Rattle.city_doc.specs.FaultTexts.{read_fault_text}
+use Rattle.city_scripts.specs.FaultTexts.{script_fault_text}
 use Rattle.city_desk.specs.declared.fault.RunFault.{RunFault}
 
 abbrev pub run_fault_text : RunFault → List ℕ

@@ -2,10 +2,10 @@
 use Rattle.std.specs.Prelude.{◌≡◌, ◌≢◌, ℕ, List, Bool, true, false}
 use Rattle.city_model.specs.CityMap.{CityValue}
 use Rattle.city_doc.specs.declared.fault.ReadFault.{ReadFault}
-use Rattle.city_doc.specs.declared.fault.ScriptFault.{ScriptFault}
+use Rattle.city_scripts.specs.declared.fault.ScriptFault.{ScriptFault}
 use Rattle.city_tokens.specs.document.Cities.{IsAdmitted}
 use Rattle.city_doc.specs.document.Faults.{DocumentFault}
-use Rattle.city_doc.specs.script.Faults.{ScriptTextFault}
+use Rattle.city_scripts.specs.Faults.{ScriptTextFault}
 use Rattle.city_desk.specs.declared.fault.RunFault.{RunFault}
 
 -- The document is judged before the scripts. A fault of neither text says nothing of the texts

@@ -1,6 +1,7 @@
 //! Why a run has no output.
-use city_doc::{ReadFault, ScriptFault};
+use city_doc::ReadFault;
 use city_model::OutOfMemory;
+use city_scripts::ScriptFault;
 use std::error::Error;
 use std::fmt::{self, Display, Formatter, Write};
 

@@ -6,10 +6,11 @@ ghost use Rattle.city_desk.specs.RunFaults.{IsSerialFault};
 ghost use Rattle.city_desk.specs.TextRuns.{IsReadFrom};
 
 use crate::fault::RunFault;
-use city_doc::{Pieces, read_city, read_city_by, read_scripts, read_scripts_by};
+use city_doc::{Pieces, read_city, read_city_by};
 use city_members::sequence::Sequence;
 use city_model::city::City;
 use city_model::script::Script;
+use city_scripts::{read_scripts, read_scripts_by};
 use std::alloc::Global;
 use std::thread::Threads;
 

@@ -5,8 +5,8 @@ use Rattle.city_diagnostics.proofs.Prelude.{get_member-put_apart}
 use Rattle.city_diagnostics.proofs.Prelude.{ReadFault, TellsFault, Tells, rank_of, name_of}
 use Rattle.city_diagnostics.proofs.Prelude.{BadGeometry, BadRing, BadVertex, NotCityJson, NotJson, NotWhole, OpenShell}
 use Rattle.city_diagnostics.proofs.Prelude.{OutOfMemory, Relations, TooLong, UnknownType, Unsupported}
-use Rattle.city_doc.specs.declared.fault.ScriptFault.{ScriptFault}
-use Rattle.city_doc.specs.script.AllFaults.{rank_of as script_rank_of}
+use Rattle.city_scripts.specs.declared.fault.ScriptFault.{ScriptFault}
+use Rattle.city_scripts.specs.AllFaults.{rank_of as script_rank_of}
 use Rattle.city_diagnostics.specs.ScriptLines.{TellsScript, script_name_of}
 use Rattle.city_diagnostics.specs.internal.Heads.{with_words, with_head, with_named, with_script_named}
 

@@ -1,10 +1,10 @@
 -- The content of the line of a fault of scripts.
 use Rattle.std.specs.Prelude.{ℕ, List, codes}
 use Rattle.serde_json.specs.Data.{Data}
-use Rattle.city_doc.specs.declared.fault.ScriptFault.{ScriptFault}
-use Rattle.city_doc.specs.declared.fault.ScriptFault.TheVariants.{OutOfMemory, TooLong, NotJson, NotWhole}
-use Rattle.city_doc.specs.declared.fault.ScriptFault.TheVariants.{NotScripts, BadScript, TooMany, BadCommand, BadVertex}
-use Rattle.city_doc.specs.script.AllFaults.{rank_of}
+use Rattle.city_scripts.specs.declared.fault.ScriptFault.{ScriptFault}
+use Rattle.city_scripts.specs.declared.fault.ScriptFault.TheVariants.{OutOfMemory, TooLong, NotJson, NotWhole}
+use Rattle.city_scripts.specs.declared.fault.ScriptFault.TheVariants.{NotScripts, BadScript, TooMany, BadCommand, BadVertex}
+use Rattle.city_scripts.specs.AllFaults.{rank_of}
 use Rattle.city_diagnostics.specs.Lines.{HasNumber, TellsFault}
 
 abbrev pub script_name_of : ScriptFault → List ℕ

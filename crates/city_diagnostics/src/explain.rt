@@ -5,8 +5,9 @@ use crate::check::scripts::{script_text_fault_of, scripts_diagnostic};
 use crate::check::{document_diagnostic, document_faults, text_fault_of, tree_for};
 use crate::explain::shown::add_shown;
 use city_details::{Diagnostic, Document};
-use city_doc::{ReadFault, ScriptFault};
+use city_doc::ReadFault;
 use city_model::OutOfMemory;
+use city_scripts::ScriptFault;
 use std::alloc::Global;
 use std::slice;
 

@@ -2,7 +2,7 @@
 ghost use Rattle.std.specs.Prelude.{◌≡◌, IfOk, OnOk, string_bytes};
 ghost use Rattle.serde_json.specs.Data.{put, string, number as numeral, unsigned};
 ghost use Rattle.city_doc.specs.document.Faults.{rank_of};
-ghost use Rattle.city_doc.specs.script.AllFaults.{rank_of as script_rank_of};
+ghost use Rattle.city_scripts.specs.AllFaults.{rank_of as script_rank_of};
 ghost use Rattle.city_diagnostics.specs.Lines.{IsLineOf, IsLineOfMembers};
 ghost use Rattle.city_diagnostics.specs.ModelLines.{Tells, name_of};
 ghost use Rattle.city_diagnostics.specs.ScriptLines.{TellsScript, script_name_of};
@@ -10,8 +10,9 @@ ghost use Rattle.city_diagnostics.specs.internal.Heads.{with_named, with_head, w
 ghost use Rattle.city_diagnostics.specs.internal.Heads.{with_script_named, with_place};
 
 use city_details::{Details, Diagnostic};
-use city_doc::{ReadFault, ScriptFault};
+use city_doc::ReadFault;
 use city_model::OutOfMemory;
+use city_scripts::ScriptFault;
 use serde_json::Value;
 use std::alloc::Global;
 

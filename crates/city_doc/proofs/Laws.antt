@@ -10,4 +10,8 @@ pub use Rattle.city_writer.specs.internal.object.InTurn.{in_turn}
 pub use Rattle.city_doc.proofs.document.LawfulTrees.{HasFrameParts, frame_parts, StandsFor, stands_for}
 pub use Rattle.city_doc.proofs.document.KeptMembers.{kept_passes}
 pub use Rattle.city_doc.proofs.document.NoFault.{IsReadAs, read_as, found}
-pub use Rattle.city_doc.proofs.object.FaultlessBodies.{HasGeometryParts, geometry_parts}
+pub use Rattle.city_doc.proofs.object.FaultlessBodies.{HasGeometryParts, geometry_parts, formed, geometries_fit}
+pub use Rattle.city_doc.proofs.object.FaultlessBodies.{is_object, known, number_fits, placed, position_fits, supported}
+pub use Rattle.city_doc.proofs.object.ReadBodies.{body_of-some, geometries_some}
+pub use Rattle.city_doc.proofs.tree.ReadLists.{all_read-step}
+pub use Rattle.city_doc.proofs.document.Right.{array_some, some_of}

@@ -1,4 +1,4 @@
-mod FaultLists
+pub mod FaultLists
 pub mod Laws
 pub mod OneValue
 pub mod Prelude

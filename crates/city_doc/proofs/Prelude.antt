@@ -1,8 +1,8 @@
 -- Words shared by the proofs of this crate, from std, from the libraries and from its own definitions.
-pub use Rattle.std.proofs.Common.{Bool, Equal, Less, List, None, Option, Ordering, Result, Some, [], add-one, ap}
-pub use Rattle.std.proofs.Common.{append-nil, append_assoc, ap₂, arith, cond, drop, drop-cons, false, get_or, inl, inr}
-pub use Rattle.std.proofs.Common.{is_eq, length, map, max, nat_cmp, not, pos, refl, rules, subst, suc, sym, true}
-pub use Rattle.std.proofs.Common.{true≢false, zero, ℕ, ℤ, ◌++◌, ◌+◌, ◌<◌, ◌∙◌, ◌∷◌, ◌≡◌, ◌≤◌, ◌⊎◌}
+pub use Rattle.std.proofs.Common.{Bool, Equal, Less, List, None, Option, Ordering, Result, Some, [], ap, append-nil}
+pub use Rattle.std.proofs.Common.{append_assoc, ap₂, arith, cond, drop, false, get_or, inl, inr, is_eq, length, map}
+pub use Rattle.std.proofs.Common.{max, nat_cmp, not, pos, refl, rules, subst, suc, sym, true, true≢false, zero, ℕ, ℤ}
+pub use Rattle.std.proofs.Common.{◌++◌, ◌<◌, ◌∙◌, ◌∷◌, ◌≡◌, ◌≤◌, ◌⊎◌}
 pub use Rattle.std.proofs.Output.{has_written_of_eq}
 pub use Rattle.std.proofs.lemmas.Bool.{and_from, and_parts, lt-ltb, ltb-true}
 pub use Rattle.std.proofs.lemmas.Cmp.{nat_list_cmp_total}
@@ -46,7 +46,6 @@ pub use Rattle.city_model.specs.Relations.{IsLawful, IsRelated}
 pub use Rattle.city_model.specs.Runs.{Scripted}
 pub use Rattle.city_model.specs.Shells.{body_fault, has_open_shell, some_shape}
 pub use Rattle.city_model.specs.Types.{name_of}
-pub use Rattle.city_model.specs.declared.command.Command.{Command}
 pub use Rattle.city_model.specs.declared.frame.Frame.{Frame}
 pub use Rattle.city_model.specs.declared.object.Body.{Body}
 pub use Rattle.city_model.specs.declared.object.Geometry.{Geometry}
@@ -55,25 +54,21 @@ pub use Rattle.city_model.specs.declared.object.Point.{Point}
 pub use Rattle.city_model.specs.declared.object.Shape.{Shape}
 pub use Rattle.city_members.proofs.Puts.{all_put, ordered_put}
 pub use Rattle.city_model.specs.Nesting.{Nested, nested, shape_name}
-pub use Rattle.city_tokens.proofs.Laws.{array_of-integral, as_object-integral, get-integral, get_member-integral}
-pub use Rattle.city_tokens.proofs.Laws.{get_member-put_apart, get_member-without_each, listed_again, object_is}
-pub use Rattle.city_tokens.proofs.Laws.{object_with}
+pub use Rattle.city_tokens.proofs.Laws.{as_object-integral, get-integral, get_member-integral, get_member-put_apart}
+pub use Rattle.city_tokens.proofs.Laws.{get_member-without_each, listed_again, object_is, object_with}
 pub use Rattle.city_tokens.proofs.Options.{and_then_some, if_some, map_grown, map_some}
 pub use Rattle.city_tokens.specs.document.Cities.{IsAdmitted, IsTextOfCity, city_of, entries_in, entries_of}
 pub use Rattle.city_tokens.specs.document.Cities.{is_city_json, objects_of, points_in}
 pub use Rattle.city_tokens.specs.document.Frames.{frame_of, more_of, triple_at, without_top_members}
 pub use Rattle.city_tokens.specs.document.FramesOfRest.{frame_of_rest}
-pub use Rattle.city_tokens.specs.internal.ScriptItems.{script_of_item}
 pub use Rattle.city_tokens.specs.object.Bodies.{body_of, object_of, type_of, without_object_members}
-pub use Rattle.city_tokens.specs.script.Commands.{command_of}
-pub use Rattle.city_tokens.specs.script.Scripts.{ScriptParts, commands_in, parts_in, parts_of, vertex_count, word_ends}
 pub use Rattle.city_tokens.specs.shape.Geometries.{geometry_of, nested_of, point_at, shape_of, without_geometry_members}
 pub use Rattle.city_tokens.specs.shape.GeometryTypes.{GeometryType, geometry_type}
 pub use Rattle.city_tokens.specs.tree.Lists.{all_read, list_of, list_or_absent, read_items}
 pub use Rattle.city_tokens.specs.tree.Members.{is_text, kept_if, text_at}
 pub use Rattle.city_tokens.specs.tree.Texts.{IsText}
 pub use Rattle.city_tokens.specs.tree.Triples.{point_of, points_of, triple_of}
-pub use Rattle.city_writer.specs.tree.Lists.{list_data, put_list, integer_data, triple_data}
+pub use Rattle.city_writer.specs.tree.Lists.{integer_data, list_data, put_list, triple_data}
 pub use Rattle.city_writer.specs.Pool.{city_points, object_points, pool_of}
 pub use Rattle.city_writer.specs.document.Canonical.{frame_members, numbered_tree, transform_data, tree_of}
 pub use Rattle.city_writer.specs.document.Ranges.{IsInRange}
@@ -96,10 +91,6 @@ pub use Rattle.city_doc.specs.document.Top.{is_transform, wrong_member}
 pub use Rattle.city_doc.specs.internal.document.Forms.{AreReadable, HasForm}
 pub use Rattle.city_doc.specs.internal.document.LenientCities.{IsReadOf, first_body, lenient_entries_of}
 pub use Rattle.city_doc.specs.internal.document.Searches.{first_with}
-pub use Rattle.city_doc.specs.internal.script.Forms.{parts_views}
-pub use Rattle.city_doc.specs.internal.script.Searches.{bad_script, first_at, first_command, first_in, index_if}
-pub use Rattle.city_doc.specs.internal.script.Searches.{index_in}
 pub use Rattle.city_doc.specs.object.Faults.{first_unsupported, has_bad_list, has_bad_vertex, is_bad_geometry}
 pub use Rattle.city_doc.specs.object.Faults.{is_unknown_type}
-pub use Rattle.city_doc.specs.script.CommandFaults.{is_bad_command, names_bad_vertex}
 pub use Rattle.city_doc.specs.shape.Forms.{all_items, are_geometries, is_geometry, is_list_of, is_nested, is_position}

@@ -3,5 +3,4 @@ pub mod FaultTexts
 pub mod document
 pub mod internal
 pub mod object
-pub mod script
 pub mod shape

@@ -1,5 +1,4 @@
 -- Words for private clauses and proofs alone: nothing here has to be believed.
 pub mod document
-pub mod script
 pub mod shape
 pub mod tree

@@ -40,30 +40,6 @@ pub enum ReadFault {
     OpenShell(Id),
 }
 
-/// Why a text of scripts is refused: its first fault in this list, at the first script and then the
-/// first command. It shows as `scripts: 7 BadCommand 0 3`.
-#[derive(Debug, Drop)]
-pub enum ScriptFault {
-    /// Memory ran out; this has no place in the order.
-    OutOfMemory,
-    /// The text is longer than 67,108,864 bytes.
-    TooLong,
-    /// The text isn't JSON.
-    NotJson,
-    /// A number isn't a whole number of 64 bits.
-    NotWhole,
-    /// The text isn't an array of scripts.
-    NotScripts,
-    /// This item isn't a script.
-    BadScript(usize),
-    /// There are too many scripts, or too many commands in one.
-    TooMany,
-    /// In this script, this command is malformed.
-    BadCommand(usize, usize),
-    /// In this script, this command names a missing vertex.
-    BadVertex(usize, usize),
-}
-
 /// A list of one fault.
 pub fn alone<F: Drop>(alloc: Global, fault: F) -> Result<Vec<F>, OutOfMemory>
     ensures { IfOk result (λ faults. faults.items ≡ fault ∷ []) }
@@ -101,29 +77,6 @@ impl Display for ReadFault {
 
 impl Error for ReadFault {}
 
-impl Display for ScriptFault {
-    ghost use Rattle.std.specs.Prelude.{Some};
-    ghost use Rattle.city_doc.specs.FaultTexts.{script_fault_text};
-
-    ghost output = { λ fault. Some (script_fault_text fault) };
-
-    fn fmt<W: Write>(&self, f: &mut Formatter<W>) -> fmt::Result {
-        match self {
-            ScriptFault::OutOfMemory => f.write_str("out of memory"),
-            ScriptFault::TooLong => f.write_str("scripts: 1 TooLong"),
-            ScriptFault::NotJson => f.write_str("scripts: 2 NotJson"),
-            ScriptFault::NotWhole => f.write_str("scripts: 3 NotWhole"),
-            ScriptFault::NotScripts => f.write_str("scripts: 4 NotScripts"),
-            ScriptFault::BadScript(n) => write!(f, "scripts: 5 BadScript {n}"),
-            ScriptFault::TooMany => f.write_str("scripts: 6 TooMany"),
-            ScriptFault::BadCommand(n, i) => write!(f, "scripts: 7 BadCommand {n} {i}"),
-            ScriptFault::BadVertex(n, i) => write!(f, "scripts: 8 BadVertex {n} {i}"),
-        }
-    }
-}
-
-impl Error for ScriptFault {}
-
 impl From<OutOfMemory> for ReadFault {
     ghost use Rattle.std.specs.Prelude.{◌≡◌};
     ghost use Rattle.city_doc.specs.declared.fault.ReadFault.{ReadFault};
@@ -132,16 +85,5 @@ impl From<OutOfMemory> for ReadFault {
 
     fn from(_: OutOfMemory) -> ReadFault {
         ReadFault::OutOfMemory
-    }
-}
-
-impl From<OutOfMemory> for ScriptFault {
-    ghost use Rattle.std.specs.Prelude.{◌≡◌};
-    ghost use Rattle.city_doc.specs.declared.fault.ScriptFault.{ScriptFault};
-
-    ghost from_gives = { λ _ f. f ≡ ScriptFault.OutOfMemory };
-
-    fn from(_: OutOfMemory) -> ScriptFault {
-        ScriptFault::OutOfMemory
     }
 }

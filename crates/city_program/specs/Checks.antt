@@ -2,9 +2,9 @@
 use Rattle.std.specs.Prelude.{◌≡◌, ◌≢◌, ℕ, Bool, true, false, List, [], ◌++◌, Option, Some, None, IfSome}
 use Rattle.city_doc.specs.declared.fault.ReadFault.{ReadFault}
 use Rattle.city_doc.specs.document.Accepted as model
-use Rattle.city_doc.specs.declared.fault.ScriptFault.{ScriptFault}
+use Rattle.city_scripts.specs.declared.fault.ScriptFault.{ScriptFault}
 use Rattle.city_doc.specs.document.AllFaults as model_faults
-use Rattle.city_doc.specs.script.AllFaults as script_faults
+use Rattle.city_scripts.specs.AllFaults as script_faults
 use Rattle.city_diagnostics.specs.Lines.{AreLinesOf}
 use Rattle.city_diagnostics.specs.ModelLines.{Tells}
 use Rattle.city_diagnostics.specs.ScriptLines.{TellsScript}

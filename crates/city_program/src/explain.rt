@@ -1,9 +1,10 @@
 //! Explains a fault behind its line: the file, the place in it, the mistake, and the repair.
 use city_desk::RunFault;
 use city_diagnostics::{explain_document, explain_scripts};
-use city_doc::{ReadFault, ScriptFault};
+use city_doc::ReadFault;
 use city_model::OutOfMemory;
 use city_options::command_line::Asked;
+use city_scripts::ScriptFault;
 use city_serve::{Device, ServeFault, Text, TextFiles, Texts};
 use std::alloc::Global;
 use std::io;

@@ -1,7 +1,6 @@
 //! The verb `body`: faults of bodies.
 use crate::scripts::add_script_fault;
 use crate::written::Written;
-use city_doc::read_scripts;
 use city_model::OutOfMemory;
 use city_model::body_fault::body_fault;
 use city_model::command::{Cause, Command};
@@ -9,6 +8,7 @@ use city_model::object::{Body, Geometry, Shell};
 use city_model::script::Script;
 use city_model::shape::Bounds;
 use city_model::shells::shell_closed;
+use city_scripts::read_scripts;
 use std::alloc::Global;
 
 /// Answers with the fault of each body in the puts of a text of scripts, and whether each of its shells is closed.

@@ -1,7 +1,8 @@
 //! The verb `check`: all faults of a text.
 use crate::written::Written;
-use city_doc::{faults_of, script_faults_of};
+use city_doc::faults_of;
 use city_model::OutOfMemory;
+use city_scripts::script_faults_of;
 use std::alloc::Global;
 use std::fmt::Display;
 

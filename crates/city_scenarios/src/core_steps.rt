@@ -9,10 +9,11 @@ use crate::document::{add_city, add_read_fault};
 use crate::reply::{add_cause, add_reply};
 use crate::steps::{TakesSteps, stamped, take_steps};
 use crate::written::Written;
-use city_doc::{read_city, read_scripts};
+use city_doc::read_city;
 use city_model::city::City;
 use city_model::command::{Cause, Command};
 use city_model::script::{Script, is_end};
+use city_scripts::read_scripts;
 use city_txn::{Core, Prepared, Step, TxnFault};
 use std::alloc::Global;
 

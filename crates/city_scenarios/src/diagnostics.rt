@@ -1,8 +1,9 @@
 //! The verbs `lines` and `explain`: diagnostics of a text.
 use crate::written::Written;
 use city_diagnostics::{check_document, check_scripts, explain_document, explain_scripts};
-use city_doc::{faults_of, script_faults_of};
+use city_doc::faults_of;
 use city_model::OutOfMemory;
+use city_scripts::script_faults_of;
 use std::alloc::Global;
 use std::fmt::Display;
 

@@ -2,7 +2,8 @@
 use crate::steps::TakesSteps;
 use crate::written::Written;
 use city_desk::RunFault;
-use city_doc::{ReadFault, ScriptFault};
+use city_doc::ReadFault;
+use city_scripts::ScriptFault;
 use city_serve::ServeFault;
 use std::alloc::Global;
 

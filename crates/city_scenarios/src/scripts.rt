@@ -3,9 +3,9 @@ use crate::fault_lines::end_fault;
 use crate::pieces::{add_in_pieces, pieces_of, words_of};
 use crate::written::Written;
 use city_desk::RunFault;
-use city_doc::{ScriptFault, read_scripts, read_scripts_by};
 use city_members::sequence::Sequence;
 use city_model::script::Script;
+use city_scripts::{ScriptFault, read_scripts, read_scripts_by};
 use std::alloc::Global;
 use std::thread::Threads;
 

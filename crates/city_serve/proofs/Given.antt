@@ -12,11 +12,11 @@ use Rattle.serde_json.specs.Data.{Data, null, boolean, number, string, array, ob
 use Rattle.serde_json.specs.Data.{no_members, member}
 use Rattle.serde_json.specs.Read.{read, of_json}
 use Rattle.city_doc.specs.declared.fault.ReadFault.{ReadFault}
-use Rattle.city_doc.specs.declared.fault.ScriptFault.{ScriptFault}
+use Rattle.city_scripts.specs.declared.fault.ScriptFault.{ScriptFault}
 use Rattle.city_tokens.specs.tree.Texts.{HasTree}
 use Rattle.city_doc.specs.document.Faults.{DocumentFault}
 use Rattle.city_tokens.specs.script.Scripts.{ScriptParts}
-use Rattle.city_doc.specs.script.Faults.{ScriptTextFault, TreeFault, ItemsFault, PartsFault}
+use Rattle.city_scripts.specs.Faults.{ScriptTextFault, TreeFault, ItemsFault, PartsFault}
 use Rattle.city_desk.specs.declared.fault.RunFault.{RunFault}
 use Rattle.city_desk.specs.RunFaults.{IsRunFault}
 use Rattle.city_serve.specs.ServedTexts.{IsFaultOfRun}

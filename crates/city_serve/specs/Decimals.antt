@@ -4,7 +4,7 @@ use Rattle.std.specs.Str.{IsUtf8}
 use Rattle.json.specs.Json.{document}
 use Rattle.city_model.specs.declared.end.End.{End}
 use Rattle.city_doc.specs.declared.fault.ReadFault.{ReadFault}
-use Rattle.city_doc.specs.declared.fault.ScriptFault.{ScriptFault}
+use Rattle.city_scripts.specs.declared.fault.ScriptFault.{ScriptFault}
 use Rattle.city_tokens.specs.tree.Texts.{IsTooLong, IsReadable}
 use Rattle.city_decimals.specs.Texts.{IsEncoded}
 use Rattle.city_decimals.specs.Lines.{AreDecodedLines}

@@ -3,4 +3,5 @@ pub mod Destinations
 pub mod FaultTexts
 pub mod Served
 pub mod ServedTexts
+pub mod Stages
 pub mod internal

@@ -1,5 +1,5 @@
 //! Runs scripts on a document, both with numbers of any form.
-ghost use Rattle.std.specs.Prelude.{◌≡◌, true, IfOk, IfErr, OnOk};
+ghost use Rattle.std.specs.Prelude.{◌≡◌, ◌⊎◌, true, IfOk, IfErr, OnOk};
 ghost use Rattle.city_model.specs.SerialEnds.{commits_in};
 ghost use Rattle.city_crew.specs.Seen.{AreSeen};
 ghost use Rattle.city_scheduler.specs.InTurn.{AreInTurn};
@@ -8,6 +8,7 @@ ghost use Rattle.city_options.specs.RunOptions.{AreWithin};
 ghost use Rattle.city_serve.specs.ServedTexts.{WhereAlone};
 ghost use Rattle.city_serve.specs.Decimals.{IsGiven, IsDecimalsRun, IsFaultOfDecimalsRun};
 ghost use Rattle.city_serve.specs.Destinations.{IsCutAt};
+ghost use Rattle.city_serve.specs.declared.texts.Stage.{Stage};
 ghost use Rattle.city_serve.specs.internal.Framed.{HasFrame, IsTaggedObject, three_of};
 ghost use Rattle.city_serve.specs.internal.WholeTexts.{HasWholeNumbers};
 
@@ -87,10 +88,12 @@ fn is_tagged_object(members: &Map<String, Value>) -> bool
 }
 
 /// Encodes a text in its place, and lets the given one go. If the text is too long or no JSON it
-/// stays as it is: it is refused for that.
+/// stays as it is: it is refused for that. Out of memory, it stays as it is too.
 pub fn encode_text(alloc: Global, text: &mut Text) -> Result<(), OutOfMemory>
     ensures given { OnOk result (IsGiven text.old.bytes.items text.new.bytes.items) }
     ensures whole { OnOk result (HasWholeNumbers text.new.bytes.items) }
+    ensures stage { OnOk result ((text.new.stage ≡ Stage.Encoded) ⊎ (text.new ≡ text.old)) }
+    ensures kept { IfErr result (λ _. text.new ≡ text.old) }
 {
     if text.bytes.len() > MAX_TEXT {
         return Ok(());

@@ -1,5 +1,7 @@
 //! The two texts at work, as long as they are needed.
-ghost use Rattle.std.specs.Prelude.{◌≡◌};
+ghost use Rattle.std.specs.Prelude.{◌≡◌, []};
+ghost use Rattle.city_serve.specs.declared.texts.Stage.{Stage};
+ghost use Rattle.city_serve.specs.Stages.{is_unread, is_given};
 
 use std::alloc::Global;
 use std::mem::replace;
@@ -24,7 +26,10 @@ pub struct Text {
 
 impl Text {
     /// A text not there yet.
-    pub fn unread(alloc: Global) -> Text {
+    pub fn unread(alloc: Global) -> Text
+        ensures bytes { result.bytes.items ≡ [] }
+        ensures stage { result.stage ≡ Stage.Unread }
+    {
         Text {
             bytes: Vec::new(alloc),
             stage: Stage::Unread,
@@ -33,7 +38,8 @@ impl Text {
 
     /// A text as it was given.
     pub fn given(bytes: Vec<u8>) -> Text
-        ensures { result.bytes ≡ bytes }
+        ensures bytes { result.bytes ≡ bytes }
+        ensures stage { result.stage ≡ Stage.Given }
     {
         Text {
             bytes,
@@ -42,17 +48,24 @@ impl Text {
     }
 
     /// Whether it isn't there yet.
-    pub fn is_unread(&self) -> bool {
+    pub fn is_unread(&self) -> bool
+        ensures { result ≡ is_unread self.now.stage }
+    {
         matches!(self.stage, Stage::Unread)
     }
 
     /// Whether it is as it was given.
-    pub fn is_given(&self) -> bool {
+    pub fn is_given(&self) -> bool
+        ensures { result ≡ is_given self.now.stage }
+    {
         matches!(self.stage, Stage::Given)
     }
 
-    /// Gives its memory back.
-    pub fn let_go(&mut self, alloc: Global) {
+    /// Gives its memory back. It has come as far as before.
+    pub fn let_go(&mut self, alloc: Global)
+        ensures bytes { self.new.bytes.items ≡ [] }
+        ensures stage { self.new.stage ≡ self.old.stage }
+    {
         self.bytes = Vec::new(alloc);
     }
 }

@@ -4,10 +4,11 @@ ghost use Rattle.city_model.specs.CityMap.{object_at};
 ghost use Rattle.city_model.specs.Relations.{IsLawful};
 
 use city_desk::{Desk, ListShelf};
-use city_doc::{read_city, read_scripts};
+use city_doc::read_city;
 use city_members::sequence::Sequence;
 use city_model::city::City;
 use city_model::script::Script;
+use city_scripts::read_scripts;
 use std::alloc::Global;
 
 /// A document and scripts.

@@ -6,7 +6,7 @@ use Rattle.city_doc.specs.declared.fault.ReadFault.TheVariants.{OutOfMemory, Too
 use Rattle.city_doc.specs.declared.fault.ReadFault.TheVariants.{NotCityJson, UnknownType, Unsupported}
 use Rattle.city_doc.specs.declared.fault.ReadFault.TheVariants.{BadGeometry, BadVertex, BadRing, Relations}
 use Rattle.city_doc.specs.declared.fault.ReadFault.TheVariants.{OpenShell}
-use Rattle.city_doc.specs.declared.fault.ScriptFault.{ScriptFault}
+use Rattle.city_scripts.specs.declared.fault.ScriptFault.{ScriptFault}
 
 -- with the message and the cure
 abbrev pub with_words : List ℕ → List ℕ → Members → Members

@@ -1,16 +1,16 @@
 //! All faults of a text of scripts, a line for each.
 ghost use Rattle.std.specs.Prelude.{◌≡◌, ◌⊎◌, [], List, IfOk, string_bytes};
-ghost use Rattle.city_doc.specs.declared.fault.ScriptFault as fault;
-ghost use Rattle.city_doc.specs.script.AllFaults.{AreFaultsOf, IsAccepted};
-ghost use Rattle.city_doc.specs.script.Faults.{ScriptTextFault};
+ghost use Rattle.city_scripts.specs.declared.fault.ScriptFault as fault;
+ghost use Rattle.city_scripts.specs.AllFaults.{AreFaultsOf, IsAccepted};
+ghost use Rattle.city_scripts.specs.Faults.{ScriptTextFault};
 ghost use Rattle.city_diagnostics.specs.Lines.{AreLinesOf, FirstLineIs, IsLineOf};
 ghost use Rattle.city_diagnostics.specs.ScriptLines.{TellsScript};
 
 use crate::check::tree_for;
 use crate::line::script_line;
 use city_details::{Diagnostic, ScriptsFault, TextFault, script_diagnostic, text_diagnostic};
-use city_doc::{ScriptFault, script_faults_of};
 use city_model::OutOfMemory;
+use city_scripts::{ScriptFault, script_faults_of};
 use serde_json::Value;
 use std::alloc::Global;
 

@@ -5,7 +5,7 @@ ghost use Rattle.city_members.specs.Integral.{is_integral};
 ghost use Rattle.city_tokens.specs.tree.Texts.{HasTree};
 ghost use Rattle.city_doc.specs.internal.tree.TextFaults.{IsRefused};
 
-use crate::fault::{ReadFault, ScriptFault};
+use crate::fault::ReadFault;
 use city_members::integral::is_integral;
 use city_tokens::MAX_TEXT;
 use serde_json::Value;
@@ -72,22 +72,6 @@ impl From<TextFault> for ReadFault {
             TextFault::TooLong => ReadFault::TooLong,
             TextFault::NotJson => ReadFault::NotJson,
             TextFault::NotWhole => ReadFault::NotWhole,
-        }
-    }
-}
-
-impl From<TextFault> for ScriptFault {
-    ghost use Rattle.std.specs.Prelude.{◌≡◌};
-    ghost use Rattle.city_doc.specs.internal.tree.TextFaults.{script_fault};
-
-    ghost from_gives = { λ t f. f ≡ script_fault t };
-
-    fn from(fault: TextFault) -> ScriptFault {
-        match fault {
-            TextFault::OutOfMemory => ScriptFault::OutOfMemory,
-            TextFault::TooLong => ScriptFault::TooLong,
-            TextFault::NotJson => ScriptFault::NotJson,
-            TextFault::NotWhole => ScriptFault::NotWhole,
         }
     }
 }

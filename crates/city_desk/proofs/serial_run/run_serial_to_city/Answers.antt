@@ -7,7 +7,8 @@ use Rattle.city_model.specs.SerialEnds.{IsSerialFrom}
 use Rattle.city_model.proofs.Results.{serial_ends_are_unique}
 use Rattle.city_model.proofs.Objects.{same_objects}
 use Rattle.city_writer.specs.Outputs.{IsOutput}
-use Rattle.city_doc.proofs.OneValue.{one_city, one_list}
+use Rattle.city_doc.proofs.OneValue.{one_city}
+use Rattle.city_scripts.proofs.OneList.{one_list}
 use Rattle.city_desk.specs.SerialRuns.{IsSerialRun, had_memory, IsDecided}
 use Rattle.city_desk.proofs.serial_run.run_serial_to_city.Goals as goal
 

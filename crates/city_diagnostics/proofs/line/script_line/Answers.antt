@@ -1,7 +1,7 @@
 use Rattle.city_diagnostics.proofs.Prelude.{◌≡◌, ◌∙◌, ap, Members, List, ℕ, object, string_bytes, sym, subst}
 use Rattle.city_diagnostics.proofs.Prelude.{IfOk-weaker}
 use Rattle.city_diagnostics.proofs.Prelude.{codes}
-use Rattle.city_doc.specs.script.AllFaults.{rank_of as script_rank_of}
+use Rattle.city_scripts.specs.AllFaults.{rank_of as script_rank_of}
 use Rattle.city_diagnostics.specs.ScriptLines.{TellsScript, script_name_of}
 use Rattle.city_diagnostics.proofs.Heads.{script_told}
 use Rattle.city_diagnostics.specs.internal.Heads.{with_script_named, with_head, with_words}

@@ -1,7 +1,6 @@
--- The faults of a text, alone and as faults of a document and of a text of scripts.
+-- The faults of a text, alone and as faults of a document.
 use Rattle.std.specs.Prelude.{ℕ, List}
 use Rattle.city_doc.specs.declared.fault.ReadFault.{ReadFault}
-use Rattle.city_doc.specs.declared.fault.ScriptFault.{ScriptFault}
 use Rattle.city_doc.specs.declared.tree.parse.TextFault.{TextFault}
 use Rattle.city_doc.specs.declared.tree.parse.TextFault.TheVariants.{OutOfMemory, TooLong, NotJson, NotWhole}
 use Rattle.city_tokens.specs.tree.Texts.{IsTooLong, IsNoJson, HasOtherNumber}
@@ -18,9 +17,3 @@ read_fault OutOfMemory = ReadFault.OutOfMemory
 read_fault TooLong = ReadFault.TooLong
 read_fault NotJson = ReadFault.NotJson
 read_fault NotWhole = ReadFault.NotWhole
-
-abbrev pub script_fault : TextFault → ScriptFault
-script_fault OutOfMemory = ScriptFault.OutOfMemory
-script_fault TooLong = ScriptFault.TooLong
-script_fault NotJson = ScriptFault.NotJson
-script_fault NotWhole = ScriptFault.NotWhole

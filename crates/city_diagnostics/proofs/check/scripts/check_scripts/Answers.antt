@@ -1,7 +1,7 @@
 use Rattle.city_diagnostics.proofs.Prelude.{AreLinesOf, List, inl, inr, subst}
-use Rattle.city_doc.specs.declared.fault.ScriptFault.{ScriptFault}
+use Rattle.city_scripts.specs.declared.fault.ScriptFault.{ScriptFault}
 use Rattle.city_diagnostics.specs.ScriptLines.{TellsScript}
-use Rattle.city_doc.specs.script.Faults.{ScriptTextFault}
+use Rattle.city_scripts.specs.Faults.{ScriptTextFault}
 use Rattle.city_diagnostics.proofs.Lines.{first_line, first_told, no_fault, no_line}
 use Rattle.city_diagnostics.proofs.check.scripts.check_scripts.Goals as goal
 

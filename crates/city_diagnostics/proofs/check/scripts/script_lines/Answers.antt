@@ -1,6 +1,6 @@
 use Rattle.city_diagnostics.proofs.Prelude.{string_bytes, ◌<◌, arith, get_or, length}
 use Rattle.std.proofs.lemmas.List.{get_or_default}
-use Rattle.city_doc.specs.declared.fault.ScriptFault.{ScriptFault}
+use Rattle.city_scripts.specs.declared.fault.ScriptFault.{ScriptFault}
 use Rattle.city_diagnostics.specs.ScriptLines.{TellsScript}
 use Rattle.city_diagnostics.proofs.Lines.{grown}
 use Rattle.city_diagnostics.proofs.check.scripts.script_lines.Goals as goal

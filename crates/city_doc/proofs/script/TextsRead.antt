@@ -1,7 +1,0 @@
--- An array of texts is read as the texts among its items.
-use Rattle.city_doc.proofs.Prelude.{◌≡◌, false, Some, refl, arith, is_none, as_str, Items, no_items, item, read_items}
-use Rattle.city_doc.specs.internal.script.Forms.{texts_among}
-
-pub texts_read : (ds : Items) → is_none (read_items as_str ds) ≡ false → read_items as_str ds ≡ Some (texts_among ds)
-texts_read no_items h = refl
-texts_read (item d ds) h = grind (arith, texts_read ds)

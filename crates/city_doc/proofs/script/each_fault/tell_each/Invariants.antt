@@ -1,8 +1,0 @@
-use Rattle.city_doc.proofs.Prelude.{◌≡◌, ◌++◌, map, drop}
-use Rattle.city_doc.specs.internal.script.Told.{told_each, numbered_view}
-use Rattle.city_doc.proofs.script.each_fault.tell_each.Given as goal
-
-abbrev pub invariant-loop-numbered : goal.invariant-loop-numbered
-invariant-loop-numbered g l =
-    l.initial.faults.items ++ told_each (g.S.Search.found) (map numbered_view l.forms)
-    ≡ l.faults.items ++ told_each (g.S.Search.found) (map numbered_view (drop l.numbered-index l.forms))

@@ -1,4 +1,0 @@
--- Definitions of texts of scripts.
-pub mod AllFaults
-pub mod CommandFaults
-pub mod Faults

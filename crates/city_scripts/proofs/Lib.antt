@@ -1,0 +1,16 @@
+mod AllFaults
+pub mod CommandLists
+mod CommandMeanings
+mod ExampleFaults
+mod FaultlessScripts
+mod FirstAt
+mod FirstFaults
+mod FirstOfAll
+mod GivenForms
+mod ItemParts
+mod Meanings
+pub mod OneList
+pub mod Prelude
+mod Reshapes
+mod TextsRead
+mod Told

@@ -1,0 +1,5 @@
+pub mod AllFaults
+pub mod CommandFaults
+pub mod FaultTexts
+pub mod Faults
+pub mod internal

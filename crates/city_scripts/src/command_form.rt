@@ -1,0 +1,170 @@
+//! Recognises the forms of commands.
+ghost use Rattle.std.specs.Prelude.{◌≡◌, option_map};
+ghost use Rattle.serde_json.specs.View.{view, members_view};
+ghost use Rattle.city_tokens.specs.script.CommandForms.{text_in, word_form, first_named, of_one_text, object_form};
+ghost use Rattle.city_tokens.specs.script.CommandForms.{relation_form, values_form, names_form, reshape_form};
+ghost use Rattle.city_tokens.specs.script.CommandForms.{pair_form, members_form, form_of};
+ghost use Rattle.city_scripts.specs.internal.Forms.{form_view};
+
+use city_doc::has_other_item;
+use city_members::members::{member, members_count};
+use serde_json::{Map, Value};
+
+/// The parts of a command, borrowed from its tree.
+#[derive(Clone, Copy)]
+pub enum Form<'v> {
+    Read(&'v str),
+    /// An id, and the tree of the object to put.
+    Put(&'v str, &'v Value),
+    /// An id, and the tree of the object to add.
+    Add(&'v str, &'v Value),
+    /// An id, and the attributes with their values.
+    Set(&'v str, &'v Map<String, Value>),
+    /// An id, and the names of the attributes, all texts.
+    Unset(&'v str, &'v Vec<Value>),
+    /// An id, and the members of the command, its geometry among them.
+    Reshape(&'v str, &'v Map<String, Value>),
+    /// An id, and the attributes with their values.
+    Expect(&'v str, &'v Map<String, Value>),
+    Delete(&'v str),
+    /// A child and a parent.
+    Attach(&'v str, &'v str),
+    /// A child and a parent.
+    Detach(&'v str, &'v str),
+    /// The name of a mark.
+    Mark(&'v str),
+    /// The name of a mark.
+    Back(&'v str),
+    Commit,
+    Abort,
+}
+
+/// The member of a name, if it is a text.
+fn text_in<'v>(members: &'v Map<String, Value>, name: &str) -> Option<&'v str>
+    ensures { option_map (λ s. s.now) result ≡ text_in name.now (members_view members.now.entries) }
+{
+    member(members, name)?.as_str()
+}
+
+fn word_form(word: &str) -> Option<Form<'_>>
+    ensures { option_map form_view result ≡ word_form word.now }
+{
+    if word == "commit" {
+        Some(Form::Commit)
+    } else if word == "abort" {
+        Some(Form::Abort)
+    } else {
+        None
+    }
+}
+
+/// The form of one member, a text.
+fn single_form(members: &Map<String, Value>) -> Option<Form<'_>>
+    ensures { option_map form_view result
+        ≡ first_named of_one_text (members_view members.now.entries) }
+{
+    if let Some(id) = text_in(members, "read") {
+        return Some(Form::Read(id));
+    }
+    if let Some(id) = text_in(members, "delete") {
+        return Some(Form::Delete(id));
+    }
+    if let Some(name) = text_in(members, "mark") {
+        return Some(Form::Mark(name));
+    }
+    Some(Form::Back(text_in(members, "back")?))
+}
+
+/// The form of two members, one of them an object.
+fn object_form(members: &Map<String, Value>) -> Option<Form<'_>>
+    ensures { option_map form_view result ≡ object_form (members_view members.now.entries) }
+{
+    let object = member(members, "object")?;
+    if let Some(id) = text_in(members, "put") {
+        return Some(Form::Put(id, object));
+    }
+    Some(Form::Add(text_in(members, "add")?, object))
+}
+
+/// The form of two members, one of them the name of a parent.
+fn relation_form(members: &Map<String, Value>) -> Option<Form<'_>>
+    ensures { option_map form_view result ≡ relation_form (members_view members.now.entries) }
+{
+    let parent = text_in(members, "parent")?;
+    if let Some(child) = text_in(members, "attach") {
+        return Some(Form::Attach(child, parent));
+    }
+    Some(Form::Detach(text_in(members, "detach")?, parent))
+}
+
+/// The form of two members, one of them attributes with their values.
+fn values_form(members: &Map<String, Value>) -> Option<Form<'_>>
+    ensures { option_map form_view result ≡ values_form (members_view members.now.entries) }
+{
+    let named = member(members, "attributes")?.as_object()?;
+    if let Some(id) = text_in(members, "set") {
+        return Some(Form::Set(id, named));
+    }
+    Some(Form::Expect(text_in(members, "expect")?, named))
+}
+
+/// The form of an unset's two members.
+fn names_form(members: &Map<String, Value>) -> Option<Form<'_>>
+    ensures { option_map form_view result ≡ names_form (members_view members.now.entries) }
+{
+    let names = member(members, "attributes")?.as_array()?;
+    if has_other_item(names) {
+        return None;
+    }
+    Some(Form::Unset(text_in(members, "unset")?, names))
+}
+
+/// The form of a reshape's two members.
+fn reshape_form(members: &Map<String, Value>) -> Option<Form<'_>>
+    ensures { option_map form_view result ≡ reshape_form (members_view members.now.entries) }
+{
+    let _geometry = member(members, "geometry")?;
+    Some(Form::Reshape(text_in(members, "reshape")?, members))
+}
+
+/// The form of two members.
+fn pair_form(members: &Map<String, Value>) -> Option<Form<'_>>
+    ensures { option_map form_view result ≡ pair_form (members_view members.now.entries) }
+{
+    if let Some(form) = object_form(members) {
+        return Some(form);
+    }
+    if let Some(form) = relation_form(members) {
+        return Some(form);
+    }
+    if let Some(form) = values_form(members) {
+        return Some(form);
+    }
+    if let Some(form) = names_form(members) {
+        return Some(form);
+    }
+    reshape_form(members)
+}
+
+/// The form of an object's members, with no member beside those of its command.
+fn members_form(members: &Map<String, Value>) -> Option<Form<'_>>
+    ensures { option_map form_view result ≡ members_form (members_view members.now.entries) }
+{
+    if members_count(members) == 1 {
+        single_form(members)
+    } else if members_count(members) == 2 {
+        pair_form(members)
+    } else {
+        None
+    }
+}
+
+/// The form of a command's tree, if it has one.
+pub fn form_of(command: &Value) -> Option<Form<'_>>
+    ensures { option_map form_view result ≡ form_of (view command.now) }
+{
+    match command.as_str() {
+        Some(word) => word_form(word),
+        None => members_form(command.as_object()?),
+    }
+}
