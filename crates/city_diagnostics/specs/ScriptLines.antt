@@ -3,7 +3,8 @@ use Rattle.std.specs.Prelude.{ℕ, List, codes}
 use Rattle.serde_json.specs.Data.{Data}
 use Rattle.city_scripts.specs.declared.fault.ScriptFault.{ScriptFault}
 use Rattle.city_scripts.specs.declared.fault.ScriptFault.TheVariants.{OutOfMemory, TooLong, NotJson, NotWhole}
-use Rattle.city_scripts.specs.declared.fault.ScriptFault.TheVariants.{NotScripts, BadScript, TooMany, BadCommand, BadVertex}
+use Rattle.city_scripts.specs.declared.fault.ScriptFault.TheVariants.{NotScripts, BadScript, TooMany, BadCommand}
+use Rattle.city_scripts.specs.declared.fault.ScriptFault.TheVariants.{BadVertex}
 use Rattle.city_scripts.specs.AllFaults.{rank_of}
 use Rattle.city_diagnostics.specs.Lines.{HasNumber, TellsFault}
 

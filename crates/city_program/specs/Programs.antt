@@ -8,8 +8,8 @@ use Rattle.city_options.specs.declared.command_line.LineFault.{LineFault}
 use Rattle.city_serve.specs.declared.fault.ServeFault.{ServeFault}
 use Rattle.city_program.specs.declared.status.Status.{Status}
 use Rattle.city_program.specs.Checks.{AreCheckLines, HasLines, OfFiles}
-use Rattle.city_options.specs.CommandLines.{IsName, Line, IsLineOf, AnswersNames, AnswersOptions, AsksForText, HasOptions}
-use Rattle.city_options.specs.CommandLines.{IsShown, MeetsUnknownOption}
+use Rattle.city_options.specs.CommandLines.{IsName, Line, IsLineOf, AnswersNames, AnswersOptions, AsksForText}
+use Rattle.city_options.specs.CommandLines.{HasOptions, IsShown, MeetsUnknownOption}
 use Rattle.city_serve.specs.Destinations.{Folder, IsDelivered, IsDeliveryFault}
 use Rattle.city_options.specs.RunOptions.{plain_options, plain_destination}
 use Rattle.city_serve.specs.FaultTexts.{fault_text}

@@ -1,7 +1,7 @@
 -- Lists of the trees of commands: the end of a script, and the parts taken out of its members.
-use Rattle.city_scripts.proofs.Prelude.{◌≡◌, ℕ, ◌+◌, ◌<◌, List, true, length, map, drop, get_or, Option, Some, [], ◌∷◌, suc}
-use Rattle.city_scripts.proofs.Prelude.{◌∙◌, arith, refl, codes, Data, Members, get_member, without, get_member-without}
-use Rattle.city_scripts.proofs.Prelude.{word_ends, commands_in, parts_in}
+use Rattle.city_scripts.proofs.Prelude.{◌≡◌, ℕ, ◌+◌, ◌<◌, List, true, length, map, drop, get_or, Option, Some, [], ◌∷◌}
+use Rattle.city_scripts.proofs.Prelude.{suc, ◌∙◌, arith, refl, codes, Data, Members, get_member, without}
+use Rattle.city_scripts.proofs.Prelude.{get_member-without, word_ends, commands_in, parts_in}
 use Rattle.std.proofs.Common.{option_map, length-drop}
 use Rattle.std.specs.Prelude.{◌==◌}
 use Rattle.std.proofs.Math.Seq.{drop-cons}

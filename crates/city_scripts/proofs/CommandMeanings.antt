@@ -1,9 +1,9 @@
 -- Trees with a command.
-use Rattle.city_scripts.proofs.Prelude.{◌≡◌, ℕ, List, length, true, false, Option, Some, refl, arith, true≢false, None, ap}
-use Rattle.city_scripts.proofs.Prelude.{option_and_then, option_map, codes, is_none, is_some, Data, Members, get, as_object}
-use Rattle.city_scripts.proofs.Prelude.{Point, Command, Body, is_integral, has_bad_vertex, is_unknown_type, is_bad_geometry}
-use Rattle.city_scripts.proofs.Prelude.{is_bad_command, names_bad_vertex, command_of, body_of, kept_if, get-integral}
-use Rattle.city_scripts.proofs.Prelude.{as_object-integral, and_then_some}
+use Rattle.city_scripts.proofs.Prelude.{◌≡◌, ℕ, List, length, true, false, Option, Some, refl, arith, true≢false, None}
+use Rattle.city_scripts.proofs.Prelude.{ap, option_and_then, option_map, codes, is_none, is_some, Data, Members, get}
+use Rattle.city_scripts.proofs.Prelude.{as_object, Point, Command, Body, is_integral, has_bad_vertex, is_unknown_type}
+use Rattle.city_scripts.proofs.Prelude.{is_bad_geometry, is_bad_command, names_bad_vertex, command_of, body_of, kept_if}
+use Rattle.city_scripts.proofs.Prelude.{get-integral, as_object-integral, and_then_some}
 use Rattle.std.specs.Prelude.{◌||◌}
 use Rattle.std.proofs.lemmas.Bool.{not-false, or_parts}
 use Rattle.city_model.specs.declared.command.Command.TheVariants.{Put, Add, Set, Expect, Reshape}

@@ -1,6 +1,6 @@
 -- Three items and all their faults: the worked case of the order of a script's faults.
-use Rattle.city_scripts.proofs.Prelude.{List, ◌∷◌, [], refl, arith, inl, inr, codes, array, item, no_items, number, object}
-use Rattle.city_scripts.proofs.Prelude.{string, put, Data, Members, no_members}
+use Rattle.city_scripts.proofs.Prelude.{List, ◌∷◌, [], refl, arith, inl, inr, codes, array, item, no_items, number}
+use Rattle.city_scripts.proofs.Prelude.{object, string, put, Data, Members, no_members}
 use Rattle.serde_json.specs.Data.{unsigned}
 use Rattle.city_model.specs.Types as types
 use Rattle.city_scripts.specs.declared.fault.ScriptFault.TheVariants.{BadScript, BadCommand, BadVertex}

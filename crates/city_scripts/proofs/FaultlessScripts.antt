@@ -1,10 +1,9 @@
 -- A text of scripts has no fault.
-use Rattle.city_scripts.proofs.Prelude.{◌≡◌, true≢false, ℕ, List, length, Bool, true, false, Option, Some, None, refl, sym}
-use Rattle.city_scripts.proofs.Prelude.{ap, ◌∙◌, arith, option_and_then, slice_get, Data, get, codes, Point, Geometry}
-use Rattle.city_scripts.proofs.Prelude.{Command}
-use Rattle.city_scripts.proofs.Prelude.{Scripted, Body, body_of, has_bad_vertex, is_bad_geometry, is_position, all_read}
-use Rattle.city_scripts.proofs.Prelude.{is_bad_command, names_bad_vertex, not}
-use Rattle.city_scripts.proofs.Prelude.{command_of, ScriptParts, parts_of, vertex_count, and_parts, and_then_some, map_some}
+use Rattle.city_scripts.proofs.Prelude.{◌≡◌, true≢false, ℕ, List, length, Bool, true, false, Option, Some, None, refl}
+use Rattle.city_scripts.proofs.Prelude.{sym, ap, ◌∙◌, arith, option_and_then, slice_get, Data, get, codes, Point}
+use Rattle.city_scripts.proofs.Prelude.{Geometry, Command, Scripted, Body, body_of, has_bad_vertex, is_bad_geometry}
+use Rattle.city_scripts.proofs.Prelude.{is_position, all_read, is_bad_command, names_bad_vertex, not, command_of}
+use Rattle.city_scripts.proofs.Prelude.{ScriptParts, parts_of, vertex_count, and_parts, and_then_some, map_some}
 use Rattle.std.specs.Prelude.{◌||◌, if◌then◌else◌}
 use Rattle.city_scripts.specs.declared.fault.ScriptFault.{ScriptFault}
 use Rattle.city_scripts.specs.declared.fault.ScriptFault.TheVariants.{BadScript, TooMany, BadCommand, BadVertex}

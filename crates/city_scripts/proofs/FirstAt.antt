@@ -1,6 +1,7 @@
 -- The result of a search: something at an item, and nothing before it.
-use Rattle.city_scripts.proofs.Prelude.{◌≡◌, ℕ, zero, suc, ◌+◌, ◌<◌, ◌≤◌, List, [], ◌∷◌, length, map, drop, get_or, Option}
-use Rattle.city_scripts.proofs.Prelude.{Some, None, refl, sym, ap, ◌∙◌, arith, add-one, drop-cons, slice_get, first_at}
+use Rattle.city_scripts.proofs.Prelude.{◌≡◌, ℕ, zero, suc, ◌+◌, ◌<◌, ◌≤◌, List, [], ◌∷◌, length, map, drop, get_or}
+use Rattle.city_scripts.proofs.Prelude.{Option, Some, None, refl, sym, ap, ◌∙◌, arith, add-one, drop-cons, slice_get}
+use Rattle.city_scripts.proofs.Prelude.{first_at}
 use Rattle.std.proofs.Common.{drop_of_length-le}
 use Rattle.std.specs.Option.{option_or}
 

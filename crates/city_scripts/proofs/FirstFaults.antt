@@ -1,8 +1,8 @@
 -- The reader's answer is the first fault of an array of scripts.
-use Rattle.city_scripts.proofs.Prelude.{◌≡◌, ℕ, ◌+◌, ◌<◌, List, Bool, true, false, Some, None, Option, refl, sym, ap, subst}
-use Rattle.city_scripts.proofs.Prelude.{◌∙◌, inl, inr, arith, slice_get, option_map, Data, is_bad_command, names_bad_vertex}
-use Rattle.city_scripts.proofs.Prelude.{ScriptParts, vertex_count, parts_of, first_at, bad_script, index_if, first_in}
-use Rattle.city_scripts.proofs.Prelude.{index_in, first_command}
+use Rattle.city_scripts.proofs.Prelude.{◌≡◌, ℕ, ◌+◌, ◌<◌, List, Bool, true, false, Some, None, Option, refl, sym, ap}
+use Rattle.city_scripts.proofs.Prelude.{subst, ◌∙◌, inl, inr, arith, slice_get, option_map, Data, is_bad_command}
+use Rattle.city_scripts.proofs.Prelude.{names_bad_vertex, ScriptParts, vertex_count, parts_of, first_at, bad_script}
+use Rattle.city_scripts.proofs.Prelude.{index_if, first_in, index_in, first_command}
 use Rattle.std.proofs.Common.{zero-add}
 use Rattle.std.specs.Prelude.{◌⊎◌}
 use Rattle.city_scripts.specs.declared.fault.ScriptFault.{ScriptFault}

@@ -1,11 +1,12 @@
 -- The first of all faults is the reader's answer; and the accepted texts.
-use Rattle.city_scripts.proofs.Prelude.{◌≡◌, ◌⊎◌, inl, inr, ℕ, ◌<◌, List, ◌∷◌, Bool, true, false, true≢false, Option, Some}
-use Rattle.city_scripts.proofs.Prelude.{None, [], refl, sym, ap, subst, ◌∙◌, arith, slice_get, Data, is_integral, all_read}
-use Rattle.city_scripts.proofs.Prelude.{is_bad_command, names_bad_vertex, ScriptParts, parts_of, and_parts}
+use Rattle.city_scripts.proofs.Prelude.{◌≡◌, ◌⊎◌, inl, inr, ℕ, ◌<◌, List, ◌∷◌, Bool, true, false, true≢false, Option}
+use Rattle.city_scripts.proofs.Prelude.{Some, None, [], refl, sym, ap, subst, ◌∙◌, arith, slice_get, Data, is_integral}
+use Rattle.city_scripts.proofs.Prelude.{all_read, is_bad_command, names_bad_vertex, ScriptParts, parts_of, and_parts}
 use Rattle.std.proofs.lemmas.Bool.{false_from_ne_true}
 use Rattle.city_scripts.specs.declared.fault.ScriptFault.{ScriptFault}
 use Rattle.city_scripts.specs.declared.fault.ScriptFault.TheVariants.{OutOfMemory, TooLong, NotJson, NotWhole}
-use Rattle.city_scripts.specs.declared.fault.ScriptFault.TheVariants.{NotScripts, BadScript, TooMany, BadCommand, BadVertex}
+use Rattle.city_scripts.specs.declared.fault.ScriptFault.TheVariants.{NotScripts, BadScript, TooMany, BadCommand}
+use Rattle.city_scripts.specs.declared.fault.ScriptFault.TheVariants.{BadVertex}
 use Rattle.city_doc.specs.FaultLists.{IsListed}
 use Rattle.city_scripts.specs.AllFaults.{HasAt, StandsAt, IsFaultOfTree, IsFaultOf, IsBefore, AreFaultsOf}
 use Rattle.city_scripts.specs.AllFaults.{IsAccepted}

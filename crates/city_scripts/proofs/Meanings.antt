@@ -1,9 +1,9 @@
 -- Meanings of scripts.
-use Rattle.city_scripts.proofs.Prelude.{◌≡◌, ℕ, List, length, Bool, true, Option, Some, None, ap, ◌∙◌, false, refl, arith}
-use Rattle.city_scripts.proofs.Prelude.{◌&&◌, option_and_then, codes, slice_get, list_all, and_parts, Data, Items, no_items}
-use Rattle.city_scripts.proofs.Prelude.{item, Members, get_member, as_object, Point, Command, Scripted, is_integral}
-use Rattle.city_scripts.proofs.Prelude.{read_items, all_read, is_bad_command, names_bad_vertex, command_of, ScriptParts}
-use Rattle.city_scripts.proofs.Prelude.{commands_in, parts_in, parts_of, vertex_count, array_of-integral}
+use Rattle.city_scripts.proofs.Prelude.{◌≡◌, ℕ, List, length, Bool, true, Option, Some, None, ap, ◌∙◌, false, refl}
+use Rattle.city_scripts.proofs.Prelude.{arith, ◌&&◌, option_and_then, codes, slice_get, list_all, and_parts, Data}
+use Rattle.city_scripts.proofs.Prelude.{Items, no_items, item, Members, get_member, as_object, Point, Command, Scripted}
+use Rattle.city_scripts.proofs.Prelude.{is_integral, read_items, all_read, is_bad_command, names_bad_vertex, command_of}
+use Rattle.city_scripts.proofs.Prelude.{ScriptParts, commands_in, parts_in, parts_of, vertex_count, array_of-integral}
 use Rattle.city_scripts.proofs.Prelude.{as_object-integral, get_member-integral, and_then_some, if_some}
 use Rattle.std.proofs.lemmas.Bool.{false_from_ne_true}
 use Rattle.city_tokens.specs.tree.Lists.{items_list, array_of}

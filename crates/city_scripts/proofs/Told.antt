@@ -1,6 +1,6 @@
 -- Faults told by a walk through items in their order: the faults found at each, once, in order.
-use Rattle.city_scripts.proofs.Prelude.{◌≡◌, ◌⊎◌, inl, inr, ℕ, zero, suc, ◌+◌, ◌<◌, List, ◌∷◌, ◌++◌, Option, Some, None, []}
-use Rattle.city_scripts.proofs.Prelude.{Bool, true, false, refl, sym, ap, subst, ◌∙◌, arith, slice_get, option_map}
+use Rattle.city_scripts.proofs.Prelude.{◌≡◌, ◌⊎◌, inl, inr, ℕ, zero, suc, ◌+◌, ◌<◌, List, ◌∷◌, ◌++◌, Option, Some, None}
+use Rattle.city_scripts.proofs.Prelude.{[], Bool, true, false, refl, sym, ap, subst, ◌∙◌, arith, slice_get, option_map}
 use Rattle.city_scripts.proofs.Prelude.{ap₂, length, map, list_any, Data, ScriptParts, parts_of, vertex_count}
 use Rattle.std.proofs.Common.{zero-add}
 use Rattle.std.specs.Prelude.{◌||◌, nat_lt, option_to_list}
@@ -9,7 +9,8 @@ use Rattle.city_tokens.specs.script.Scripts.{max_scripts}
 use Rattle.city_scripts.specs.declared.numbered.NumberedForm.{NumberedForm}
 use Rattle.city_scripts.specs.declared.fault.ScriptFault.{ScriptFault}
 use Rattle.city_scripts.specs.declared.fault.ScriptFault.TheVariants.{BadScript, TooMany, BadCommand, BadVertex}
-use Rattle.city_scripts.specs.declared.fault.ScriptFault.TheVariants.{OutOfMemory, TooLong, NotJson, NotWhole, NotScripts}
+use Rattle.city_scripts.specs.declared.fault.ScriptFault.TheVariants.{OutOfMemory, TooLong, NotJson, NotWhole}
+use Rattle.city_scripts.specs.declared.fault.ScriptFault.TheVariants.{NotScripts}
 use Rattle.city_doc.specs.FaultLists.{IsListed, AreOrderedBy}
 use Rattle.city_scripts.specs.AllFaults.{HasAt, StandsAt, IsBefore, AreThose, are_too_many, is_misplaced}
 use Rattle.city_scripts.specs.AllFaults.{is_overlong}

@@ -6,7 +6,8 @@ use Rattle.serde_json.specs.Data.{Data}
 use Rattle.city_members.specs.Integral.{is_integral}
 use Rattle.city_scripts.specs.declared.fault.ScriptFault.{ScriptFault}
 use Rattle.city_scripts.specs.declared.fault.ScriptFault.TheVariants.{OutOfMemory, TooLong, NotJson, NotWhole}
-use Rattle.city_scripts.specs.declared.fault.ScriptFault.TheVariants.{NotScripts, BadScript, TooMany, BadCommand, BadVertex}
+use Rattle.city_scripts.specs.declared.fault.ScriptFault.TheVariants.{NotScripts, BadScript, TooMany, BadCommand}
+use Rattle.city_scripts.specs.declared.fault.ScriptFault.TheVariants.{BadVertex}
 use Rattle.city_doc.specs.FaultLists.{AreAll}
 use Rattle.city_scripts.specs.CommandFaults.{is_bad_command, names_bad_vertex}
 use Rattle.city_scripts.specs.Faults.{IsBadScript, ScriptTextFault}

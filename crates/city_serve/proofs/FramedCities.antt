@@ -1,5 +1,6 @@
 -- The tree of a city with a frame has a framed transform.
-use Rattle.std.proofs.Common.{◌≡◌, ℕ, ℤ, pos, List, Some, Ordering, Less, Equal, Greater, refl, sym, ap, ap₂, ◌∙◌, arith}
+use Rattle.std.proofs.Common.{◌≡◌, ℕ, ℤ, pos, List, Some, Ordering, Less, Equal, Greater, refl, sym, ap, ap₂, ◌∙◌}
+use Rattle.std.proofs.Common.{arith}
 use Rattle.std.specs.Prelude.{codes}
 use Rattle.std.specs.FinMap.{entries}
 use Rattle.std.proofs.lemmas.Map.Lookups.{exact_bytes}

@@ -3,7 +3,8 @@ use Rattle.std.proofs.Common.{◌≡◌, ℕ, Bool, true, List, [], ◌∷◌, �
 use Rattle.std.proofs.Common.{append-nil, subst}
 use Rattle.std.specs.Prelude.{flat_map}
 use Rattle.std.specs.List.{AllByRecursion}
-use Rattle.city_decimals.specs.Lines.{HasNoNewline, ArePrinted, IsFramedTop, HasPrintedLines, IsPrintedModel, lines_text}
+use Rattle.city_decimals.specs.Lines.{HasNoNewline, ArePrinted, IsFramedTop, HasPrintedLines, IsPrintedModel}
+use Rattle.city_decimals.specs.Lines.{lines_text}
 use Rattle.city_decimals.proofs.CompactTexts.{text_printed}
 use Rattle.city_decimals.proofs.OneLine.{printed_line}
 use Rattle.json.specs.Json.{Json}

@@ -1,11 +1,12 @@
 -- A report is empty or ends with a newline.
-use Rattle.city_serve.proofs.Prelude.{◌≡◌, ◌⊎◌, ◌++◌, ◌∷◌, [], ℕ, List, inl, inr, refl, sym, ap, ◌∙◌, append-nil, append_assoc}
-use Rattle.city_serve.proofs.Prelude.{End}
+use Rattle.city_serve.proofs.Prelude.{◌≡◌, ◌⊎◌, ◌++◌, ◌∷◌, [], ℕ, List, inl, inr, refl, sym, ap, ◌∙◌, append-nil}
+use Rattle.city_serve.proofs.Prelude.{append_assoc, End}
 use Rattle.serde_json.specs.Written.{compact_text}
 use Rattle.city_writer.specs.report.Ends.{end_data}
 use Rattle.city_writer.specs.report.Reports.{end_line, report_text}
 
-report_ends_so : (ends : List End) → (report_text ends ≡ []) ⊎ ((before : List ℕ) × (report_text ends ≡ before ++ 10 ∷ []))
+report_ends_so : (ends : List End)
+    → (report_text ends ≡ []) ⊎ ((before : List ℕ) × (report_text ends ≡ before ++ 10 ∷ []))
 unfolding report_text
 report_ends_so [] = inl refl
 report_ends_so (e ∷ es) = behind (report_ends_so es)

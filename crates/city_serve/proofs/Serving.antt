@@ -11,8 +11,8 @@ use Rattle.city_serve.specs.ServedTexts.{Written, Faults, WhereAlone, AreCutShor
 use Rattle.city_serve.specs.Served.{read_of, scripts_part, IsServeFaultBy}
 
 -- a property of the bytes read holds of the input, if that is known
-pub of_known : (P : List ℕ → Type 0) (input : Option (List ℕ)) (read : List ℕ) → IfSome input (λ all. read ≡ read_of all)
-    → P read → IfSome input (λ all. P (read_of all))
+pub of_known : (P : List ℕ → Type 0) (input : Option (List ℕ)) (read : List ℕ)
+    → IfSome input (λ all. read ≡ read_of all) → P read → IfSome input (λ all. P (read_of all))
 of_known P None read is h = tt
 of_known P (Some all) read is h = subst P is h
 

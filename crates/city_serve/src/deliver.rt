@@ -36,7 +36,8 @@ pub(crate) fn deliver<F: OutputFiles, W: Write>(
     output: Output,
 ) -> Result<Delivered, ServeFault>
     requires { output.report ≤ length output.bytes.items }
-    ensures written { IfOk result (λ d. (d.seen ≡ output.seen) × (d.withheld ≡ is_withheld destination.entry output.ends)
+    ensures written { IfOk result (λ d.
+        (d.seen ≡ output.seen) × (d.withheld ≡ is_withheld destination.entry output.ends)
         × Appends (W.contents writer.old.0) (W.contents writer.new.0)
         (bytes_to_writer (file_of destination.entry) d.withheld (take output.report output.bytes.items)
         (drop output.report output.bytes.items))

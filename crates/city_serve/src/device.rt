@@ -62,7 +62,8 @@ impl<R: Read> Device<R> {
     pub fn read_some(&mut self, chunk: &mut [u8]) -> Result<usize, ServeFault>
         requires { 0 < length chunk.old }
         ensures within { IfOk result (λ n. n ≤ length chunk.new) }
-        ensures bytes { IfOk result (λ n. Consumes (R.remaining self.old.0) (R.remaining self.new.0) (take n chunk.new)) }
+        ensures bytes { IfOk result (λ n.
+            Consumes (R.remaining self.old.0) (R.remaining self.new.0) (take n chunk.new)) }
         ensures end { IfOk result (λ n. n ≡ 0 → IsAtEnd (R.remaining self.new.0)) }
         ensures unfailed { OnOk result (self.new.1 ≡ self.old.1) }
         ensures kept { OnErr result (Keeps (R.remaining self.old.0) (R.remaining self.new.0)) }
@@ -93,7 +94,8 @@ impl<W: Write> Device<W> {
     pub fn write_some(&mut self, bytes: &[u8]) -> Option<usize>
         requires { 0 < length bytes.now }
         ensures taken { IfSome result (λ n. (0 < n) × (n ≤ length bytes.now)) }
-        ensures written { IfSome result (λ n. Appends (W.contents self.old.0) (W.contents self.new.0) (take n bytes.now)) }
+        ensures written { IfSome result (λ n.
+            Appends (W.contents self.old.0) (W.contents self.new.0) (take n bytes.now)) }
         ensures unfailed { IsSome result → self.new.1 ≡ self.old.1 }
         ensures kept { IsNone result → Keeps (W.contents self.old.0) (W.contents self.new.0) }
         ensures failed { IsNone result → self.new.1 ≡ true }
