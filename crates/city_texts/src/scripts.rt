@@ -17,8 +17,8 @@ use crate::run::{Run, read_pieces};
 use city_members::sequence::Sequence;
 use city_model::script::Script;
 use city_reader::Reader;
-use city_tokens::{MAX_SCRIPTS, MAX_TEXT};
 use city_tokens::whole_text::read_whole_text;
+use city_tokens::{MAX_SCRIPTS, MAX_TEXT};
 use std::alloc::Global;
 use std::thread::Threads;
 
