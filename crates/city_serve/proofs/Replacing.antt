@@ -17,6 +17,7 @@ pub placed : (known : Bool) (path model : List ℕ) (before after : Folder) (emp
     → ((other : List ℕ) → other ≢ path → after other ≡ before other) → IsReplaced path model before after
 placed false path model before after empty written synced is filled kept at others =
     (subst (λ t. IfSome t (λ all. all ≡ model)) (sym at) tt, others)
-placed true path model before after empty written synced is filled kept at others =
-    (subst (λ t. IfSome t (λ all. all ≡ model)) (sym (at ∙ all_of model empty written synced is filled kept)) refl,
-    others)
+placed true path model before after empty written synced is filled kept at others = (
+  subst (λ t. IfSome t (λ all. all ≡ model)) (sym (at ∙ all_of model empty written synced is filled kept)) refl,
+  others,
+)
