@@ -17,5 +17,6 @@ returns-clause-lines g c =
     c.in_ok-read-2.field-0.items first behind lines c.in_ok-read.ensures.read
     (subst (λ (bytes : Vec ℕ). AreModelLines decimals bytes.items first) c.given.ensures.bytes c.in_ok-lines.ensures)
     c.in_ok-read-2.ensures.read
-    (subst (λ (bytes : Vec ℕ). AreScriptsLines decimals bytes.items behind) c.given-2.ensures c.in_ok-more.ensures)
+    (subst (λ (bytes : Vec ℕ). AreScriptsLines decimals bytes.items behind) c.given-2.ensures.bytes
+    c.in_ok-more.ensures)
     (c.in_ok-extend_from_slice.ensures.items ∙ ap (λ more. first ++ more) c.as_slice.ensures.value))
