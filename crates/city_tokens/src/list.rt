@@ -29,7 +29,7 @@ pub trait FromTokens: Sized + Drop {
 }
 
 /// Reads the items up to the closing bracket, after the ones already read.
-pub fn read_rest<T: FromTokens>(
+pub(crate) fn read_rest<T: FromTokens>(
     alloc: Global,
     reader: &mut Reader<'_>,
     depth: usize,

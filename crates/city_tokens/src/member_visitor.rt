@@ -56,7 +56,7 @@ fn read_rest<O: MemberVisitor>(
 }
 
 /// Reads an object after its opening brace: the visitor with its own members, and the kept ones.
-pub fn read_opened<O: MemberVisitor>(
+pub(crate) fn read_opened<O: MemberVisitor>(
     alloc: Global,
     reader: &mut Reader<'_>,
     depth: usize,

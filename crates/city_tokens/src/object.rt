@@ -24,7 +24,7 @@ use std::marker::Model;
 
 /// The members of an object read so far.
 #[derive(Drop)]
-pub struct ObjectParts {
+pub(crate) struct ObjectParts {
     pub kind: Option<ObjectType>,
     pub geometry: Sequence<Geometry>,
     pub parents: SharedIds,
@@ -118,7 +118,7 @@ impl UnresolvedObject {
 }
 
 /// The object of all its members, read and kept.
-pub fn object_of(
+pub(crate) fn object_of(
     alloc: Global,
     parts: ObjectParts,
     kept: Map<String, Value>,

@@ -12,7 +12,7 @@ use json::Token;
 use std::alloc::Global;
 
 /// The next value, a text.
-pub fn read_str<'t>(reader: &mut Reader<'t>) -> Option<&'t str>
+pub(crate) fn read_str<'t>(reader: &mut Reader<'t>) -> Option<&'t str>
     ensures { IfSome result (λ s. (depth : ℕ) → IsValue depth reader.old (string s.now) reader.new) }
 {
     match reader.next()? {
@@ -24,7 +24,7 @@ pub fn read_str<'t>(reader: &mut Reader<'t>) -> Option<&'t str>
 /// Whether a name is this one, told by their lengths first. Inlined, so that a literal is compared
 /// byte by byte, without a call.
 #[inline(always)]
-pub fn is_name(name: &str, other: &str) -> bool
+pub(crate) fn is_name(name: &str, other: &str) -> bool
     ensures { MatchBool result (name.now ≡ other.now) (name.now ≢ other.now) }
 {
     let bytes = name.as_bytes();

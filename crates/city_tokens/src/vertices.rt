@@ -19,7 +19,7 @@ pub struct Vertex {
 
 /// The next value, a whole number.
 #[inline(always)]
-pub fn read_whole(reader: &mut Reader<'_>) -> Option<i64>
+pub(crate) fn read_whole(reader: &mut Reader<'_>) -> Option<i64>
     ensures value { IfSome result
         (λ n. (depth : ℕ) → IsValue depth reader.old (number (of_integer n)) reader.new) }
     ensures in_range { IfSome result (λ n. as_i64 (of_integer n) ≡ Some n) }

@@ -136,7 +136,8 @@ fn read_geometries(
     Ok(Some(found))
 }
 
-/// The geometries of a member, shared by all copies; consumes it. None if it is absent.
+/// The geometries of a member, shared by all copies; consumes it. An absent member has none.
+/// None if it isn't an array, or one of its items is no geometry.
 pub fn geometries_of(
     alloc: Global,
     points: &[Point],
