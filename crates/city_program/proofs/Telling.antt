@@ -1,40 +1,61 @@
 -- The bytes on standard error, line by line, and the program's end with them.
-use Rattle.city_program.proofs.Prelude.{◌≡◌, ◌<◌, ◌+◌, ℕ, Bool, false, List, [], ◌∷◌, ◌++◌, drop, length, Option, Some}
+use Rattle.city_program.proofs.Prelude.{◌≡◌, ◌<◌, ◌+◌, ℕ, Bool, false, List, [], ◌∷◌, ◌++◌, length, Option, Some}
 use Rattle.city_program.proofs.Prelude.{None, true, inl, inr, refl, sym, ap, subst, ◌∙◌, append_assoc, append-nil, Vec}
 use Rattle.city_program.proofs.Prelude.{Appends, Keeps, Asked, ServeFault, seen_text, EndsAsked, IsSeenTold}
-use Rattle.std.proofs.Common.{get_or}
-use Rattle.std.proofs.lemmas.List.{drop_more}
+use Rattle.std.proofs.Common.{arith, get_or, take, ◌≢◌}
+use Rattle.std.proofs.lemmas.List.{take_more, length-take-le}
 use Rattle.city_program.specs.declared.status.Status.{Status}
 use Rattle.city_serve.specs.FaultTexts.{fault_text}
 use Rattle.city_program.specs.Programs.{Streams, IsAnswered, IsTold, IsToldFault, IsUnanswered, is_explained}
-use Rattle.city_program.specs.Programs.{seen_lines}
+use Rattle.city_program.specs.Programs.{seen_lines, memory_line}
 use Rattle.city_program.specs.internal.Telling.{IsToldAfter, IsFaultText, IsFound, IsAnsweredAs}
 use Rattle.city_serve.proofs.KnownBytes.{appends_more}
 
 -- the lines of the first viewers, if all writes succeeded
 abbrev pub AreToldTo : ℕ → List (Vec ℕ) → Option (List ℕ) → Option (List ℕ) → Bool → Type 0
-AreToldTo viewer all old new failed = failed ≡ false →
-    (done : List ℕ) × (done ++ seen_lines viewer (drop viewer all) ≡ seen_lines 0 all) × Appends old new done
+AreToldTo viewer all old new failed = IsTold old new failed (seen_lines 0 (take viewer all))
 
 pub keeps_same : (u : Option (List ℕ)) → Keeps u u
 keeps_same None = tt
 keeps_same (Some xs) = refl
+
+seen_lines-append : (viewer : ℕ) (first : List (Vec ℕ)) (seen : Vec ℕ)
+    → seen_lines viewer (first ++ seen ∷ [])
+    ≡ seen_lines viewer first ++ (seen_text (viewer + length first) seen.items ++ 10 ∷ [])
+seen_lines-append viewer [] seen = grind (arith, append-nil (seen_text viewer seen.items ++ 10 ∷ []))
+seen_lines-append viewer (one ∷ first) seen =
+    let line = seen_text viewer one.items ++ 10 ∷ [] in
+    let next : (viewer + 1) + length first ≡ viewer + length (one ∷ first) = grind arith in
+    ap (λ rest. line ++ rest) (seen_lines-append (viewer + 1) first seen)
+    ∙ sym (append_assoc line (seen_lines (viewer + 1) first)
+    (seen_text ((viewer + 1) + length first) seen.items ++ 10 ∷ []))
+    ∙ ap (λ n. seen_lines viewer (one ∷ first) ++ (seen_text n seen.items ++ 10 ∷ [])) next
 
 pub told_next : (viewer : ℕ) (all : List (Vec ℕ)) (seen : Vec ℕ) (given : List ℕ) (u v w : Option (List ℕ))
     (before after : Bool) → viewer < length all → seen ≡ get_or all viewer seen → given ≡ seen.items
     → AreToldTo viewer all u v before → IsToldAfter before v w after (seen_text viewer given ++ 10 ∷ [])
     → AreToldTo (viewer + 1) all u w after
 told_next viewer all seen given u v w before after within at same told line fine =
-    let so_far = told (line.1 fine) in
-    let this = seen_text viewer seen.items ++ 10 ∷ [] in
-    let more = drop (viewer + 1) all in
-    let here : drop viewer all ≡ seen ∷ more =
-    drop_more all viewer seen within ∙ ap (λ (x : Vec ℕ). x ∷ more) (sym at) in
-    let whole : (so_far.0 ++ this) ++ seen_lines (viewer + 1) more ≡ seen_lines 0 all =
-    append_assoc so_far.0 this (seen_lines (viewer + 1) more)
-    ∙ ap (λ rest. so_far.0 ++ seen_lines viewer rest) (sym here) ∙ so_far.1 in
-    let written : Appends v w this = subst (λ s. Appends v w (seen_text viewer s ++ 10 ∷ [])) same (line.0 fine) in
-    (so_far.0 ++ this, whole, appends_more u v w so_far.0 this so_far.2 written)
+    let first = seen_lines 0 (take viewer all) in
+    let this = seen_text viewer given ++ 10 ∷ [] in
+    let lines : seen_lines 0 (take (viewer + 1) all) ≡ first ++ this =
+    grind (
+      arith,
+      take_more all viewer seen within,
+      seen_lines-append 0 (take viewer all) seen,
+      length-take-le viewer all,
+    ) in
+    subst (Appends u w) (sym lines) (appends_more u v w first this (told (line.1 fine)) (line.0 fine))
+
+-- memory is short for the line of this viewer
+pub told_in_part : (viewer : ℕ) (all : List (Vec ℕ)) (u v w : Option (List ℕ)) (ending status : Status)
+    (before after : Bool) → viewer < length all → status ≡ Status.Failed
+    → AreToldTo viewer all u v before → IsToldAfter before v w after memory_line
+    → IsSeenTold ending status u w after all
+told_in_part viewer all u v w ending status before after within failed told line =
+    let some : all ≢ [] = grind arith in
+    let lines = seen_lines 0 (take viewer all) in
+    inr (failed, some, (viewer, λ fine. appends_more u v w lines memory_line (told (line.1 fine)) (line.0 fine)))
 
 -- ---- how the program ends
 
@@ -66,7 +87,13 @@ module _ (terminal : Bool) (s : Streams) (told telling : Option (List ℕ)) (mut
         subst (λ status. EndsAsked terminal asked status s told telling mute) (sym lines.0) (ends lines.1)
     ends_so ending withheld status seen answered ends (inr failed) =
         subst (λ status. EndsAsked terminal asked status s told telling mute) (sym failed.0)
-        (inr (seen, withheld, answered))
+        (inr (record {
+          seen = seen;
+          withheld = withheld;
+          answered = answered;
+          viewers = failed.2.0;
+          seen_told = failed.2.1;
+        }))
 
     pub ends_told : (ending status : Status) (seen : List (Vec ℕ)) → IsAnsweredAs s asked seen ending
         → IsSeenTold ending status told telling mute seen → EndsAsked terminal asked status s told telling mute

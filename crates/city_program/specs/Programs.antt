@@ -1,6 +1,6 @@
 -- The program's answer to the words of its command line.
 use Rattle.std.specs.Prelude.{◌≡◌, ◌⊎◌, ◌+◌, ⊤, ℕ, Bool, true, false, List, [], ◌∷◌, ◌++◌, codes, string_bytes, All}
-use Rattle.std.specs.Prelude.{◌||◌, Option, IfSome, Result, Ok, Err, IsErr, IfOk, option_map}
+use Rattle.std.specs.Prelude.{◌||◌, Option, IfSome, Result, Ok, Err, IsErr, IfOk, option_map, take}
 use Rattle.std.specs.Global.{Vec}
 use Rattle.std.specs.Io.KnownBytes.{Keeps, Appends}
 use Rattle.city_options.specs.declared.command_line.Asked.{Asked}
@@ -110,10 +110,14 @@ IsUnanswered s (Asked.Text text) f =
 abbrev pub IsTold : Option (List ℕ) → Option (List ℕ) → Bool → List ℕ → Type 0
 IsTold old new failed text = failed ≡ false → Appends old new text
 
+-- the line of running out of memory
+abbrev pub memory_line : List ℕ
+memory_line = codes "cityed: out of memory\n"
+
 -- a refused command line is told by its text, and running out of memory for one is a fault
 abbrev pub IsLineTold : Status → LineFault → Option (List ℕ) → Option (List ℕ) → Bool → Type 0
 IsLineTold Status.Refused (LineFault.Refused text) old new failed = IsTold old new failed (string_bytes text)
-IsLineTold Status.Failed LineFault.OutOfMemory old new failed = ⊤
+IsLineTold Status.Failed LineFault.OutOfMemory old new failed = IsTold old new failed memory_line
 IsLineTold _ _ old new failed = ⊥
 
 -- a line for each viewer, from the one of this number on
@@ -131,9 +135,9 @@ is_explained terminal (Asked.Text text) = terminal
 -- the line of a fault, and any lines behind it if it is explained; if memory is short for it, the line of running out
 -- of memory
 abbrev pub IsToldFault : Bool → ServeFault → List ℕ → Type 0
-IsToldFault false f text = (text ≡ fault_text f ++ 10 ∷ []) ⊎ (text ≡ codes "cityed: out of memory\n")
+IsToldFault false f text = (text ≡ fault_text f ++ 10 ∷ []) ⊎ (text ≡ memory_line)
 IsToldFault true f text =
-    ((behind : List ℕ) × (text ≡ (fault_text f ++ 10 ∷ []) ++ behind)) ⊎ (text ≡ codes "cityed: out of memory\n")
+    ((behind : List ℕ) × (text ≡ (fault_text f ++ 10 ∷ []) ++ behind)) ⊎ (text ≡ memory_line)
 
 -- ---- how the program ends
 
@@ -143,6 +147,15 @@ pub record IsDone (asked : Asked) (withheld : Bool) (s : Streams) (told telling 
   pub seen : List (Vec ℕ)
   pub answered : IsAnswered s asked seen withheld
   pub seen_told : IsTold told telling mute (seen_lines 0 seen)
+
+-- the request is done, but memory was short for telling what viewers saw: standard error has got the lines of the first
+-- ones, and the line of running out of memory
+pub record IsCutShort (asked : Asked) (s : Streams) (told telling : Option (List ℕ)) (mute : Bool) : Type 0 where
+  pub seen : List (Vec ℕ)
+  pub withheld : Bool
+  pub answered : IsAnswered s asked seen withheld
+  pub viewers : ℕ
+  pub seen_told : IsTold told telling mute (seen_lines 0 (take viewers seen) ++ memory_line)
 
 -- a check found faults, and output has got them; standard error has got nothing
 abbrev pub IsFoundFaulty : Asked → Streams → Option (List ℕ) → Option (List ℕ) → Bool → Type 0
@@ -166,8 +179,7 @@ EndsAsked terminal asked Status.Done s told telling mute = IsDone asked false s 
 EndsAsked terminal asked Status.Withheld s told telling mute = IsDone asked true s told telling mute
 EndsAsked terminal asked Status.Faulty s told telling mute = IsFoundFaulty asked s told telling mute
 EndsAsked terminal asked Status.Failed s told telling mute =
-    IsFaulty terminal asked s told telling mute
-    ⊎ ((seen : List (Vec ℕ)) × (withheld : Bool) × IsAnswered s asked seen withheld)
+    IsFaulty terminal asked s told telling mute ⊎ IsCutShort asked s told telling mute
 EndsAsked terminal asked Status.Refused s told telling mute = ⊥
 
 -- the words make this request, and the status is the request's
@@ -177,7 +189,7 @@ pub record EndsAnswered (terminal : Bool) (arguments : List (List ℕ)) (status 
   pub asks : AsksFor arguments (Ok asked)
   pub ended : EndsAsked terminal asked status s told telling mute
 
--- the words ask for nothing, or memory was short for them: nothing is written, and a refusal is told by its text
+-- the words ask for nothing, or memory was short for them: nothing is written, and standard error has got why
 pub record EndsRefused (arguments : List (List ℕ)) (status : Status) (s : Streams) (told telling : Option (List ℕ))
     (mute : Bool) : Type 0 where
   pub fault : LineFault

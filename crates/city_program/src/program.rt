@@ -5,7 +5,7 @@ ghost use Rattle.city_serve.specs.FaultTexts.{fault_text};
 ghost use Rattle.city_program.specs.SeenTexts.{seen_text};
 ghost use Rattle.city_program.specs.declared.status.Status.{Status};
 ghost use Rattle.city_program.specs.Programs.{is_explained, IsUnanswered, IsLineTold, IsToldFault};
-ghost use Rattle.city_program.specs.Programs.{Ends, EndsAsked};
+ghost use Rattle.city_program.specs.Programs.{Ends, EndsAsked, memory_line};
 ghost use Rattle.city_program.specs.internal.Telling.{run_status, check_status, IsAnsweredAs, IsFaultText, IsToldAfter};
 ghost use Rattle.city_program.specs.internal.Telling.{IsSeenTold};
 
@@ -299,15 +299,16 @@ fn tell_seen<E: Write>(
     status
 }
 
-/// Tells what a viewer saw.
+/// Tells what a viewer saw. Out of memory, it tells nothing.
 fn tell_viewer<E: Write>(
     alloc: Global,
     viewer: usize,
     seen: &[u64],
     errors: &mut Device<E>,
 ) -> Result<(), OutOfMemory>
-    ensures { OnOk result (IsToldAfter errors.old.1 (E.contents errors.old.0) (E.contents errors.new.0) errors.new.1
-        (seen_text viewer seen.now ++ 10 ∷ [])) }
+    ensures told { OnOk result (IsToldAfter errors.old.1 (E.contents errors.old.0) (E.contents errors.new.0)
+        errors.new.1 (seen_text viewer seen.now ++ 10 ∷ [])) }
+    ensures kept { IfErr result (λ _. errors.new ≡ errors.old) }
 {
     let mut line = seen_line(alloc, viewer, seen)?;
     line.push_str("\n")?;
@@ -330,7 +331,9 @@ pub fn refuse_line<E: Write>(alloc: Global, fault: &LineFault, errors: &mut Devi
 
 /// Tells that memory ran out.
 fn tell_memory<E: Write>(errors: &mut Device<E>) -> Status
-    ensures { result ≡ Status.Failed }
+    ensures status { result ≡ Status.Failed }
+    ensures told { IsToldAfter errors.old.1 (E.contents errors.old.0) (E.contents errors.new.0) errors.new.1
+        memory_line }
 {
     tell(errors, MEMORY_LINE);
     Status::Failed

@@ -29,8 +29,8 @@ pub fn play_document<T: Threads + Sync>(
     }
 }
 
-/// The canonical text of a document read in these pieces, or its fault. Adds the city's text written in these pieces, if
-/// it is another.
+/// The canonical text of a document read in these pieces, or its fault. Adds the city's text written in these pieces,
+/// if it is another.
 fn read_in_pieces<T: Threads + Sync>(
     rt: &T,
     alloc: Global,

@@ -44,8 +44,8 @@ pub fn name_text<'a>(
     Ok(Named { name, text })
 }
 
-/// Adds a piece: `bytes 255 10` is these bytes, `repeat 128 [` is the rest of the line so often, and any other line
-/// its meaning.
+/// Adds a piece: `bytes 255 10` is these bytes, `repeat 128 [` or `repeat 100..228 [` is the rest of the line so often,
+/// and any other line its meaning.
 fn add_piece(names: &[Named], line: &str, text: &mut Written) {
     if let Some(numbers) = line.strip_prefix("bytes ") {
         return add_numbers(numbers, text);
@@ -65,12 +65,13 @@ fn add_numbers(numbers: &str, text: &mut Written) {
     }
 }
 
-/// Adds the meaning of a line, as often as the number before it says. Each `%` is the repetition's number, from 0.
+/// Adds the meaning of a line for each number of the range before it, with the number for each `%`. `128` is `0..128`.
 fn add_repeated(names: &[Named], rest: &str, text: &mut Written) {
-    let (count, line) = rest.split_once(" ").unwrap_or((rest, ""));
+    let (range, line) = rest.split_once(" ").unwrap_or((rest, ""));
+    let (start, end) = range.split_once("..").unwrap_or(("0", range));
     let piece = meant(names, line);
     let numbered = piece.contains(&b'%');
-    for number in 0..count.parse::<u64>().unwrap_or(0) {
+    for number in start.parse::<u64>().unwrap_or(0)..end.parse::<u64>().unwrap_or(0) {
         if numbered {
             add_numbered(piece, number, text);
         } else {

@@ -144,8 +144,8 @@ fn ended(
     }
 }
 
-/// Plays the commands on a copy of the opening city, and returns the outcome. If no command ends the script, it is out
-/// of memory at the next one.
+/// Plays the commands on a copy of the opening city, and returns the outcome. If no command ends the script, which no
+/// text can say, it is out of memory.
 fn play(
     alloc: Global,
     opening: &City,
@@ -171,15 +171,6 @@ fn play(
     Ok(Outcome::NoMemory(commands.len()))
 }
 
-/// The commands tried before the script ended: all of them, unless it ran out of memory.
-fn tried<'a>(script: &'a Script, outcome: &Outcome) -> &'a [Command] {
-    let commands = script.commands();
-    match outcome {
-        Outcome::NoMemory(number) if *number <= commands.len() => &commands[..*number],
-        _ => commands,
-    }
-}
-
 /// Plays the commands on a copy of the city, kept if they commit.
 fn play_on_copy(
     alloc: Global,
@@ -200,17 +191,16 @@ fn play_on_copy(
     }
 }
 
-/// Plays the script of this end on the city, and returns the new end. The city changes if the script commits. Returns
-/// None if there is no such script, or memory runs out.
+/// Plays the script of this end on the city, and returns the new end. The city changes if the script commits. There is
+/// memory for all of it, so an end out of memory isn't given again. Returns None if there is no such script.
 fn end_again(alloc: Global, city: &mut City, scripts: &[Script], end: &End) -> Option<End>
     requires { IsSound (object_at city.old.1) }
     ensures { IsSound (object_at city.new.1) }
 {
     let script = scripts.get(end.script)?;
     let name = script.name().copy(alloc).ok()?;
-    let commands = tried(script, &end.outcome);
     let mut replies = Sequence::new(alloc);
-    let outcome = play_on_copy(alloc, city, commands, &mut replies).ok()?;
+    let outcome = play_on_copy(alloc, city, script.commands(), &mut replies).ok()?;
     Some(End {
         script: end.script,
         name,

@@ -209,7 +209,8 @@ const LAST_SLEEPS_LAST: &[Step] = &[(0, 3, 2, 2, 3), (1, 1, 0, 3, 0), (2, 1, 1, 
 /// The same for a gate passed only before many turns.
 const MANY_TURNS: &[Step] = &[(0, 2, 2, 1, 3), (1, 1, 0, 2, 0), (2, 1, 1, 1, 1)];
 
-/// The replies of the three at their passes: the others die at their second, unless they come late, and begin again once.
+/// The replies of the three at their passes: the others die at their second, unless they come late, and begin again
+/// once.
 const DIE_ONCE: &[&[usize]] = &[&[0, 0, 1], &[0, 0, ANY, 0, 1], &[0, 0, ANY, 0, 1]];
 
 /// The end of the first script, and the number of commits then.

@@ -97,8 +97,8 @@ impl Display for Each {
     }
 }
 
-/// The wanted numbers, commits and misses: each viewer sees each number from 0 to the last, all scripts commit, and none
-/// is held in vain.
+/// The wanted numbers, commits and misses: each viewer sees each number from 0 to the last, all scripts commit, and
+/// none is held in vain.
 fn each_number(alloc: Global, viewers: usize, last: usize) -> Option<String> {
     let all = Each(viewers, Numbers(last));
     format!(in alloc; "{all} {last} 0").ok()
@@ -130,6 +130,7 @@ const CASES: &[Case] = &[
     (2, 2, 5, false),
     (3, 3, 40, true),
     (16, 4, 70, false),
+    (1, 2, 600, false),
 ];
 
 /// The numbers seen in a case.
