@@ -2,7 +2,7 @@
 use Rattle.city_program.proofs.Prelude.{◌≡◌, ◌<◌, ◌+◌, ℕ, Bool, false, List, [], ◌∷◌, ◌++◌, length, Option, Some}
 use Rattle.city_program.proofs.Prelude.{None, true, inl, inr, refl, sym, ap, subst, ◌∙◌, append_assoc, append-nil, Vec}
 use Rattle.city_program.proofs.Prelude.{Appends, Keeps, Asked, ServeFault, seen_text, EndsAsked, IsSeenTold}
-use Rattle.std.proofs.Common.{arith, get_or, take, ◌≢◌}
+use Rattle.std.proofs.Common.{arith, get_or, take}
 use Rattle.std.proofs.lemmas.List.{take_more, length-take-le}
 use Rattle.city_program.specs.declared.status.Status.{Status}
 use Rattle.city_serve.specs.FaultTexts.{fault_text}
@@ -53,9 +53,8 @@ pub told_in_part : (viewer : ℕ) (all : List (Vec ℕ)) (u v w : Option (List �
     → AreToldTo viewer all u v before → IsToldAfter before v w after memory_line
     → IsSeenTold ending status u w after all
 told_in_part viewer all u v w ending status before after within failed told line =
-    let some : all ≢ [] = grind arith in
     let lines = seen_lines 0 (take viewer all) in
-    inr (failed, some, (viewer, λ fine. appends_more u v w lines memory_line (told (line.1 fine)) (line.0 fine)))
+    inr (failed, (viewer, within, λ fine. appends_more u v w lines memory_line (told (line.1 fine)) (line.0 fine)))
 
 -- ---- how the program ends
 
@@ -67,13 +66,17 @@ told_fault false f behind text none (inl is) =
     let line = fault_text f ++ 10 ∷ [] in inl (is ∙ ap (λ more. line ++ more) (none refl) ∙ append-nil line)
 told_fault false f behind text none (inr is) = inr is
 
+none_within : (viewer : ℕ) (seen : List (Vec ℕ)) → seen ≡ [] → viewer < length seen → ⊥
+none_within viewer seen none within = grind arith
+
 module _ (terminal : Bool) (s : Streams) (told telling : Option (List ℕ)) (mute : Bool) where
   found : (asked : Asked) (status : Status) (seen : List (Vec ℕ)) → IsFound s asked seen
       → IsSeenTold Status.Faulty status told telling mute seen → EndsAsked terminal asked status s told telling mute
   found (Asked.Check options model scripts) status seen is (inl lines) =
       subst (λ status. EndsAsked terminal (Asked.Check options model scripts) status s told telling mute) (sym lines.0)
       (is.1, subst (λ seen. IsTold told telling mute (seen_lines 0 seen)) is.0 lines.1)
-  found (Asked.Check options model scripts) status seen is (inr failed) = absurd (failed.1 is.0)
+  found (Asked.Check options model scripts) status seen is (inr failed) =
+      absurd (none_within failed.1.0 seen is.0 failed.1.1)
   found (Asked.Input options destination) status seen is lines = absurd is
   found (Asked.Files options destination model scripts) status seen is lines = absurd is
   found (Asked.Text text) status seen is lines = absurd is
@@ -91,8 +94,9 @@ module _ (terminal : Bool) (s : Streams) (told telling : Option (List ℕ)) (mut
           seen = seen;
           withheld = withheld;
           answered = answered;
-          viewers = failed.2.0;
-          seen_told = failed.2.1;
+          viewer = failed.1.0;
+          within = failed.1.1;
+          seen_told = failed.1.2;
         }))
 
     pub ends_told : (ending status : Status) (seen : List (Vec ℕ)) → IsAnsweredAs s asked seen ending

@@ -1,6 +1,7 @@
 -- The program's answer to the words of its command line.
 use Rattle.std.specs.Prelude.{◌≡◌, ◌⊎◌, ◌+◌, ⊤, ℕ, Bool, true, false, List, [], ◌∷◌, ◌++◌, codes, string_bytes, All}
-use Rattle.std.specs.Prelude.{◌||◌, Option, IfSome, Result, Ok, Err, IsErr, IfOk, option_map, take}
+use Rattle.std.specs.Prelude.{◌||◌, Option, IfSome, Result, Ok, Err, IsErr, IfOk, option_map}
+use Rattle.std.specs.Prelude.{◌<◌, length, take}
 use Rattle.std.specs.Global.{Vec}
 use Rattle.std.specs.Io.KnownBytes.{Keeps, Appends}
 use Rattle.city_options.specs.declared.command_line.Asked.{Asked}
@@ -148,14 +149,15 @@ pub record IsDone (asked : Asked) (withheld : Bool) (s : Streams) (told telling 
   pub answered : IsAnswered s asked seen withheld
   pub seen_told : IsTold told telling mute (seen_lines 0 seen)
 
--- the request is done, but memory was short for telling what viewers saw: standard error has got the lines of the first
--- ones, and the line of running out of memory
+-- the request is done, but memory was short for telling what a viewer saw: standard error has got the lines of those
+-- before it, and the line of running out of memory
 pub record IsCutShort (asked : Asked) (s : Streams) (told telling : Option (List ℕ)) (mute : Bool) : Type 0 where
   pub seen : List (Vec ℕ)
   pub withheld : Bool
   pub answered : IsAnswered s asked seen withheld
-  pub viewers : ℕ
-  pub seen_told : IsTold told telling mute (seen_lines 0 (take viewers seen) ++ memory_line)
+  pub viewer : ℕ
+  pub within : viewer < length seen
+  pub seen_told : IsTold told telling mute (seen_lines 0 (take viewer seen) ++ memory_line)
 
 -- a check found faults, and output has got them; standard error has got nothing
 abbrev pub IsFoundFaulty : Asked → Streams → Option (List ℕ) → Option (List ℕ) → Bool → Type 0

@@ -1,5 +1,5 @@
 -- The texts on standard error, step by step.
-use Rattle.std.specs.Prelude.{◌≡◌, ◌≢◌, ◌⊎◌, ℕ, Bool, true, false, List, [], ◌∷◌, ◌++◌, take, Option}
+use Rattle.std.specs.Prelude.{◌≡◌, ◌<◌, ◌⊎◌, ℕ, Bool, true, false, List, [], ◌∷◌, ◌++◌, length, take, Option}
 use Rattle.std.specs.Global.{Vec}
 use Rattle.city_options.specs.declared.command_line.Asked.{Asked}
 use Rattle.city_serve.specs.declared.fault.ServeFault.{ServeFault}
@@ -12,17 +12,16 @@ use Rattle.city_program.specs.Programs.{memory_line}
 abbrev pub IsToldAfter : Bool → Option (List ℕ) → Option (List ℕ) → Bool → List ℕ → Type 0
 IsToldAfter failed_before old new failed text = IsTold old new failed text × (failed ≡ false → failed_before ≡ false)
 
--- the lines of the first viewers, and the line of running out of memory
+-- the lines of the viewers before one of them, and the line of running out of memory
 abbrev pub IsToldInPart : Option (List ℕ) → Option (List ℕ) → Bool → List (Vec ℕ) → Type 0
 IsToldInPart old new failed seen =
-    (viewers : ℕ) × IsTold old new failed (seen_lines 0 (take viewers seen) ++ memory_line)
+    (viewer : ℕ) × (viewer < length seen) × IsTold old new failed (seen_lines 0 (take viewer seen) ++ memory_line)
 
--- if all viewers were told of, it has got their lines, and the status is the request's. If not, memory was short, and
--- there are viewers
+-- if all viewers were told of, it has got their lines, and the status is the request's. If not, memory was short
 abbrev pub IsSeenTold : Status → Status → Option (List ℕ) → Option (List ℕ) → Bool → List (Vec ℕ) → Type 0
 IsSeenTold done status old new failed seen =
     ((status ≡ done) × IsTold old new failed (seen_lines 0 seen))
-    ⊎ ((status ≡ Status.Failed) × (seen ≢ []) × IsToldInPart old new failed seen)
+    ⊎ ((status ≡ Status.Failed) × IsToldInPart old new failed seen)
 
 -- the line of a fault and the lines behind it; if memory is short for that, the line of running out of memory
 abbrev pub IsFaultText : ServeFault → List ℕ → List ℕ → Type 0
