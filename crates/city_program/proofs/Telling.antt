@@ -94,9 +94,7 @@ module _ (terminal : Bool) (s : Streams) (told telling : Option (List ℕ)) (mut
           seen = seen;
           withheld = withheld;
           answered = answered;
-          viewer = failed.1.0;
-          within = failed.1.1;
-          seen_told = failed.1.2;
+          seen_told = failed.1;
         }))
 
     pub ends_told : (ending status : Status) (seen : List (Vec ℕ)) → IsAnsweredAs s asked seen ending

@@ -115,7 +115,7 @@ IsTold old new failed text = failed ≡ false → Appends old new text
 abbrev pub memory_line : List ℕ
 memory_line = codes "cityed: out of memory\n"
 
--- a refused command line is told by its text, and running out of memory for one is a fault
+-- a refused command line is told by its text, and running out of memory for one by the line of that
 abbrev pub IsLineTold : Status → LineFault → Option (List ℕ) → Option (List ℕ) → Bool → Type 0
 IsLineTold Status.Refused (LineFault.Refused text) old new failed = IsTold old new failed (string_bytes text)
 IsLineTold Status.Failed LineFault.OutOfMemory old new failed = IsTold old new failed memory_line
@@ -125,6 +125,12 @@ IsLineTold _ _ old new failed = ⊥
 abbrev pub seen_lines : ℕ → List (Vec ℕ) → List ℕ
 seen_lines viewer [] = []
 seen_lines viewer (seen ∷ rest) = (seen_text viewer seen.items ++ 10 ∷ []) ++ seen_lines (viewer + 1) rest
+
+-- memory is short for the line of a viewer: it has got the lines of those before it, and the line of running out of
+-- memory
+abbrev pub IsToldInPart : Option (List ℕ) → Option (List ℕ) → Bool → List (Vec ℕ) → Type 0
+IsToldInPart old new failed seen =
+    (viewer : ℕ) × (viewer < length seen) × IsTold old new failed (seen_lines 0 (take viewer seen) ++ memory_line)
 
 -- a fault is explained on a terminal, and on request
 abbrev pub is_explained : Bool → Asked → Bool
@@ -149,15 +155,13 @@ pub record IsDone (asked : Asked) (withheld : Bool) (s : Streams) (told telling 
   pub answered : IsAnswered s asked seen withheld
   pub seen_told : IsTold told telling mute (seen_lines 0 seen)
 
--- the request is done, but memory was short for telling what a viewer saw: standard error has got the lines of those
--- before it, and the line of running out of memory
-pub record IsCutShort (asked : Asked) (s : Streams) (told telling : Option (List ℕ)) (mute : Bool) : Type 0 where
+-- the request is done, and standard error has got what some viewers saw, and that memory ran out for the next
+pub record IsDoneToldInPart (asked : Asked) (s : Streams) (told telling : Option (List ℕ)) (mute : Bool)
+    : Type 0 where
   pub seen : List (Vec ℕ)
   pub withheld : Bool
   pub answered : IsAnswered s asked seen withheld
-  pub viewer : ℕ
-  pub within : viewer < length seen
-  pub seen_told : IsTold told telling mute (seen_lines 0 (take viewer seen) ++ memory_line)
+  pub seen_told : IsToldInPart told telling mute seen
 
 -- a check found faults, and output has got them; standard error has got nothing
 abbrev pub IsFoundFaulty : Asked → Streams → Option (List ℕ) → Option (List ℕ) → Bool → Type 0
@@ -181,7 +185,7 @@ EndsAsked terminal asked Status.Done s told telling mute = IsDone asked false s 
 EndsAsked terminal asked Status.Withheld s told telling mute = IsDone asked true s told telling mute
 EndsAsked terminal asked Status.Faulty s told telling mute = IsFoundFaulty asked s told telling mute
 EndsAsked terminal asked Status.Failed s told telling mute =
-    IsFaulty terminal asked s told telling mute ⊎ IsCutShort asked s told telling mute
+    IsFaulty terminal asked s told telling mute ⊎ IsDoneToldInPart asked s told telling mute
 EndsAsked terminal asked Status.Refused s told telling mute = ⊥
 
 -- the words make this request, and the status is the request's

@@ -1,21 +1,15 @@
 -- The texts on standard error, step by step.
-use Rattle.std.specs.Prelude.{◌≡◌, ◌<◌, ◌⊎◌, ℕ, Bool, true, false, List, [], ◌∷◌, ◌++◌, length, take, Option}
+use Rattle.std.specs.Prelude.{◌≡◌, ◌⊎◌, ℕ, Bool, true, false, List, [], ◌∷◌, ◌++◌, Option}
 use Rattle.std.specs.Global.{Vec}
 use Rattle.city_options.specs.declared.command_line.Asked.{Asked}
 use Rattle.city_serve.specs.declared.fault.ServeFault.{ServeFault}
 use Rattle.city_program.specs.declared.status.Status.{Status}
 use Rattle.city_serve.specs.FaultTexts.{fault_text}
-use Rattle.city_program.specs.Programs.{Streams, IsAnswered, IsChecked, IsTold, seen_lines}
-use Rattle.city_program.specs.Programs.{memory_line}
+use Rattle.city_program.specs.Programs.{Streams, IsAnswered, IsChecked, IsTold, IsToldInPart, memory_line, seen_lines}
 
 -- if standard error hasn't failed, it hadn't before, and has got this text and no other bytes
 abbrev pub IsToldAfter : Bool → Option (List ℕ) → Option (List ℕ) → Bool → List ℕ → Type 0
 IsToldAfter failed_before old new failed text = IsTold old new failed text × (failed ≡ false → failed_before ≡ false)
-
--- the lines of the viewers before one of them, and the line of running out of memory
-abbrev pub IsToldInPart : Option (List ℕ) → Option (List ℕ) → Bool → List (Vec ℕ) → Type 0
-IsToldInPart old new failed seen =
-    (viewer : ℕ) × (viewer < length seen) × IsTold old new failed (seen_lines 0 (take viewer seen) ++ memory_line)
 
 -- if all viewers were told of, it has got their lines, and the status is the request's. If not, memory was short
 abbrev pub IsSeenTold : Status → Status → Option (List ℕ) → Option (List ℕ) → Bool → List (Vec ℕ) → Type 0
