@@ -5,7 +5,7 @@ use Rattle.city_options.proofs.LineWalk.{End, at_end, cityed_rules, excess, mode
 use Rattle.city_options.specs.CommandLines.{AnswersCheck, AnswersCheckedNames, AnswersNames, AnswersOptions, AnswersRun}
 use Rattle.city_options.specs.CommandLines.{AsksForText, Atomic, Check, Decimals, Explain, Flag, IsLineOf, IsName}
 use Rattle.city_options.specs.CommandLines.{IsUnknownOption, IsWantOfMemory, Line, MeetsUnknownOption, Output, Valued}
-use Rattle.city_options.specs.CommandLines.{Watch, Workers, empty_line, ends, flag_name, gives_name, value_name}
+use Rattle.city_options.specs.CommandLines.{Wait, Watch, Workers, empty_line, ends, flag_name, gives_name, value_name}
 use Rattle.city_options.specs.RunOptions.{plain_destination, plain_options}
 use Rattle.city_options.specs.declared.command_line.Asked.{Asked}
 use Rattle.city_options.specs.declared.command_line.LineFault.{LineFault}
@@ -71,7 +71,7 @@ line_refused {line} r is wrong short =
     names_refused line.names options to r wrong (λ fits. short (line_fault is ∙ fits)) in
     elim (line.has Check) as (λ check. MatchBool check (AnswersCheck line r) (AnswersRun line r)) [
       | true ↦ (λ options of none. (names options plain_destination).1, λ run. wrong)
-      | false ↦ (λ options to of there. (names options to).0, λ none. wrong)
+      | false ↦ (λ options to of there. (names options to).0, λ none. wrong, λ none. wrong)
     ]
 
 pub wanting : (r : Answer) → IsErrAnd r (λ f. f ≡ LineFault.OutOfMemory) → IsWantOfMemory r
@@ -88,7 +88,8 @@ names_line (n ∷ names) named =
 pub names_answered : (names : List Text) (r : Answer) → ((line : Line) → IsLineOf line names → AnswersOptions line r)
     → All IsName names → AnswersNames plain_options plain_destination names r
 names_answered names r answered named =
-    (answered _ (names_line names named)).0 plain_options plain_destination (refl, refl, refl, refl) (refl, refl)
+    (answered _ (names_line names named)).0 plain_options plain_destination (refl, refl, refl, refl)
+    ((refl, refl, refl), λ none. refl)
 
 -- an option that is unknown
 module _ (option : Text) (unknown : IsUnknownOption option) where
@@ -100,7 +101,7 @@ module _ (option : Text) (unknown : IsUnknownOption option) where
       let o = λ (o : Valued). is_no (value_name o) (unknown.no_value o) in
       let f = λ (f : Flag). is_no (flag_name f) (unknown.no_flag f) in
       rw (is_no _ unknown.no_help, is_no _ unknown.no_version, f Decimals, f Atomic, f Explain, f Check)
-      (rw (o Workers, o Watch, o Output) refl)
+      (rw (o Workers, o Watch, o Output, o Wait) refl)
 
   no_dashes : bytes_eq option (45 ∷ 45 ∷ []) ≡ false
   no_dashes = grind (arith, bytes_eq-Decides, unknown.long)

@@ -2,7 +2,7 @@
 use Rattle.city_options.proofs.LineWalk.{AreDistinct, Goes, Place, at_end, behind, cityed_rules, excess, line_goes}
 use Rattle.city_options.proofs.LineWalk.{model_next, none_next, put_last, row_of, rows_in, run, scripts_next, top}
 use Rattle.city_options.specs.CommandLines.{Atomic, Check, Decimals, Explain, Flag, IsLineOf, Line, Output, Valued}
-use Rattle.city_options.specs.CommandLines.{Watch, Workers, ends, flag_name, gives_flag, gives_name, gives_output}
+use Rattle.city_options.specs.CommandLines.{Wait, Watch, Workers, ends, flag_name, gives_flag, gives_name, gives_output}
 use Rattle.city_options.specs.CommandLines.{gives_value, value_name, with_flag, with_name, with_value}
 use Rattle.city_options.specs.internal.CommandShape.{cityed_command}
 use Rattle.city_options.specs.internal.GivenLine.{flag_text}
@@ -94,6 +94,7 @@ slots : (s : Slot) → (kind_of (id s) ≡ kind s) × (with_defaults (id s) city
 slots (value Workers) = (refl, refl)
 slots (value Watch) = (refl, refl)
 slots (value Output) = (refl, refl)
+slots (value Wait) = (refl, refl)
 slots (flag Decimals) = (refl, refl)
 slots (flag Atomic) = (refl, refl)
 slots (flag Check) = (refl, refl)

@@ -12,7 +12,7 @@ use Rattle.city_options.specs.declared.command_line.Asked.{Asked}
 use Rattle.city_options.specs.declared.command_line.LineFault.{LineFault}
 use Rattle.city_options.specs.declared.options.Destination.{Destination}
 use Rattle.city_options.specs.declared.options.Options.{Options}
-use Rattle.city_options.specs.RunOptions.{AreWithin, file_of}
+use Rattle.city_options.specs.RunOptions.{AreWithin, file_of, max_wait}
 
 -- the word is no option: it doesn't begin with a hyphen
 abbrev pub IsName : List ℕ → Type 0
@@ -30,9 +30,15 @@ AreOptionsOf workers watch decimals explain options =
     IsCount 1 max_workers workers options.workers × IsCount 0 max_viewers watch options.viewers
     × (options.decimals ≡ decimals) × (options.explain ≡ explain)
 
--- the destination by the text of --output, and by whether --atomic is given
-abbrev pub IsDestinationOf : Option (List ℕ) → Bool → Destination → Type 0
-IsDestinationOf output atomic destination = (file_of destination ≡ output) × (destination.atomic ≡ atomic)
+-- the seconds by the text of --wait: without a text 0
+abbrev pub IsWait : Option (List ℕ) → ℕ → Type 0
+IsWait None n = n ≡ 0
+IsWait (Some text) n = IsCount 1 max_wait (Some text) n
+
+-- the destination by the texts of --output and --wait, and by whether --atomic is given
+abbrev pub IsDestinationOf : Option (List ℕ) → Option (List ℕ) → Bool → Destination → Type 0
+IsDestinationOf output wait atomic destination =
+    (file_of destination ≡ output) × (destination.atomic ≡ atomic) × IsWait wait destination.wait
 
 -- a text is asked for, a run with such options, or a check with one worker and no viewer
 abbrev pub HasOptions : Asked → Type 0
@@ -41,9 +47,9 @@ HasOptions (Asked.Files options destination model scripts) = AreWithin options
 HasOptions (Asked.Check options model scripts) = (options.workers ≡ 1) × (options.viewers ≡ 0)
 HasOptions (Asked.Text text) = ⊤
 
--- the same destination: a file of the same path, or none
+-- the same destination: a file of the same path, waited for as long, or none
 abbrev pub IsSameDestination : Destination → Destination → Type 0
-IsSameDestination a b = (file_of a ≡ file_of b) × (a.atomic ≡ b.atomic)
+IsSameDestination a b = (file_of a ≡ file_of b) × (a.atomic ≡ b.atomic) × (a.wait ≡ b.wait)
 
 -- standard input is asked for, with these options, and output to there
 abbrev pub IsAskedInput : Options → Destination → Asked → Type 0
@@ -99,6 +105,7 @@ pub data Valued : Type 0 where
   Workers : Valued
   Watch : Valued
   Output : Valued
+  Wait : Valued
 
 pub data Flag : Type 0 where
   Decimals : Flag
@@ -111,6 +118,7 @@ abbrev pub value_name : Valued → List ℕ
 value_name Workers = codes "workers"
 value_name Watch = codes "watch"
 value_name Output = codes "output"
+value_name Wait = codes "wait"
 
 abbrev pub flag_name : Flag → List ℕ
 flag_name Decimals = codes "decimals"
@@ -178,13 +186,20 @@ pub data IsLineOf : Line → List (List ℕ) → Type 0 where
 abbrev pub AreLineOptions : Line → Options → Type 0
 AreLineOptions line = AreOptionsOf (line.value Workers) (line.value Watch) (line.has Decimals) (line.has Explain)
 
--- a run is asked for: the names are answered with the options and the destination of the line; if its texts give no
--- options, it is refused
+-- the destination of the line: no wait without a file
+abbrev pub IsLineDestination : Line → Destination → Type 0
+IsLineDestination line destination =
+    IsDestinationOf (line.value Output) (line.value Wait) (line.has Atomic) destination
+    × (line.value Output ≡ None → line.value Wait ≡ None)
+
+-- a run is asked for: the names are answered with the options and the destination of the line; if it gives no options
+-- or no destination, it is refused
 abbrev pub AnswersRun : Line → Result Asked LineFault → Type 0
 AnswersRun line r =
     ((options : Options) (destination : Destination) → AreLineOptions line options
-    → IsDestinationOf (line.value Output) (line.has Atomic) destination → AnswersNames options destination line.names r)
+    → IsLineDestination line destination → AnswersNames options destination line.names r)
     × (((options : Options) → ¬ AreLineOptions line options) → IsErr r)
+    × (((destination : Destination) → ¬ IsLineDestination line destination) → IsErr r)
 
 -- the line has an option for runs only
 abbrev pub HasRunOption : Line → Type 0

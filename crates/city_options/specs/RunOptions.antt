@@ -17,6 +17,10 @@ plain_options = record { workers = 1; viewers = 0; decimals = false; explain = f
 abbrev pub file_of : Destination → Option (List ℕ)
 file_of destination = option_map (λ s. s.now) destination.file
 
+-- the most seconds that a run waits for its output file
+abbrev pub max_wait : ℕ
+max_wait = 86400
+
 -- the destination of a command line without options
 abbrev pub plain_destination : Destination
-plain_destination = record { file = None; atomic = false }
+plain_destination = record { file = None; atomic = false; wait = 0 }

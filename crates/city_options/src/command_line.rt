@@ -26,6 +26,8 @@ pub(crate) const WATCH: &str = "watch";
 
 pub(crate) const OUTPUT: &str = "output";
 
+pub(crate) const WAIT: &str = "wait";
+
 pub(crate) const ATOMIC: &str = "atomic";
 
 pub(crate) const CHECK: &str = "check";
@@ -33,7 +35,8 @@ pub(crate) const CHECK: &str = "check";
 pub(crate) const EXPLAIN: &str = "explain";
 
 const USAGE: &str = "\
-cityed [--decimals] [--workers N] [--watch K] [--output FILE] [--atomic] [--explain] [MODEL SCRIPTS]
+cityed [--decimals] [--workers N] [--watch K] [--output FILE [--wait SECONDS]] [--atomic] [--explain]
+              [MODEL SCRIPTS]
        cityed --check [--decimals] [--explain] MODEL [SCRIPTS]";
 
 const ABOUT: &str =
@@ -70,8 +73,8 @@ end in any order. With --watch, after success, standard error gets a line for ea
 
 Status:
   0  done, or help was asked for
-  1  the input was refused, memory ran out, or reading or writing failed: see standard error.
-     With --check, faults were found: see standard output
+  1  the input was refused, memory ran out, reading or writing failed, or FILE is in use or was
+     changed: see standard error. With --check, faults were found: see standard output
   2  the command line isn't understood: standard error says what is wrong
   3  with --atomic: a script was refused or ran out of memory, and no model is written
 Without --atomic a script that is refused ends as \"refused\" in its line, and the status is 0.";
@@ -112,9 +115,10 @@ impl From<OutOfMemory> for LineFault {
 ///
 /// An answer other than a text has 1 to `MAX_WORKERS` workers, 1 without `--workers`, and 0 to `MAX_VIEWERS` viewers, 0
 /// without `--watch`. It takes numbers of any form with `--decimals`, and explains a fault with `--explain`. Its
-/// destination has the FILE of `--output` or `-o`, if there is one, and is atomic with `--atomic`. With `--check` it is
-/// a check, of a MODEL and maybe of SCRIPTS. The options stand in any order, and names before, between and after them.
-/// Refused: a number outside these ranges, a MODEL without SCRIPTS, a third name, and an option if it is unknown, comes
+/// destination has the FILE of `--output` or `-o`, if there is one, is waited for as many seconds as `--wait` says, 1 to
+/// `MAX_WAIT`, 0 without it, and is atomic with `--atomic`. With `--check` it is a check, of a MODEL and maybe of
+/// SCRIPTS. The options stand in any order, and names before, between and after them. Refused: a number outside these
+/// ranges, `--wait` without `--output`, a MODEL without SCRIPTS, a third name, and an option if it is unknown, comes
 /// twice or has no value; with `--check` a line without a MODEL, and an option for runs only.
 pub fn asked_by<'a>(alloc: Global, words: &'a [String]) -> Result<Asked<'a>, LineFault>
     ensures names { All IsName (drop 1 (map string_bytes words.now))
@@ -148,9 +152,11 @@ fn command<'a>(alloc: Global) -> Result<Command<'a>, OutOfMemory>
 fn output_command<'a>(alloc: Global) -> Result<Command<'a>, OutOfMemory>
     ensures { IfOk result (λ c. app_of c ≡ output_command) }
 {
+    let wait = "How long to wait where another run holds FILE, 1 to 86400 [default: not at all]";
     let atomic = "Write no model where a script is refused or out of memory, and end with status 3";
     run_command(alloc)?
         .arg(output_option(alloc))?
+        .arg(value_option(alloc, WAIT, "SECONDS", wait))?
         .arg(flag(alloc, ATOMIC, atomic))
 }
 

@@ -3,15 +3,17 @@ ghost use Rattle.std.specs.Prelude.{◌≤◌, ℕ, IfOk, MatchOption, MatchResu
 ghost use Rattle.clap.specs.Words.{found_of};
 ghost use Rattle.city_options.specs.RunOptions.{AreWithin};
 ghost use Rattle.city_options.specs.CommandLines.{AnswersCheck, AnswersNames, AnswersOptions, AnswersRun};
-ghost use Rattle.city_options.specs.CommandLines.{AreLineOptions, HasOptions, HasRunOption, IsCount, IsDestinationOf};
+ghost use Rattle.city_options.specs.CommandLines.{AreLineOptions, HasOptions, HasRunOption, IsCount};
+ghost use Rattle.city_options.specs.CommandLines.{IsLineDestination, IsSameDestination, IsWait};
 ghost use Rattle.city_options.specs.declared.options.Destination.{Destination};
 ghost use Rattle.city_options.specs.declared.options.Options.{Options};
 ghost use Rattle.city_options.specs.internal.GivenLine.{IsFound, line_of, names_of, text_of};
 
 use crate::command_line::{
-    ATOMIC, Asked, CHECK, DECIMALS, EXPLAIN, LineFault, MODEL, OUTPUT, SCRIPTS, WATCH, WORKERS,
+    ATOMIC, Asked, CHECK, DECIMALS, EXPLAIN, LineFault, MODEL, OUTPUT, SCRIPTS, WAIT, WATCH,
+    WORKERS,
 };
-use crate::options::{Destination, Options};
+use crate::options::{Destination, MAX_WAIT, Options};
 use city_board::MAX_VIEWERS;
 use city_model::OutOfMemory;
 use city_scheduler::MAX_WORKERS;
@@ -25,6 +27,7 @@ pub(crate) struct Given<'a> {
     pub workers: Option<&'a str>,
     pub watch: Option<&'a str>,
     pub output: Option<&'a str>,
+    pub wait: Option<&'a str>,
     pub decimals: bool,
     pub atomic: bool,
     pub check: bool,
@@ -41,6 +44,7 @@ pub(crate) fn given_in<'a>(matches: &ArgMatches<'a>) -> Given<'a>
         workers: matches.get_str(WORKERS),
         watch: matches.get_str(WATCH),
         output: matches.get_str(OUTPUT),
+        wait: matches.get_str(WAIT),
         decimals: matches.get_flag(DECIMALS),
         atomic: matches.get_flag(ATOMIC),
         check: matches.get_flag(CHECK),
@@ -101,6 +105,8 @@ fn of_run(given: &Given<'_>) -> Option<&'static str>
         Some("--check runs nothing, and takes no --watch")
     } else if given.output.is_some() {
         Some("--check writes no model, and takes no --output")
+    } else if given.wait.is_some() {
+        Some("--check writes no model, and takes no --wait")
     } else if given.atomic {
         Some("--check writes no model, and takes no --atomic")
     } else {
@@ -118,7 +124,8 @@ fn run_by<'a>(
     ensures within { IfOk result HasOptions }
 {
     let options = options_by(alloc, command, given)?;
-    by_names(alloc, command, options, given)
+    let destination = destination_by(alloc, command, given)?;
+    by_names(alloc, command, options, destination, given)
 }
 
 /// The options of a run. Refuses a text if it is no number, or outside its option's range.
@@ -150,6 +157,43 @@ fn options_by<'a>(
     })
 }
 
+/// The destination of a run. Refuses a text that is no number of seconds, or outside the range, and
+/// a wait without a file.
+fn destination_by<'a>(
+    alloc: Global,
+    command: &mut Command<'a>,
+    given: &Given<'a>,
+) -> Result<Destination<'a>, LineFault>
+    ensures { MatchResult result (IsLineDestination (line_of given.now))
+        (λ _. (to : Destination) → ¬ IsLineDestination (line_of given.now) to) }
+{
+    let kind = ErrorKind::ValueValidation;
+    let Some(wait) = seconds_by(given.wait) else {
+        let message = "--wait takes a number of seconds from 1 to 86400";
+        return Err(mistake(alloc, command, kind, message)?);
+    };
+    if given.wait.is_some() && given.output.is_none() {
+        let kind = ErrorKind::MissingRequiredArgument;
+        return Err(mistake(alloc, command, kind, "--wait takes an --output to wait for")?);
+    }
+    Ok(Destination {
+        file: given.output,
+        atomic: given.atomic,
+        wait,
+    })
+}
+
+/// The number of seconds in a text, 1 to `MAX_WAIT`; 0 without a text. `None` if the text writes no
+/// such number.
+fn seconds_by(given: Option<&str>) -> Option<usize>
+    ensures { MatchOption result ((n : ℕ) → ¬ IsWait (text_of given.entry) n) (IsWait (text_of given.entry)) }
+{
+    match given {
+        None => Some(0),
+        Some(_) => count_by(given, 1, MAX_WAIT),
+    }
+}
+
 /// The number in an option's text, from `least` to `most`; `least` without a text. `None` if the
 /// text writes no such number.
 fn count_by(given: Option<&str>, least: usize, most: usize) -> Option<usize>
@@ -171,16 +215,13 @@ fn by_names<'a>(
     alloc: Global,
     command: &mut Command<'a>,
     options: Options,
+    destination: Destination<'a>,
     given: &Given<'a>,
 ) -> Result<Asked<'a>, LineFault>
-    ensures names { (to : Destination) → IsDestinationOf (text_of given.now.output) given.now.atomic to
+    ensures names { (to : Destination) → IsSameDestination destination.entry to
         → AnswersNames options to (names_of (text_of given.now.model) (text_of given.now.scripts)) result }
     ensures within { AreWithin options → IfOk result HasOptions }
 {
-    let destination = Destination {
-        file: given.output,
-        atomic: given.atomic,
-    };
     match (given.model, given.scripts) {
         (Some(model), Some(scripts)) => Ok(Asked::Files(options, destination, model, scripts)),
         (None, _) => Ok(Asked::Input(options, destination)),

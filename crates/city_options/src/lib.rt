@@ -9,4 +9,4 @@ pub mod command_line;
 mod given;
 mod options;
 
-pub use options::{Destination, Options};
+pub use options::{Destination, MAX_WAIT, Options};

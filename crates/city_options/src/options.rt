@@ -13,6 +13,9 @@ pub struct Options {
     pub explain: bool,
 }
 
+/// The most seconds that a run waits for its output file: a day.
+pub const MAX_WAIT: usize = 86_400;
+
 /// Where the output of a run goes, and whether all of it does.
 #[derive(Clone, Copy)]
 pub struct Destination<'a> {
@@ -20,4 +23,6 @@ pub struct Destination<'a> {
     pub file: Option<&'a str>,
     /// Whether the model goes there only if no script ended refused or out of memory.
     pub atomic: bool,
+    /// For how many seconds to wait for the file, if another run holds it. From 0 to `MAX_WAIT`.
+    pub wait: usize,
 }

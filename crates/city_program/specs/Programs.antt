@@ -1,6 +1,6 @@
 -- The program's answer to the words of its command line.
 use Rattle.std.specs.Prelude.{◌≡◌, ◌⊎◌, ◌+◌, ⊤, ℕ, Bool, true, false, List, [], ◌∷◌, ◌++◌, codes, string_bytes, All}
-use Rattle.std.specs.Prelude.{◌||◌, Option, IfSome, Result, Ok, Err, IsErr, IfOk, option_map}
+use Rattle.std.specs.Prelude.{◌||◌, Option, Some, None, IfSome, IsSome, Result, Ok, Err, IsErr, IfOk, option_map}
 use Rattle.std.specs.Prelude.{◌<◌, length, take}
 use Rattle.std.specs.Global.{Vec}
 use Rattle.std.specs.Io.KnownBytes.{Keeps, Appends}
@@ -11,8 +11,9 @@ use Rattle.city_program.specs.declared.status.Status.{Status}
 use Rattle.city_program.specs.Checks.{AreCheckLines, HasLines, OfFiles}
 use Rattle.city_options.specs.CommandLines.{IsName, Line, IsLineOf, AnswersNames, AnswersOptions, AsksForText}
 use Rattle.city_options.specs.CommandLines.{HasOptions, IsShown, MeetsUnknownOption}
-use Rattle.city_serve.specs.Destinations.{Folder, IsDelivered, IsDeliveryFault}
-use Rattle.city_options.specs.RunOptions.{plain_options, plain_destination}
+use Rattle.city_serve.specs.Destinations.{Folder, IsDelivered, IsDeliveryFault, IsLockFault}
+use Rattle.city_serve.specs.Steps.{Step, Takes, delivering, under_lock}
+use Rattle.city_options.specs.RunOptions.{file_of, plain_options, plain_destination}
 use Rattle.city_serve.specs.FaultTexts.{fault_text}
 use Rattle.city_program.specs.SeenTexts.{seen_text}
 use Rattle.city_serve.specs.Served.{read_of, document_part, scripts_part, IsDeviceFault}
@@ -29,8 +30,11 @@ status_code Status.Withheld = 3
 pub record Streams : Type 0 where
   pub before : Folder
   pub after : Folder
-  -- whether a file couldn't be replaced
+  -- whether a file couldn't be locked or replaced
   pub files_failed : Bool
+  -- the steps taken on files, before and after, if known
+  pub begun : Option (List Step)
+  pub ended : Option (List Step)
   -- the bytes of standard input, if known, and whether it failed
   pub input : Option (List ℕ)
   pub reader_failed : Bool
@@ -48,6 +52,39 @@ pub record AsksFor (arguments : List (List ℕ)) (asked : Result Asked LineFault
   pub unknown : MeetsUnknownOption arguments → IsErr asked
   pub options : (line : Line) → IsLineOf line arguments → AnswersOptions line asked
   pub within : IfOk asked HasOptions
+
+-- ---- files and steps
+
+-- the output file of a request, which is locked for it
+abbrev pub output_of : Asked → Option (List ℕ)
+output_of (Asked.Input options destination) = file_of destination
+output_of (Asked.Files options destination model scripts) = file_of destination
+output_of _ = None
+
+-- the output file is named as the scripts' file is
+abbrev pub NamesScripts : Asked → Type 0
+NamesScripts (Asked.Files options destination model scripts) = file_of destination ≡ Some scripts.now
+NamesScripts _ = ⊥
+
+-- there are an output file and a file of scripts
+abbrev pub HasOutputAndScripts : Asked → Type 0
+HasOutputAndScripts (Asked.Files options destination model scripts) = IsSome (file_of destination)
+HasOutputAndScripts _ = ⊥
+
+-- the files that are read for a request, in their order
+abbrev pub reading : Asked → List Step
+reading (Asked.Files options destination model scripts) = Step.Read model.now ∷ Step.Read scripts.now ∷ []
+reading (Asked.Check options model None) = Step.Read model.now ∷ []
+reading (Asked.Check options model (Some scripts)) = Step.Read model.now ∷ Step.Read scripts.now ∷ []
+reading _ = []
+
+-- the steps of a request that is done, once its output file is locked
+abbrev pub steps_inside : Asked → Bool → List Step
+steps_inside asked withheld = reading asked ++ delivering (output_of asked) withheld
+
+-- these steps were taken, the output file being locked before them and unlocked behind them
+abbrev pub TakesLocked : Asked → Streams → List Step → Type 0
+TakesLocked asked s steps = Takes s.begun s.ended (under_lock (output_of asked) steps)
 
 -- ---- how it is answered
 
@@ -86,24 +123,48 @@ IsAnswered s (Asked.Check options model scripts) seen withheld =
 IsAnswered s (Asked.Text text) seen withheld =
     (seen ≡ []) × (withheld ≡ false) × (s.after ≡ s.before) × Appends s.old s.new (string_bytes text)
 
--- the texts couldn't be read: nothing is written
-abbrev pub IsUnread : Streams → Bool → ServeFault → Type 0
-IsUnread s reader_failed f = IsDeviceFault reader_failed f × Keeps s.old s.new × (s.after ≡ s.before)
+-- some of the steps, from the first on
+abbrev pub AreFirstOf : List Step → List Step → Type 0
+AreFirstOf all steps = (n : ℕ) × (steps ≡ take n all)
 
--- why it isn't done, and the bytes written then: none, if the reader, a file or the run is at fault
-abbrev pub IsUnanswered : Streams → Asked → ServeFault → Type 0
-IsUnanswered s (Asked.Input options destination) f =
-    IsUnread s s.reader_failed f ⊎ OfTexts s (Asked.Input options destination) (λ document scripts.
-    IsDeliveryFault destination options document scripts s.before s.after s.files_failed s.old s.new s.failed f)
-IsUnanswered s (Asked.Files options destination model scripts) f =
-    IsUnread s true f ⊎ OfTexts s (Asked.Files options destination model scripts) (λ document commands.
-    IsDeliveryFault destination options document commands s.before s.after s.files_failed s.old s.new s.failed f)
-IsUnanswered s (Asked.Check options model scripts) f =
-    IsUnread s true f
-    ⊎ ((f ≡ ServeFault.Write) × (s.failed ≡ true) × (s.after ≡ s.before)
+-- the texts couldn't be read, or memory ran out for the lines of a check: nothing is written
+abbrev pub IsUnread : Streams → Asked → Bool → ServeFault → List Step → Type 0
+IsUnread s asked reader_failed f steps =
+    IsDeviceFault reader_failed f × Keeps s.old s.new × (s.after ≡ s.before) × AreFirstOf (reading asked) steps
+
+-- output has got a part of its bytes, and all files are as they were
+abbrev pub IsOutputCut : Streams → ServeFault → Type 0
+IsOutputCut s f = (f ≡ ServeFault.Write) × (s.failed ≡ true) × (s.after ≡ s.before)
+
+-- why it isn't done once its output file is locked, the bytes written then (none, if the reader, a file or the run is
+-- at fault), and the steps taken
+abbrev pub IsUnansweredBy : Streams → Asked → ServeFault → List Step → Type 0
+IsUnansweredBy s (Asked.Input options destination) f steps =
+    IsUnread s (Asked.Input options destination) s.reader_failed f steps
+    ⊎ OfTexts s (Asked.Input options destination) (λ document scripts.
+    IsDeliveryFault destination options document scripts s.before s.after s.files_failed s.old s.new s.failed steps f)
+IsUnansweredBy s (Asked.Files options destination model scripts) f steps =
+    IsUnread s (Asked.Files options destination model scripts) true f steps
+    ⊎ ((taken : List Step) × (steps ≡ Step.Read model.now ∷ Step.Read scripts.now ∷ taken)
+    × OfTexts s (Asked.Files options destination model scripts) (λ document commands.
+    IsDeliveryFault destination options document commands s.before s.after s.files_failed s.old s.new s.failed taken f))
+IsUnansweredBy s (Asked.Check options model scripts) f steps =
+    IsUnread s (Asked.Check options model scripts) true f steps
+    ⊎ (IsOutputCut s f × (steps ≡ reading (Asked.Check options model scripts))
     × OfLines s (Asked.Check options model scripts) (AppendsSome s.old s.new))
-IsUnanswered s (Asked.Text text) f =
-    (f ≡ ServeFault.Write) × (s.failed ≡ true) × (s.after ≡ s.before) × AppendsSome s.old s.new (string_bytes text)
+IsUnansweredBy s (Asked.Text text) f steps =
+    IsOutputCut s f × (steps ≡ []) × AppendsSome s.old s.new (string_bytes text)
+
+-- the output file couldn't be locked: nothing is read, and nothing written
+abbrev pub IsNotLocked : Streams → Asked → ServeFault → Type 0
+IsNotLocked s asked f =
+    IsSome (output_of asked) × IsLockFault s.files_failed f × Keeps s.old s.new × (s.after ≡ s.before)
+    × Takes s.begun s.ended []
+
+-- why it isn't done
+abbrev pub IsUnanswered : Streams → Asked → ServeFault → Type 0
+IsUnanswered s asked f =
+    IsNotLocked s asked f ⊎ ((steps : List Step) × IsUnansweredBy s asked f steps × TakesLocked asked s steps)
 
 -- ---- the texts on standard error
 
@@ -153,6 +214,7 @@ pub record IsDone (asked : Asked) (withheld : Bool) (s : Streams) (told telling 
     : Type 0 where
   pub seen : List (Vec ℕ)
   pub answered : IsAnswered s asked seen withheld
+  pub steps : TakesLocked asked s (steps_inside asked withheld)
   pub seen_told : IsTold told telling mute (seen_lines 0 seen)
 
 -- the request is done, and standard error has got what some viewers saw, and that memory ran out for the next
@@ -161,12 +223,14 @@ pub record IsDoneToldInPart (asked : Asked) (s : Streams) (told telling : Option
   pub seen : List (Vec ℕ)
   pub withheld : Bool
   pub answered : IsAnswered s asked seen withheld
+  pub steps : TakesLocked asked s (steps_inside asked withheld)
   pub seen_told : IsToldInPart told telling mute seen
 
 -- a check found faults, and output has got them; standard error has got nothing
 abbrev pub IsFoundFaulty : Asked → Streams → Option (List ℕ) → Option (List ℕ) → Bool → Type 0
 IsFoundFaulty (Asked.Check options model scripts) s told telling mute =
     IsChecked s (Asked.Check options model scripts) true × IsTold told telling mute []
+    × Takes s.begun s.ended (reading (Asked.Check options model scripts))
 IsFoundFaulty _ s told telling mute = ⊥
 
 -- it isn't done, and standard error has got why
@@ -178,6 +242,18 @@ pub record IsFaulty (terminal : Bool) (asked : Asked) (s : Streams) (told tellin
   pub line_is : IsToldFault (is_explained terminal asked) fault line
   pub why : IsTold told telling mute line
 
+-- the line that refuses an output file that is the scripts' file
+abbrev pub scripts_named_line : List ℕ
+scripts_named_line = codes "error: --output names SCRIPTS\n\nFor more information, try '--help'.\n"
+
+-- the output file is the scripts' file: nothing is read, nothing written, and standard error has got why
+pub record IsScriptsNamed (asked : Asked) (s : Streams) (told telling : Option (List ℕ)) (mute : Bool) : Type 0 where
+  pub has : HasOutputAndScripts asked
+  pub kept : Keeps s.old s.new
+  pub same : s.after ≡ s.before
+  pub steps : Takes s.begun s.ended []
+  pub line : IsTold told telling mute scripts_named_line
+
 -- the promises at each status once it is known what is asked for, and whether standard error is a terminal: a fault is
 -- the answer's, or of memory for telling what viewers saw, after a complete answer
 abbrev pub EndsAsked : Bool → Asked → Status → Streams → Option (List ℕ) → Option (List ℕ) → Bool → Type 0
@@ -186,13 +262,15 @@ EndsAsked terminal asked Status.Withheld s told telling mute = IsDone asked true
 EndsAsked terminal asked Status.Faulty s told telling mute = IsFoundFaulty asked s told telling mute
 EndsAsked terminal asked Status.Failed s told telling mute =
     IsFaulty terminal asked s told telling mute ⊎ IsDoneToldInPart asked s told telling mute
-EndsAsked terminal asked Status.Refused s told telling mute = ⊥
+EndsAsked terminal asked Status.Refused s told telling mute = IsScriptsNamed asked s told telling mute
 
 -- the words make this request, and the status is the request's
 pub record EndsAnswered (terminal : Bool) (arguments : List (List ℕ)) (status : Status) (s : Streams)
     (told telling : Option (List ℕ)) (mute : Bool) : Type 0 where
   pub asked : Asked
   pub asks : AsksFor arguments (Ok asked)
+  -- an output file is not named as the scripts' file is, unless the line is refused for it
+  pub named : NamesScripts asked → status ≡ Status.Refused
   pub ended : EndsAsked terminal asked status s told telling mute
 
 -- the words ask for nothing, or memory was short for them: nothing is written, and standard error has got why
@@ -202,6 +280,7 @@ pub record EndsRefused (arguments : List (List ℕ)) (status : Status) (s : Stre
   pub asks : AsksFor arguments (Err fault)
   pub kept : Keeps s.old s.new
   pub same : s.after ≡ s.before
+  pub steps : Takes s.begun s.ended []
   pub line : IsLineTold status fault told telling mute
 
 -- the promises for the end of the program

@@ -22,7 +22,7 @@ use std::io::Write;
 /// are known, and each text is let go once its lines are.
 pub(crate) fn check<F: TextFiles, W: Write>(
     alloc: Global,
-    files: &F,
+    files: &mut F,
     texts: &mut Texts,
     decimals: bool,
     model: &str,
@@ -30,13 +30,13 @@ pub(crate) fn check<F: TextFiles, W: Write>(
     output: &mut Device<W>,
 ) -> Result<bool, ServeFault>
     ensures checked { IfOk result (λ faulty.
-        OfFiles (F.text files.now) model.now (option_map (λ s. s.now) scripts.entry)
+        OfFiles (F.text files.old) model.now (option_map (λ s. s.now) scripts.entry)
         (λ document commands. (lines : List ℕ) × AreCheckLines decimals document commands lines
         × (HasLines faulty lines × Appends (W.contents output.old.0) (W.contents output.new.0) lines))) }
     ensures fault { IfErr result (λ f.
         (IsDeviceFault true f × Keeps (W.contents output.old.0) (W.contents output.new.0))
         ⊎ ((f ≡ ServeFault.Write) × (output.new.1 ≡ true)
-        × OfFiles (F.text files.now) model.now (option_map (λ s. s.now) scripts.entry)
+        × OfFiles (F.text files.old) model.now (option_map (λ s. s.now) scripts.entry)
         (λ document commands. (lines : List ℕ) × AreCheckLines decimals document commands lines
         × AppendsSome (W.contents output.old.0) (W.contents output.new.0) lines))) }
 {
@@ -50,13 +50,13 @@ pub(crate) fn check<F: TextFiles, W: Write>(
 /// The lines of all faults of the model and the scripts.
 fn all_lines<F: TextFiles>(
     alloc: Global,
-    files: &F,
+    files: &mut F,
     texts: &mut Texts,
     decimals: bool,
     model: &str,
     scripts: Option<&str>,
 ) -> Result<Vec<u8>, ServeFault>
-    ensures lines { IfOk result (λ v. OfFiles (F.text files.now) model.now (option_map (λ s. s.now) scripts.entry)
+    ensures lines { IfOk result (λ v. OfFiles (F.text files.old) model.now (option_map (λ s. s.now) scripts.entry)
         (λ document commands. AreCheckLines decimals document commands v.items)) }
     ensures fault { IfErr result (IsDeviceFault true) }
 {

@@ -9,6 +9,12 @@ use city_serve::{Device, ServeFault, Text, TextFiles, Texts};
 use std::alloc::Global;
 use std::io;
 
+/// What a person is told of an output file that another run holds.
+const IN_USE: &str = "another run writes it; --wait SECONDS waits for that one";
+
+/// What a person is told of an output file that isn't what was read.
+const CHANGED: &str = "another program changed it since it was read; it is as that program left it";
+
 /// The explanation of a fault of a request: indented lines, each with its newline. Empty for a
 /// fault of neither a text nor a file.
 ///
@@ -27,6 +33,8 @@ pub(crate) fn explanation<F: TextFiles, R, W>(
         ServeFault::Write => unwritten(alloc, asked, files.why(), output.failure()),
         ServeFault::Run(RunFault::Read(fault)) => document(alloc, asked, &texts.document, fault),
         ServeFault::Run(RunFault::Script(fault)) => scripts(alloc, asked, &texts.scripts, fault),
+        ServeFault::InUse => told_of(alloc, asked, IN_USE),
+        ServeFault::Changed => told_of(alloc, asked, CHANGED),
         ServeFault::Run(_) => Ok(String::new(alloc)),
     }
 }
@@ -90,6 +98,16 @@ fn push_command(
     lines.push_str(" ")?;
     lines.push_str(scripts)?;
     lines.push_str("\n")
+}
+
+/// The lines for an output file: its name, and what is told of it.
+fn told_of(alloc: Global, asked: &Asked<'_>, told: &str) -> Result<String, OutOfMemory> {
+    let mut lines = String::new(alloc);
+    if let Some(path) = output_file(asked) {
+        push_line(&mut lines, "file", path)?;
+        push_line(&mut lines, "what", told)?;
+    }
+    Ok(lines)
 }
 
 /// The explanation of an unread text: which, and why. The model is read before the scripts.

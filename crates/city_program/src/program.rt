@@ -1,13 +1,16 @@
 //! Answers the words of a command line.
-ghost use Rattle.std.specs.Prelude.{◌≡◌, ◌++◌, ◌∷◌, [], ℕ, List, false, drop, map, string_bytes, IfOk, IfErr, OnOk};
+ghost use Rattle.std.specs.Prelude.{◌≡◌, ◌++◌, ◌∷◌, [], ℕ, List, true, false, drop, map, string_bytes, option_map, IfOk};
+ghost use Rattle.std.specs.Prelude.{IfErr, OnOk};
 ghost use Rattle.city_options.specs.CommandLines.{HasOptions};
 ghost use Rattle.city_serve.specs.FaultTexts.{fault_text};
 ghost use Rattle.city_program.specs.SeenTexts.{seen_text};
 ghost use Rattle.city_program.specs.declared.status.Status.{Status};
-ghost use Rattle.city_program.specs.Programs.{is_explained, IsUnanswered, IsLineTold, IsToldFault};
+ghost use Rattle.city_program.specs.Programs.{is_explained, IsUnanswered, IsUnansweredBy, IsLineTold, IsToldFault};
+ghost use Rattle.city_program.specs.Programs.{HasOutputAndScripts, NamesScripts, output_of, steps_inside};
 ghost use Rattle.city_program.specs.Programs.{Ends, EndsAsked, memory_line};
 ghost use Rattle.city_program.specs.internal.Telling.{run_status, check_status, IsAnsweredAs, IsFaultText, IsToldAfter};
-ghost use Rattle.city_program.specs.internal.Telling.{IsSeenTold};
+ghost use Rattle.city_program.specs.internal.Telling.{IsSeenTold, is_withheld_at};
+ghost use Rattle.city_serve.specs.Steps.{Step, Takes, under_lock};
 
 use crate::check::check;
 use crate::explain::explanation;
@@ -31,12 +34,17 @@ use std::thread::Threads;
 /// Told if memory runs out.
 const MEMORY_LINE: &str = "cityed: out of memory\n";
 
+/// Told if the output file is the scripts' file.
+const SCRIPTS_NAMED: &str =
+    "error: --output names SCRIPTS\n\nFor more information, try '--help'.\n";
+
 /// Answers the words of a command line, the program's name first.
 ///
 /// Output gets everything served, or the requested text; an output file is replaced whole, or stays
-/// as it was. Errors get a line for each viewer once the output is written, or why there is none. A
-/// failure to write errors changes no status. The memory of the final city isn't given back: the
-/// process is taken to end.
+/// as it was. It is locked before any text is read, and unlocked at the end; a line whose output
+/// file is the scripts' file is refused. Errors get a line for each viewer once the output is
+/// written, or why there is none. A failure to write errors changes no status. The memory of the
+/// final city isn't given back: the process is taken to end.
 pub fn run_program<
     T: Threads + Wait + Sync,
     G: Gate + Sync,
@@ -61,6 +69,8 @@ pub fn run_program<
           before = F.text files.old;
           after = F.text files.new;
           files_failed = F.have_failed files.new;
+          begun = F.steps files.old;
+          ended = F.steps files.new;
           input = R.remaining input.old.0;
           reader_failed = input.new.1;
           old = W.contents output.old.0;
@@ -91,11 +101,14 @@ fn run_asked<T: Threads + Wait + Sync, G: Gate + Sync, F: OutputFiles, R: Read, 
     terminal: bool,
 ) -> Status
     requires { HasOptions asked.now }
-    ensures { EndsAsked terminal asked.now result
+    ensures named { NamesScripts asked.now → result ≡ Status.Refused }
+    ensures ended { EndsAsked terminal asked.now result
         (record {
           before = F.text files.old;
           after = F.text files.new;
           files_failed = F.have_failed files.new;
+          begun = F.steps files.old;
+          ended = F.steps files.new;
           input = R.remaining input.old.0;
           reader_failed = input.new.1;
           old = W.contents output.old.0;
@@ -104,6 +117,10 @@ fn run_asked<T: Threads + Wait + Sync, G: Gate + Sync, F: OutputFiles, R: Read, 
         })
         (E.contents errors.old.0) (E.contents errors.new.0) errors.new.1 }
 {
+    if names_scripts(files, asked) {
+        tell(errors, SCRIPTS_NAMED);
+        return Status::Refused;
+    }
     let mut texts = Texts::unread(alloc);
     match answer(
         rt, alloc, gate, seed, files, &mut texts, asked, input, output,
@@ -112,6 +129,20 @@ fn run_asked<T: Threads + Wait + Sync, G: Gate + Sync, F: OutputFiles, R: Read, 
         Err(fault) => tell_unanswered(
             alloc, terminal, fault, asked, texts, files, input, output, errors,
         ),
+    }
+}
+
+/// Whether the output file of a run is the file of its scripts, by its name or behind it.
+fn names_scripts<F: OutputFiles>(files: &F, asked: &Asked<'_>) -> bool
+    ensures named { NamesScripts asked.now → result ≡ true }
+    ensures has { result ≡ true → HasOutputAndScripts asked.now }
+{
+    match asked {
+        Asked::Files(_, destination, _, scripts) => match destination.file {
+            Some(file) => files.are_same(file, *scripts),
+            None => false,
+        },
+        _ => false,
     }
 }
 
@@ -207,7 +238,21 @@ fn run_answer(delivered: Delivered, city: City) -> Answered
     }
 }
 
-/// Writes the answer to a request. MODEL is read to its end before SCRIPTS is opened.
+/// The output file of a run, and for how many seconds to wait for it.
+fn file_to_lock<'a>(asked: &Asked<'a>) -> Option<(&'a str, usize)>
+    ensures { option_map (λ to. to.0.now) result ≡ output_of asked.now }
+{
+    match asked {
+        Asked::Input(_, to) | Asked::Files(_, to, _, _) => match to.file {
+            Some(path) => Some((path, to.wait)),
+            None => None,
+        },
+        Asked::Check(_, _, _) | Asked::Text(_) => None,
+    }
+}
+
+/// Writes the answer to a request. The output file of a run is locked before any text is read, and
+/// unlocked at the end.
 fn answer<T: Threads + Wait + Sync, G: Gate + Sync, F: OutputFiles, R: Read, W: Write>(
     rt: &T,
     alloc: Global,
@@ -225,6 +270,8 @@ fn answer<T: Threads + Wait + Sync, G: Gate + Sync, F: OutputFiles, R: Read, W: 
           before = F.text files.old;
           after = F.text files.new;
           files_failed = F.have_failed files.new;
+          begun = F.steps files.old;
+          ended = F.steps files.new;
           input = R.remaining input.old.0;
           reader_failed = input.new.1;
           old = W.contents output.old.0;
@@ -232,11 +279,15 @@ fn answer<T: Threads + Wait + Sync, G: Gate + Sync, F: OutputFiles, R: Read, W: 
           failed = output.new.1;
         })
         asked.now a.seen.items a.status) }
+    ensures steps { IfOk result (λ a. Takes (F.steps files.old) (F.steps files.new)
+        (under_lock (output_of asked.now) (steps_inside asked.now (is_withheld_at a.status)))) }
     ensures fault { IfErr result (IsUnanswered
         (record {
           before = F.text files.old;
           after = F.text files.new;
           files_failed = F.have_failed files.new;
+          begun = F.steps files.old;
+          ended = F.steps files.new;
           input = R.remaining input.old.0;
           reader_failed = input.new.1;
           old = W.contents output.old.0;
@@ -244,6 +295,60 @@ fn answer<T: Threads + Wait + Sync, G: Gate + Sync, F: OutputFiles, R: Read, W: 
           failed = output.new.1;
         })
         asked.now) }
+{
+    let Some((path, wait)) = file_to_lock(asked) else {
+        return answer_inside(rt, alloc, gate, seed, files, texts, asked, input, output);
+    };
+    files.lock(path, wait)?;
+    let answered = answer_inside(rt, alloc, gate, seed, files, texts, asked, input, output);
+    files.unlock();
+    answered
+}
+
+/// Writes the answer to a request, whose output file is locked. MODEL is read to its end before
+/// SCRIPTS is opened.
+fn answer_inside<T: Threads + Wait + Sync, G: Gate + Sync, F: OutputFiles, R: Read, W: Write>(
+    rt: &T,
+    alloc: Global,
+    gate: &G,
+    seed: u64,
+    files: &mut F,
+    texts: &mut Texts,
+    asked: &Asked<'_>,
+    input: &mut Device<R>,
+    output: &mut Device<W>,
+) -> Result<Answered, ServeFault>
+    requires { HasOptions asked.now }
+    ensures answered { IfOk result (λ a. IsAnsweredAs
+        (record {
+          before = F.text files.old;
+          after = F.text files.new;
+          files_failed = F.have_failed files.new;
+          begun = F.steps files.old;
+          ended = F.steps files.new;
+          input = R.remaining input.old.0;
+          reader_failed = input.new.1;
+          old = W.contents output.old.0;
+          new = W.contents output.new.0;
+          failed = output.new.1;
+        })
+        asked.now a.seen.items a.status) }
+    ensures steps { IfOk result (λ a. Takes (F.steps files.old) (F.steps files.new)
+        (steps_inside asked.now (is_withheld_at a.status))) }
+    ensures fault { IfErr result (λ f. (steps : List Step) × IsUnansweredBy
+        (record {
+          before = F.text files.old;
+          after = F.text files.new;
+          files_failed = F.have_failed files.new;
+          begun = F.steps files.old;
+          ended = F.steps files.new;
+          input = R.remaining input.old.0;
+          reader_failed = input.new.1;
+          old = W.contents output.old.0;
+          new = W.contents output.new.0;
+          failed = output.new.1;
+        })
+        asked.now f steps × Takes (F.steps files.old) (F.steps files.new) steps) }
 {
     match asked {
         Asked::Text(text) => {

@@ -53,11 +53,15 @@ fn add_options(word: &str, options: Options, said: &mut Written) {
     said.add(if options.explain { " explain" } else { "" });
 }
 
-/// Adds the output file of the model, if there is one, and a word for all or nothing.
+/// Adds the output file of the model and the seconds to wait for it, if there are such, and a word for all or nothing.
 fn add_destination(destination: Destination<'_>, said: &mut Written) {
     if let Some(file) = destination.file {
         said.add(" output=");
         said.add(file);
+    }
+    if destination.wait > 0 {
+        said.add(" wait=");
+        said.show(&destination.wait);
     }
     said.add(if destination.atomic { " atomic" } else { "" });
 }

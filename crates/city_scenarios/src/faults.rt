@@ -41,6 +41,8 @@ fn serve_fault(name: &str) -> Option<ServeFault> {
     match name {
         "Read" => Some(ServeFault::Read),
         "Write" => Some(ServeFault::Write),
+        "InUse" => Some(ServeFault::InUse),
+        "Changed" => Some(ServeFault::Changed),
         "OutOfMemory" => Some(ServeFault::Run(RunFault::OutOfMemory)),
         "NoPlace" => Some(ServeFault::Run(RunFault::NoPlace)),
         "Unfinished" => Some(ServeFault::Run(RunFault::Unfinished)),

@@ -9,7 +9,6 @@ use city_desk::RunFault;
 use city_model::OutOfMemory;
 use city_serve::{Device, OutputFiles, ServeFault, TextFiles, read_text};
 use std::alloc::Global;
-use std::cell::Cell;
 use std::io;
 
 /// The system's number for a missing file.
@@ -18,7 +17,9 @@ const MISSING: i32 = 2;
 /// The named texts of a file of scenarios, each as a file of its name. One of them may be replaced, or a new one made.
 ///
 /// Habits: memory is short for the file named behind `without`; new files have room for the number of bytes behind
-/// `room`; `uncreated`, `unsynced`, `unrenamed` and `unlisted` refuse these steps.
+/// `room`; another run holds the output file for the number of seconds behind `held`; another program changes it with
+/// `changed`; all names are one file with `linked`; `unlockable`, `uncreated`, `unsynced`, `unseen`, `unrenamed` and
+/// `unlisted` refuse these steps.
 #[derive(Drop)]
 pub struct Folder<'a> {
     alloc: Global,
@@ -28,8 +29,9 @@ pub struct Folder<'a> {
     steps: Written,
     /// The name of the replaced file in the first line, and its new text.
     replaced: Written,
+    locked: bool,
     failed: bool,
-    why: Cell<Option<io::Error>>,
+    why: Option<io::Error>,
 }
 
 impl<'a> Folder<'a> {
@@ -41,8 +43,9 @@ impl<'a> Folder<'a> {
             habits,
             steps: Written::new(alloc),
             replaced: Written::new(alloc),
+            locked: false,
             failed: false,
-            why: Cell::new(None),
+            why: None,
         }
     }
 
@@ -58,7 +61,7 @@ impl<'a> Folder<'a> {
     {
         if self.habits.contains(refused) {
             self.failed = true;
-            self.why.set(Some(io::Error::other(refused)));
+            self.why = Some(io::Error::other(refused));
             self.steps.add(" not");
             self.steps.add(word);
             return false;
@@ -69,7 +72,10 @@ impl<'a> Folder<'a> {
 }
 
 impl TextFiles for Folder<'_> {
-    fn read(&self, path: &str) -> Result<Vec<u8>, ServeFault> {
+    fn read(&mut self, path: &str) -> Result<Vec<u8>, ServeFault> {
+        if self.locked {
+            self.steps.add(" read");
+        }
         if word_after(self.habits, "without ") == Some(path) {
             return Err(ServeFault::Run(RunFault::OutOfMemory));
         }
@@ -78,18 +84,18 @@ impl TextFiles for Folder<'_> {
                 let reader = Giving::new(Reads::told(self.habits), text);
                 let mut device = Device::new(reader);
                 let read = read_text(self.alloc, &mut device);
-                self.why.set(device.failure());
+                self.why = device.failure();
                 read
             }
             None => {
-                self.why.set(Some(io::Error::from_raw_os_error(MISSING)));
+                self.why = Some(io::Error::from_raw_os_error(MISSING));
                 Err(ServeFault::Read)
             }
         }
     }
 
     fn why(&self) -> Option<io::Error> {
-        self.why.get()
+        self.why
     }
 }
 
@@ -102,6 +108,22 @@ impl OutputFiles for Folder<'_> {
 
     ghost have_failed = { λ files. files.failed };
 
+    fn are_same(&self, one: &str, other: &str) -> bool {
+        one == other || self.habits.contains("linked")
+    }
+
+    fn lock(&mut self, _path: &str, wait: usize) -> Result<(), ServeFault> {
+        if number_after(self.habits, "held ").is_some_and(|seconds| wait < seconds) {
+            self.steps.add(" in use");
+            return Err(ServeFault::InUse);
+        }
+        if !self.step(" locked", "unlockable") {
+            return Err(ServeFault::Write);
+        }
+        self.locked = true;
+        Ok(())
+    }
+
     fn create(&mut self, _path: &str, _seed: u64) -> Option<Taking> {
         if !self.step(" created", "uncreated") {
             return None;
@@ -112,6 +134,17 @@ impl OutputFiles for Folder<'_> {
 
     fn sync(&mut self, _new: &mut Taking) -> bool {
         self.step(" synced", "unsynced")
+    }
+
+    fn look_again(&mut self, _path: &str) -> Result<(), ServeFault> {
+        if self.habits.contains("changed") {
+            self.steps.add(" changed");
+            return Err(ServeFault::Changed);
+        }
+        if !self.step(" looked", "unseen") {
+            return Err(ServeFault::Write);
+        }
+        Ok(())
     }
 
     fn rename(&mut self, new: Taking, path: &str) -> bool {
@@ -130,5 +163,10 @@ impl OutputFiles for Folder<'_> {
     fn give_up(&mut self, _new: Taking) {
         self.failed = true;
         self.steps.add(" given up");
+    }
+
+    fn unlock(&mut self) {
+        self.locked = false;
+        self.steps.add(" unlocked");
     }
 }

@@ -1,6 +1,6 @@
 -- The destination of a run's output: the report goes to a writer, and the model behind it or to a file.
-use Rattle.std.specs.Prelude.{◌≡◌, ◌≢◌, ◌⊎◌, ◌&&◌, ◌≤◌, ℕ, Bool, true, false, List, ◌++◌, length, take, Option, Some}
-use Rattle.std.specs.Prelude.{None, IfSome}
+use Rattle.std.specs.Prelude.{◌≡◌, ◌≢◌, ◌⊎◌, ◌&&◌, ◌≤◌, ℕ, Bool, true, false, List, [], ◌∷◌, ◌++◌, length, take}
+use Rattle.std.specs.Prelude.{Option, Some, None, IfSome}
 use Rattle.std.specs.List.{list_any}
 use Rattle.std.specs.Global.{Vec}
 use Rattle.std.specs.Io.KnownBytes.{Keeps, Appends}
@@ -18,6 +18,7 @@ use Rattle.city_options.specs.declared.options.Options.{Options}
 use Rattle.city_serve.specs.Decimals.{written_by, faults_by}
 use Rattle.city_options.specs.RunOptions.{file_of}
 use Rattle.city_serve.specs.ServedTexts.{AppendsSome, WhereAlone}
+use Rattle.city_serve.specs.Steps.{Step, Created, Synced, LookedAt, Renamed, GivenUp}
 
 -- ---- withholding
 
@@ -52,10 +53,13 @@ abbrev pub IsPlaced : Option (List ℕ) → Bool → List ℕ → Folder → Fol
 IsPlaced (Some path) false model before after = IsReplaced path model before after
 IsPlaced file withheld model before after = after ≡ before
 
--- the output file is as it was, or has all of the model
-abbrev pub IsOldOrNew : Option (List ℕ) → List ℕ → Folder → Folder → Type 0
-IsOldOrNew None model before after = after ≡ before
-IsOldOrNew (Some path) model before after = (after ≡ before) ⊎ IsReplaced path model before after
+-- a file isn't locked, since another run holds it, or since a step on it was refused
+abbrev pub IsLockFault : Bool → ServeFault → Type 0
+IsLockFault files_failed f = (f ≡ ServeFault.InUse) ⊎ ((f ≡ ServeFault.Write) × (files_failed ≡ true))
+
+-- a file isn't what was read of it, or the look at it was refused
+abbrev pub IsLookFault : Bool → ServeFault → Type 0
+IsLookFault files_failed f = (f ≡ ServeFault.Changed) ⊎ ((f ≡ ServeFault.Write) × (files_failed ≡ true))
 
 -- ---- the writer
 
@@ -64,10 +68,65 @@ abbrev pub bytes_to_writer : Option (List ℕ) → Bool → List ℕ → List �
 bytes_to_writer None false report model = report ++ model
 bytes_to_writer file withheld report model = report
 
--- the failure behind an incomplete output: the writer's, or the files', if one was to get the model
-abbrev pub HaveFailed : Option (List ℕ) → Bool → Bool → Type 0
-HaveFailed None writer_failed files_failed = writer_failed ≡ true
-HaveFailed (Some path) writer_failed files_failed = (writer_failed ≡ true) ⊎ (files_failed ≡ true)
+-- ---- replacing a file that breaks off: what the writer has got, the file, who failed, and the steps taken
+
+-- there is no new file, or it couldn't be filled and was given up: nothing of the report is written
+abbrev pub IsUnmade : List ℕ → Folder → Folder → Bool → Option (List ℕ) → Option (List ℕ) → List Step → Type 0
+IsUnmade path before after files_failed old new steps =
+    Keeps old new × (after ≡ before) × (files_failed ≡ true)
+    × ((steps ≡ []) ⊎ (steps ≡ Created path ∷ GivenUp ∷ []))
+
+-- the report is cut short
+abbrev pub IsUnreported : List ℕ → List ℕ → Folder → Folder → Option (List ℕ) → Option (List ℕ) → Bool → List Step
+    → Type 0
+IsUnreported path report before after old new writer_failed steps =
+    AppendsSome old new report × (after ≡ before) × (writer_failed ≡ true)
+    × (steps ≡ Created path ∷ Synced ∷ GivenUp ∷ [])
+
+-- the report is written, and the file isn't what was read
+abbrev pub IsChanged : List ℕ → List ℕ → Folder → Folder → Option (List ℕ) → Option (List ℕ) → List Step → Type 0
+IsChanged path report before after old new steps =
+    Appends old new report × (after ≡ before) × (steps ≡ Created path ∷ Synced ∷ GivenUp ∷ [])
+
+-- the report is written, and the new file doesn't get the name
+abbrev pub IsUnnamed : List ℕ → List ℕ → Folder → Folder → Bool → Option (List ℕ) → Option (List ℕ) → List Step
+    → Type 0
+IsUnnamed path report before after files_failed old new steps =
+    Appends old new report × (after ≡ before) × (files_failed ≡ true)
+    × ((steps ≡ Created path ∷ Synced ∷ GivenUp ∷ []) ⊎ (steps ≡ Created path ∷ Synced ∷ LookedAt path ∷ []))
+
+-- the report is written, and the new file has the name, which may not have reached the device
+abbrev pub IsUnlisted : List ℕ → List ℕ → List ℕ → Folder → Folder → Bool → Option (List ℕ) → Option (List ℕ)
+    → List Step → Type 0
+IsUnlisted path report model before after files_failed old new steps =
+    Appends old new report × IsReplaced path model before after × (files_failed ≡ true)
+    × (steps ≡ Created path ∷ Synced ∷ LookedAt path ∷ Renamed path ∷ [])
+
+-- replacing the file of a path breaks off in one of these ways
+abbrev pub BreaksOff : List ℕ → List ℕ → List ℕ → Folder → Folder → Bool → Option (List ℕ) → Option (List ℕ) → Bool
+    → List Step → ServeFault → Type 0
+BreaksOff path report model before after files_failed old new writer_failed steps ServeFault.Write =
+    IsUnmade path before after files_failed old new steps
+    ⊎ (IsUnreported path report before after old new writer_failed steps
+    ⊎ (IsUnnamed path report before after files_failed old new steps
+    ⊎ IsUnlisted path report model before after files_failed old new steps))
+BreaksOff path report model before after files_failed old new writer_failed steps ServeFault.Changed =
+    IsChanged path report before after old new steps
+BreaksOff path report model before after files_failed old new writer_failed steps _ = ⊥
+
+-- the writer breaks off, and no file is concerned
+abbrev pub IsWriterCut : List ℕ → Folder → Folder → Option (List ℕ) → Option (List ℕ) → Bool → List Step → ServeFault
+    → Type 0
+IsWriterCut bytes before after old new writer_failed steps f =
+    (f ≡ ServeFault.Write) × AppendsSome old new bytes × (after ≡ before) × (writer_failed ≡ true) × (steps ≡ [])
+
+-- a delivery breaks off: of a file that gets the model, or of the writer alone
+abbrev pub IsBrokenOff : Option (List ℕ) → Bool → List ℕ → List ℕ → Folder → Folder → Bool → Option (List ℕ)
+    → Option (List ℕ) → Bool → List Step → ServeFault → Type 0
+IsBrokenOff (Some path) false report model before after files_failed old new writer_failed steps f =
+    BreaksOff path report model before after files_failed old new writer_failed steps f
+IsBrokenOff file withheld report model before after files_failed old new writer_failed steps f =
+    IsWriterCut (bytes_to_writer file withheld report model) before after old new writer_failed steps f
 
 -- ---- the output of a run, in its two parts
 
@@ -99,23 +158,23 @@ pub record IsDelivered (destination : Destination) (options : Options) (document
   pub written : Appends old new (bytes_to_writer (file_of destination) withheld report model)
   pub placed : IsPlaced (file_of destination) withheld model before after
 
--- the writer has got the first of its bytes, and the output file is as it was, or has all of the model
+-- the delivery of a run breaks off
 pub record IsCutShort (destination : Destination) (options : Options) (document scripts : List ℕ)
-    (before after : Folder) (old new : Option (List ℕ)) : Type 0 where
+    (before after : Folder) (files_failed : Bool) (old new : Option (List ℕ)) (writer_failed : Bool)
+    (steps : List Step) (f : ServeFault) : Type 0 where
   pub ends : List End
   pub report : List ℕ
   pub model : List ℕ
   pub run : IsRunInParts options document scripts ends report model
-  pub written : AppendsSome old new
-      (bytes_to_writer (file_of destination) (is_withheld destination ends) report model)
-  pub kept : IsOldOrNew (file_of destination) model before after
+  pub broken : IsBrokenOff (file_of destination) (is_withheld destination ends) report model before after files_failed
+      old new writer_failed steps f
 
--- Write comes only if the writer or the files have failed. If the run is at fault, nothing is written
+-- Write comes only if the writer or the files have failed, and Changed only of a file. If the run is at fault, nothing
+-- is written, and no step taken
 abbrev pub IsDeliveryFault : Destination → Options → List ℕ → List ℕ → Folder → Folder → Bool → Option (List ℕ)
-    → Option (List ℕ) → Bool → ServeFault → Type 0
-IsDeliveryFault destination options document scripts before after files_failed old new failed ServeFault.Read = ⊥
-IsDeliveryFault destination options document scripts before after files_failed old new failed (ServeFault.Run f) =
-    Keeps old new × (after ≡ before) × faults_by options.decimals document scripts options.workers options.viewers f
-IsDeliveryFault destination options document scripts before after files_failed old new failed ServeFault.Write =
-    IsCutShort destination options document scripts before after old new
-    × HaveFailed (file_of destination) failed files_failed
+    → Option (List ℕ) → Bool → List Step → ServeFault → Type 0
+IsDeliveryFault destination options document scripts before after files_failed old new failed steps (ServeFault.Run f) =
+    Keeps old new × (after ≡ before) × (steps ≡ [])
+    × faults_by options.decimals document scripts options.workers options.viewers f
+IsDeliveryFault destination options document scripts before after files_failed old new failed steps f =
+    IsCutShort destination options document scripts before after files_failed old new failed steps f

@@ -4,4 +4,5 @@ pub mod FaultTexts
 pub mod Served
 pub mod ServedTexts
 pub mod Stages
+pub mod Steps
 pub mod internal

@@ -54,6 +54,7 @@ IsServeFaultBy ran faults input workers viewers reader_failed old new writer_fai
     faults (document_part (read_of all)) (scripts_part (read_of all)) workers viewers f)
 IsServeFaultBy ran faults input workers viewers reader_failed old new writer_failed ServeFault.Write =
     IfSome input (λ all. IsCutShortBy ran all workers viewers old new) × (writer_failed ≡ true)
+IsServeFaultBy ran faults input workers viewers reader_failed old new writer_failed _ = ⊥
 
 abbrev pub IsServeFault : Option (List ℕ) → ℕ → ℕ → Bool → Option (List ℕ) → Option (List ℕ) → Bool → ServeFault
     → Type 0

@@ -61,15 +61,15 @@ IsFaultOfRun document scripts workers viewers f =
 abbrev pub Faults : Type 1
 Faults = List ℕ → List ℕ → ℕ → ℕ → RunFault → Type 0
 
--- Write comes only if the writer has failed. If the run is at fault, the writer has got nothing. Nothing is read, so a
--- reader is never at fault
+-- Write comes only if the writer has failed. If the run is at fault, the writer has got nothing. Nothing is read, and no
+-- file is written, so neither is at fault
 abbrev pub IsTextsFaultBy : Written → Faults → List ℕ → List ℕ → ℕ → ℕ → Option (List ℕ) → Option (List ℕ) → Bool
     → ServeFault → Type 0
-IsTextsFaultBy ran faults document scripts workers viewers old new failed ServeFault.Read = ⊥
 IsTextsFaultBy ran faults document scripts workers viewers old new failed (ServeFault.Run f) =
     Keeps old new × faults document scripts workers viewers f
 IsTextsFaultBy ran faults document scripts workers viewers old new failed ServeFault.Write =
     AreCutShortBy ran document scripts workers viewers old new × (failed ≡ true)
+IsTextsFaultBy ran faults document scripts workers viewers old new failed _ = ⊥
 
 abbrev pub IsTextsFault : List ℕ → List ℕ → ℕ → ℕ → Option (List ℕ) → Option (List ℕ) → Bool → ServeFault → Type 0
 IsTextsFault = IsTextsFaultBy IsRun IsFaultOfRun

@@ -1,12 +1,15 @@
 //! Writes the output of a run to its destination.
-ghost use Rattle.std.specs.Prelude.{◌≡◌, ◌≢◌, ◌≤◌, true, length, take, drop, Some, IfOk, IfErr};
+ghost use Rattle.std.specs.Prelude.{◌≡◌, ◌⊎◌, ◌≤◌, true, List, [], ◌∷◌, length, take, drop, Some, IfOk, IfErr, IfSome};
+ghost use Rattle.std.specs.Prelude.{IsNone, IsSome, OnOk};
 ghost use Rattle.std.specs.List.{list_any};
 ghost use Rattle.std.specs.Io.KnownBytes.{Appends};
 ghost use Rattle.city_serve.specs.declared.fault.ServeFault.{ServeFault};
 ghost use Rattle.city_options.specs.RunOptions.{file_of};
 ghost use Rattle.city_serve.specs.ServedTexts.{AppendsSome};
 ghost use Rattle.city_serve.specs.Destinations.{outcome_failed, has_failed, is_withheld, bytes_to_writer};
-ghost use Rattle.city_serve.specs.Destinations.{IsPlaced, IsReplaced, IsOldOrNew, HaveFailed};
+ghost use Rattle.city_serve.specs.Destinations.{BreaksOff, IsBrokenOff, IsPlaced, IsReplaced};
+ghost use Rattle.city_serve.specs.Steps.{Step, Takes, delivering, replacing};
+ghost use Rattle.city_serve.specs.internal.Placing.{IsPut, IsUnplaced};
 
 use crate::device::Device;
 use crate::fault::ServeFault;
@@ -27,7 +30,8 @@ pub struct Delivered {
 }
 
 /// Writes a run's output to its destination: the report to the writer, and the model behind it or
-/// to its file.
+/// to its file. `Write` if the writer fails or a step on the file is refused, `Changed` if the file
+/// isn't what was read.
 pub(crate) fn deliver<F: OutputFiles, W: Write>(
     files: &mut F,
     seed: u64,
@@ -43,29 +47,40 @@ pub(crate) fn deliver<F: OutputFiles, W: Write>(
         (drop output.report output.bytes.items))
         × IsPlaced (file_of destination.entry) d.withheld (drop output.report output.bytes.items)
         (F.text files.old) (F.text files.new)
-        × (writer.new.1 ≡ writer.old.1)) }
-    ensures fault { IfErr result (λ f. (f ≡ ServeFault.Write)
-        × AppendsSome (W.contents writer.old.0) (W.contents writer.new.0)
-        (bytes_to_writer (file_of destination.entry) (is_withheld destination.entry output.ends)
-        (take output.report output.bytes.items) (drop output.report output.bytes.items))
-        × IsOldOrNew (file_of destination.entry) (drop output.report output.bytes.items)
-        (F.text files.old) (F.text files.new)
-        × HaveFailed (file_of destination.entry) writer.new.1 (F.have_failed files.new)) }
+        × (writer.new.1 ≡ writer.old.1)
+        × Takes (F.steps files.old) (F.steps files.new) (delivering (file_of destination.entry) d.withheld)) }
+    ensures fault { IfErr result (λ f. (steps : List Step)
+        × IsBrokenOff (file_of destination.entry) (is_withheld destination.entry output.ends)
+        (take output.report output.bytes.items) (drop output.report output.bytes.items)
+        (F.text files.old) (F.text files.new) (F.have_failed files.new)
+        (W.contents writer.old.0) (W.contents writer.new.0) writer.new.1 steps f
+        × Takes (F.steps files.old) (F.steps files.new) steps) }
 {
     let withheld = destination.atomic && any_failed(output.ends.as_slice());
     let (report, model) = output.bytes.as_slice().split_at(output.report);
-    let written = match destination.file {
-        _ if withheld => write_output(writer, report),
-        None => write_output(writer, output.bytes.as_slice()),
-        Some(path) => replace(files, seed, path, model, writer, report),
-    };
-    if !written {
-        return Err(ServeFault::Write);
+    match destination.file {
+        _ if withheld => write_all(writer, report)?,
+        None => write_all(writer, output.bytes.as_slice())?,
+        Some(path) => replace(files, seed, path, model, writer, report)?,
     }
     Ok(Delivered {
         seen: output.seen,
         withheld,
     })
+}
+
+/// Writes all bytes and flushes, or is the fault `Write`.
+fn write_all<W: Write>(writer: &mut Device<W>, bytes: &[u8]) -> Result<(), ServeFault>
+    ensures written { OnOk result (Appends (W.contents writer.old.0) (W.contents writer.new.0) bytes.now) }
+    ensures unfailed { OnOk result (writer.new.1 ≡ writer.old.1) }
+    ensures fault { IfErr result (λ f. (f ≡ ServeFault.Write)
+        × AppendsSome (W.contents writer.old.0) (W.contents writer.new.0) bytes.now × (writer.new.1 ≡ true)) }
+{
+    if write_output(writer, bytes) {
+        Ok(())
+    } else {
+        Err(ServeFault::Write)
+    }
 }
 
 /// Whether a script ended refused or out of memory.
@@ -91,8 +106,8 @@ fn is_failed(outcome: &Outcome) -> bool
 }
 
 /// Replaces the file of this path by the model, once the model is on its device and the report is
-/// written, and says whether all steps succeeded. At every moment the file is the old one or the
-/// new one, whole.
+/// written. At every moment the file is the old one or the new one, whole, and until the rename it
+/// is the old one.
 fn replace<F: OutputFiles, W: Write>(
     files: &mut F,
     seed: u64,
@@ -100,27 +115,68 @@ fn replace<F: OutputFiles, W: Write>(
     model: &[u8],
     writer: &mut Device<W>,
     report: &[u8],
-) -> bool
-    ensures written { result ≡ true → Appends (W.contents writer.old.0) (W.contents writer.new.0) report.now }
-    ensures placed { result ≡ true → IsReplaced path.now model.now (F.text files.old) (F.text files.new) }
-    ensures unfailed { result ≡ true → writer.new.1 ≡ writer.old.1 }
-    ensures cut_short { result ≢ true → AppendsSome (W.contents writer.old.0) (W.contents writer.new.0) report.now }
-    ensures kept { result ≢ true → IsOldOrNew (Some path.now) model.now (F.text files.old) (F.text files.new) }
-    ensures failed { result ≢ true → HaveFailed (Some path.now) writer.new.1 (F.have_failed files.new) }
+) -> Result<(), ServeFault>
+    ensures written { OnOk result (Appends (W.contents writer.old.0) (W.contents writer.new.0) report.now) }
+    ensures placed { OnOk result (IsReplaced path.now model.now (F.text files.old) (F.text files.new)) }
+    ensures unfailed { OnOk result (writer.new.1 ≡ writer.old.1) }
+    ensures steps { OnOk result (Takes (F.steps files.old) (F.steps files.new) (replacing path.now)) }
+    ensures fault { IfErr result (λ f. (steps : List Step)
+        × BreaksOff path.now report.now model.now (F.text files.old) (F.text files.new) (F.have_failed files.new)
+        (W.contents writer.old.0) (W.contents writer.new.0) writer.new.1 steps f
+        × Takes (F.steps files.old) (F.steps files.new) steps) }
 {
-    let Some(new) = files.create(path, seed) else {
-        return false;
+    let Some(new) = filled_new(files, seed, path, model) else {
+        return Err(ServeFault::Write);
     };
+    if !write_output(writer, report) {
+        files.give_up(new);
+        return Err(ServeFault::Write);
+    }
+    place(files, new, path)
+}
+
+/// A new file for the file of this path, with the model on its device. `None` if a step is refused;
+/// then nothing of it is left.
+fn filled_new<F: OutputFiles>(files: &mut F, seed: u64, path: &str, model: &[u8]) -> Option<F::New>
+    ensures synced { IfSome result (λ new. F.is_synced new ≡ true) }
+    ensures contents { IfSome result (λ new. F.are_known ≡ true → F.New.contents new ≡ Some model.now) }
+    ensures texts { F.text files.new ≡ F.text files.old }
+    ensures steps { IsSome result → Takes (F.steps files.old) (F.steps files.new)
+        (Step.Created path.now ∷ Step.Synced ∷ []) }
+    ensures unmade { IsNone result → Takes (F.steps files.old) (F.steps files.new) []
+        ⊎ Takes (F.steps files.old) (F.steps files.new) (Step.Created path.now ∷ Step.GivenUp ∷ []) }
+    ensures failed { IsNone result → F.have_failed files.new ≡ true }
+{
+    let new = files.create(path, seed)?;
     let mut device = Device::new(new);
     let filled = write_output(&mut device, model);
     let mut new = device.into_inner();
-    if !filled {
+    if !filled || !files.sync(&mut new) {
         files.give_up(new);
-        return false;
+        return None;
     }
-    if !files.sync(&mut new) || !write_output(writer, report) {
+    Some(new)
+}
+
+/// Puts a new file in the place of the file of this path, if that is still what was read.
+fn place<F: OutputFiles>(files: &mut F, new: F::New, path: &str) -> Result<(), ServeFault>
+    requires { F.is_synced new ≡ true }
+    ensures placed { OnOk result (IsPut path.now F.are_known (F.New.contents new) (F.text files.old) (F.text files.new)) }
+    ensures steps { OnOk result (Takes (F.steps files.old) (F.steps files.new)
+        (Step.LookedAt path.now ∷ Step.Renamed path.now ∷ Step.FolderSynced path.now ∷ [])) }
+    ensures fault { IfErr result (λ f. (steps : List Step)
+        × IsUnplaced path.now F.are_known (F.New.contents new) (F.text files.old) (F.text files.new)
+        (F.have_failed files.new) steps f × Takes (F.steps files.old) (F.steps files.new) steps) }
+{
+    if let Err(fault) = files.look_again(path) {
         files.give_up(new);
-        return false;
+        return Err(fault);
     }
-    files.rename(new, path) && files.sync_folder(path)
+    if !files.rename(new, path) {
+        return Err(ServeFault::Write);
+    }
+    if !files.sync_folder(path) {
+        return Err(ServeFault::Write);
+    }
+    Ok(())
 }

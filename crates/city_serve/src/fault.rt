@@ -11,8 +11,12 @@ pub enum ServeFault {
     Read,
     /// The run has no output.
     Run(RunFault),
-    /// The writer failed, or took no byte.
+    /// The writer failed, or took no byte, or a step of replacing the output file was refused.
     Write,
+    /// Another run holds the output file.
+    InUse,
+    /// The output file is the model's, and is no longer what was read.
+    Changed,
 }
 
 impl Display for ServeFault {
@@ -26,6 +30,8 @@ impl Display for ServeFault {
             ServeFault::Read => f.write_str("cannot read"),
             ServeFault::Run(fault) => fault.fmt(f),
             ServeFault::Write => f.write_str("cannot write"),
+            ServeFault::InUse => f.write_str("file in use"),
+            ServeFault::Changed => f.write_str("model changed"),
         }
     }
 }

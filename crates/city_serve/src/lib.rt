@@ -9,18 +9,24 @@
 //! - `fault`, `fault_line`: why nothing was served, and the line to report it
 #![tactic(auto)]
 
+mod beside;
+mod closed_streams;
 mod decimals;
 mod deliver;
 mod device;
 mod fault;
 pub mod fault_line;
+mod file_lock;
+mod new_file;
 mod no_files;
 mod output_files;
 mod run;
 mod runtime_files;
 mod seed;
+mod seen_text;
 pub mod serve;
 pub mod serve_texts;
+mod target;
 mod text_files;
 mod texts;
 
@@ -29,8 +35,9 @@ pub use decimals::encode_text;
 pub use deliver::Delivered;
 pub use device::Device;
 pub use fault::ServeFault;
+pub use new_file::NewFile;
 pub use output_files::OutputFiles;
-pub use runtime_files::{NewFile, RuntimeFiles};
+pub use runtime_files::RuntimeFiles;
 pub use seed::drawn_seed;
 pub use text_files::{TextFiles, read_file, read_text};
 pub use texts::{Stage, Text, Texts};

@@ -11,7 +11,7 @@ use std::io::{self, Sink};
 pub(crate) struct NoFiles;
 
 impl TextFiles for NoFiles {
-    fn read(&self, _path: &str) -> Result<Vec<u8>, ServeFault> {
+    fn read(&mut self, _path: &str) -> Result<Vec<u8>, ServeFault> {
         Err(ServeFault::Read)
     }
 }
@@ -25,12 +25,24 @@ impl OutputFiles for NoFiles {
 
     type New = Sink;
 
+    fn are_same(&self, _one: &str, _other: &str) -> bool {
+        true
+    }
+
+    fn lock(&mut self, _path: &str, _wait: usize) -> Result<(), ServeFault> {
+        Err(ServeFault::Write)
+    }
+
     fn create(&mut self, _path: &str, _seed: u64) -> Option<Sink> {
         None
     }
 
     fn sync(&mut self, _new: &mut Sink) -> bool {
         false
+    }
+
+    fn look_again(&mut self, _path: &str) -> Result<(), ServeFault> {
+        Err(ServeFault::Write)
     }
 
     fn rename(&mut self, _new: Sink, _path: &str) -> bool {
@@ -42,4 +54,6 @@ impl OutputFiles for NoFiles {
     }
 
     fn give_up(&mut self, _new: Sink) {}
+
+    fn unlock(&mut self) {}
 }

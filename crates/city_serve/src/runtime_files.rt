@@ -1,25 +1,29 @@
 //! The files of a runtime.
-ghost use Rattle.std.specs.Prelude.{◌≡◌, ◌≢◌, true, false};
+ghost use Rattle.std.specs.Prelude.{◌≡◌, ◌≢◌, true, false, OnOk, IfErr};
+ghost use Rattle.city_serve.specs.declared.fault.ServeFault.{ServeFault};
 
+use crate::closed_streams::fill_closed_streams;
 use crate::fault::ServeFault;
+use crate::file_lock::FileLock;
+use crate::new_file::{NewFile, sync_folder_of};
 use crate::output_files::OutputFiles;
-use crate::text_files::{TextFiles, read_noting};
-use std::alloc::Global;
-use std::cell::Cell;
-use std::fs::{self, Files, OpenFile, OpenOptions, Permissions};
-use std::io::{self, ErrorKind, Write};
+use crate::seen_text::SeenText;
+use crate::target::{Target, is_one_file, target_of};
+use crate::text_files::{TextFiles, open_noting, read_noting};
+use std::fs::{self, File, Files};
+use std::io;
 use std::path::PathBuf;
+use std::time::Clock;
 
-/// How many names of new files are tried.
-const MOST_NAMES: u64 = 100;
-
-/// The files of a runtime, whether a step of replacing one was refused, and why the last refused
-/// call was.
+/// The files of a runtime: the output file that is locked, and the text that was read from it;
+/// whether a step was refused, and why the last refused call was.
 #[derive(Drop)]
 pub struct RuntimeFiles<'a, R> {
     rt: &'a R,
+    lock: Option<FileLock>,
+    seen: Option<SeenText>,
     failed: bool,
-    why: Cell<Option<io::Error>>,
+    why: Option<io::Error>,
 }
 
 impl<'a, R> RuntimeFiles<'a, R> {
@@ -27,67 +31,113 @@ impl<'a, R> RuntimeFiles<'a, R> {
     pub fn new(rt: &'a R) -> RuntimeFiles<'a, R> {
         RuntimeFiles {
             rt,
+            lock: None,
+            seen: None,
             failed: false,
-            why: Cell::new(None),
+            why: None,
         }
     }
 }
 
-impl<R: Files + AllocGlobal> RuntimeFiles<'_, R> {
+impl<R: Files<File = File> + AllocGlobal + Clock> RuntimeFiles<'_, R> {
     /// Whether a step succeeded. If not, keeps the failure and why.
     fn noted(&mut self, step: io::Result<()>) -> bool
         ensures unfailed { result ≡ true → self.new.failed ≡ self.old.failed }
         ensures failed { result ≢ true → self.new.failed ≡ true }
     {
         if let Err(error) = step {
-            self.why.set(Some(error));
+            self.why = Some(error);
             self.failed = true;
             return false;
         }
         true
     }
-}
 
-/// A new file beside another one, under a name of its own.
-#[derive(Drop)]
-pub struct NewFile<F> {
-    file: F,
-    name: String,
-    /// The file to replace; if links lead to it, the one at their end.
-    target: PathBuf,
-    synced: bool,
-    /// Why its last write was refused, if it was.
-    why: Option<io::Error>,
-}
-
-impl<F: Write> Write for NewFile<F> {
-    fn write(&mut self, buf: &[u8]) -> io::Result<usize> {
-        self.synced = false;
-        let written = self.file.write(buf);
-        self.why = written.as_ref().err().copied();
-        written
+    /// The path of the locked output file behind its links, if it is a plain file.
+    fn locked_path(&self) -> Option<&PathBuf> {
+        match &self.lock {
+            Some(
+                FileLock {
+                    target: Target::Plain(end),
+                    ..
+                },
+            ) => Some(end),
+            _ => None,
+        }
     }
 
-    fn flush(&mut self) -> io::Result<()> {
-        self.file.flush()
+    /// A new file for the output file of a path.
+    fn make(&self, path: &str, seed: u64) -> io::Result<NewFile> {
+        match &self.lock {
+            Some(lock) => NewFile::make(self.rt, &lock.target, path, seed),
+            None => NewFile::make(self.rt, &target_of(self.rt, path)?, path, seed),
+        }
+    }
+
+    /// The names beside the output file of a path, brought to the device.
+    fn sync_names(&self, path: &str) -> io::Result<()> {
+        match &self.lock {
+            Some(lock) => sync_folder_of(self.rt, &lock.target),
+            None => sync_folder_of(self.rt, &target_of(self.rt, path)?),
+        }
+    }
+
+    /// Locks the output file of a path. `false` if another run holds it.
+    fn take_lock(&mut self, path: &str, wait: usize) -> io::Result<bool>
+        ensures { self.new.failed ≡ self.old.failed }
+    {
+        fill_closed_streams(self.rt)?;
+        match FileLock::take(self.rt, path, wait)? {
+            Some(lock) => {
+                self.lock = Some(lock);
+                Ok(true)
+            }
+            None => Ok(false),
+        }
+    }
+
+    /// Whether the output file still has the text that was read from it, if one was.
+    fn is_unchanged(&self) -> io::Result<bool> {
+        match (&self.seen, self.locked_path()) {
+            (Some(seen), Some(end)) => seen.is_still(self.rt, end),
+            _ => Ok(true),
+        }
+    }
+
+    /// Notes an open file before it is read, if it is the locked output file.
+    fn begin_to_read(&self, file: &File) -> io::Result<Option<SeenText>> {
+        match self.locked_path() {
+            Some(end) => SeenText::begin(self.rt, file, end),
+            None => Ok(None),
+        }
     }
 }
 
-impl<R: Files + AllocGlobal> TextFiles for RuntimeFiles<'_, R> {
-    fn read(&self, path: &str) -> Result<Vec<u8>, ServeFault> {
-        let mut why = None;
-        let text = read_noting(self.rt, path, &mut why);
-        self.why.set(why);
-        text
+impl<R: Files<File = File> + AllocGlobal + Clock> TextFiles for RuntimeFiles<'_, R> {
+    fn read(&mut self, path: &str) -> Result<Vec<u8>, ServeFault> {
+        self.why = None;
+        let file = open_noting(self.rt, path, &mut self.why)?;
+        let begun = match self.begin_to_read(&file) {
+            Ok(begun) => begun,
+            Err(error) => {
+                self.why = Some(error);
+                return Err(ServeFault::Read);
+            }
+        };
+        let text = read_noting(self.rt.alloc(), file, &mut self.why)?;
+        if let Some(begun) = begun {
+            self.seen = Some(begun.end(text.as_slice()));
+        }
+        Ok(text)
     }
 
     fn why(&self) -> Option<io::Error> {
-        self.why.get()
+        self.why
     }
 }
 
-impl<R: Files + AllocGlobal> OutputFiles for RuntimeFiles<'_, R> {
-    type New = NewFile<R::File>;
+impl<R: Files<File = File> + AllocGlobal + Clock> OutputFiles for RuntimeFiles<'_, R> {
+    type New = NewFile;
 
     ghost is_synced = { λ new. new.synced };
 
@@ -95,133 +145,80 @@ impl<R: Files + AllocGlobal> OutputFiles for RuntimeFiles<'_, R> {
 
     ghost have_failed = { λ files. files.failed };
 
-    fn create(&mut self, path: &str, seed: u64) -> Option<NewFile<R::File>> {
-        match create_beside(self.rt, path, seed) {
+    fn are_same(&self, one: &str, other: &str) -> bool {
+        one == other || are_one_plain_file(self.rt, one, other)
+    }
+
+    fn lock(&mut self, path: &str, wait: usize) -> Result<(), ServeFault> {
+        match self.take_lock(path, wait) {
+            Ok(true) => Ok(()),
+            Ok(false) => Err(ServeFault::InUse),
+            Err(error) => {
+                self.why = Some(error);
+                self.failed = true;
+                Err(ServeFault::Write)
+            }
+        }
+    }
+
+    fn create(&mut self, path: &str, seed: u64) -> Option<NewFile> {
+        match self.make(path, seed) {
             Ok(new) => Some(new),
             Err(error) => {
-                self.why.set(Some(error));
+                self.why = Some(error);
                 self.failed = true;
                 None
             }
         }
     }
 
-    fn sync(&mut self, new: &mut NewFile<R::File>) -> bool {
-        let synced = self.noted(new.file.sync_all());
-        new.synced = synced;
-        synced
+    fn sync(&mut self, new: &mut NewFile) -> bool {
+        let synced = new.sync();
+        self.noted(synced)
     }
 
-    fn rename(&mut self, new: NewFile<R::File>, _path: &str) -> bool {
-        let renamed = self.noted(fs::rename(self.rt, new.name.as_str(), new.target.as_str()));
-        if !renamed {
-            remove(self.rt, &new);
+    fn look_again(&mut self, _path: &str) -> Result<(), ServeFault> {
+        match self.is_unchanged() {
+            Ok(true) => Ok(()),
+            Ok(false) => Err(ServeFault::Changed),
+            Err(error) => {
+                self.why = Some(error);
+                self.failed = true;
+                Err(ServeFault::Write)
+            }
         }
-        renamed
+    }
+
+    fn rename(&mut self, new: NewFile, _path: &str) -> bool {
+        let put = new.put(self.rt);
+        self.noted(put)
     }
 
     fn sync_folder(&mut self, path: &str) -> bool {
-        self.noted(sync_folder_of(self.rt, path))
+        let synced = self.sync_names(path);
+        self.noted(synced)
     }
 
-    fn give_up(&mut self, new: NewFile<R::File>) {
+    fn give_up(&mut self, new: NewFile) {
         self.failed = true;
-        if new.why.is_some() {
-            self.why.set(new.why);
-        }
-        remove(self.rt, &new);
-    }
-}
-
-/// Makes a new file beside the file of this path, with the same mode.
-///
-/// Refused if the path leads to anything but a file: nothing else can be replaced.
-fn create_beside<R: Files + AllocGlobal>(
-    rt: &R,
-    path: &str,
-    seed: u64,
-) -> io::Result<NewFile<R::File>> {
-    let target = target_of(rt, path)?;
-    let mode = match fs::metadata(rt, &target) {
-        Ok(found) if found.is_file() => Some(found.permissions()),
-        Ok(found) if found.is_dir() => return Err(io::Error::from(ErrorKind::IsADirectory)),
-        Ok(_) => return Err(io::Error::from(ErrorKind::InvalidInput)),
-        Err(error) if error.kind() == ErrorKind::NotFound => None,
-        Err(error) => return Err(error),
-    };
-    let new = create_new(rt, target, seed)?;
-    if let Some(mode) = mode {
-        if let Err(error) = new.file.set_permissions(mode) {
-            remove(rt, &new);
-            return Err(error);
+        let why = new.drop_with(self.rt);
+        if why.is_some() {
+            self.why = why;
         }
     }
-    Ok(new)
-}
 
-/// The file a path leads to, or the path itself if no file is found.
-fn target_of<R: Files + AllocGlobal>(rt: &R, path: &str) -> io::Result<PathBuf> {
-    match fs::canonicalize(rt, path) {
-        Ok(target) => Ok(target),
-        Err(error) if error.kind() == ErrorKind::OutOfMemory => Err(error),
-        Err(_) => Ok(PathBuf::from_str(rt.alloc(), path)?),
-    }
-}
-
-/// Brings the names in the folder of this path to the device. If the folder can't be synced, since
-/// it can't be read or the system doesn't sync folders, there is no error.
-fn sync_folder_of<R: Files + AllocGlobal>(rt: &R, path: &str) -> io::Result<()> {
-    let target = target_of(rt, path)?;
-    let folder = match target.parent() {
-        Some(parent) if !parent.as_str().is_empty() => parent.as_str(),
-        _ => ".",
-    };
-    match fs::open(rt, folder).and_then(|folder| folder.sync_all()) {
-        Err(error) if !is_unable(error.kind()) => Err(error),
-        _ => Ok(()),
-    }
-}
-
-/// Whether an error says a folder can't be synced at all.
-fn is_unable(kind: ErrorKind) -> bool {
-    matches!(
-        kind,
-        ErrorKind::InvalidInput | ErrorKind::Unsupported | ErrorKind::PermissionDenied
-    )
-}
-
-/// Makes a new file under the first free name: the file's own, and behind it a number from the seed
-/// on.
-fn create_new<R: Files + AllocGlobal>(
-    rt: &R,
-    target: PathBuf,
-    seed: u64,
-) -> io::Result<NewFile<R::File>> {
-    for turn in 0..MOST_NAMES {
-        let number = seed.wrapping_add(turn);
-        let name = format!(in rt.alloc(); "{}.cityed-{number:016x}", target.as_str())?;
-        match OpenOptions::new()
-            .write(true)
-            .create_new(true)
-            .open(rt, name.as_str())
-        {
-            Ok(file) => {
-                return Ok(NewFile {
-                    file,
-                    name,
-                    target,
-                    synced: false,
-                    why: None,
-                });
-            }
-            Err(error) if error.kind() == ErrorKind::AlreadyExists => {}
-            Err(error) => return Err(error),
+    fn unlock(&mut self) {
+        self.seen = None;
+        if let Some(lock) = self.lock.take() {
+            lock.release(self.rt);
         }
     }
-    Err(io::Error::from(ErrorKind::AlreadyExists))
 }
 
-/// Removes a new file. If that is refused it stays, and its name tells what it is.
-fn remove<R: Files, F>(rt: &R, new: &NewFile<F>) {
-    let _ = fs::remove_file(rt, new.name.as_str());
+/// Whether two paths lead to one plain file that is there.
+fn are_one_plain_file<R: Files<File = File>>(rt: &R, one: &str, other: &str) -> bool {
+    match (fs::metadata(rt, one), fs::metadata(rt, other)) {
+        (Ok(one), Ok(other)) => one.is_file() && is_one_file(&one, &other),
+        _ => false,
+    }
 }

@@ -1,11 +1,13 @@
 //! Serves a document and its scripts from two texts to a writer.
-ghost use Rattle.std.specs.Prelude.{◌≡◌, ◌≤◌, ◌++◌, ◌∷◌, [], false, IfOk, IfErr, OnOk};
+ghost use Rattle.std.specs.Prelude.{◌≡◌, ◌≤◌, ◌++◌, ◌∷◌, [], List, false, IfOk, IfErr, OnOk};
 ghost use Rattle.city_crew.specs.Limits.{max_workers, max_viewers};
 ghost use Rattle.city_options.specs.RunOptions.{AreWithin};
 ghost use Rattle.city_writer.specs.document.Canonical.{city_text};
 ghost use Rattle.city_serve.specs.ServedTexts.{AreServed, AreServedBy, IsTextsFault, IsTextsFaultBy};
 ghost use Rattle.city_serve.specs.Decimals.{written_by, faults_by};
+ghost use Rattle.city_options.specs.RunOptions.{file_of};
 ghost use Rattle.city_serve.specs.Destinations.{IsDelivered, IsDeliveryFault};
+ghost use Rattle.city_serve.specs.Steps.{Step, Takes, delivering};
 
 use crate::deliver::{Delivered, deliver};
 use crate::device::Device;
@@ -84,6 +86,7 @@ pub fn serve_owned<R: Threads + Wait + Sync, G: Gate + Sync, W: Write>(
     let follows = Destination {
         file: None,
         atomic: false,
+        wait: 0,
     };
     let (delivered, _city) = serve_to(
         rt,
@@ -101,7 +104,8 @@ pub fn serve_owned<R: Threads + Wait + Sync, G: Gate + Sync, W: Write>(
 
 /// As `serve_owned`, with the output to a destination: the report to the writer, and the model
 /// behind it or to a file. The file is replaced whole once the report is written, or stays as it
-/// was.
+/// was. `Changed` if a text was read from the file and it has another by then. The caller locks the
+/// file before it reads any text, and unlocks it.
 ///
 /// The answer says whether the model was withheld: an atomic destination asks for that if a script
 /// ended refused or out of memory. Beside it is the final city, which with `decimals` is encoded.
@@ -125,10 +129,14 @@ pub fn serve_to<R: Threads + Wait + Sync, G: Gate + Sync, F: OutputFiles, W: Wri
         (W.contents writer.old.0) (W.contents writer.new.0))
         × (options.decimals ≡ false → is.model ≡ city_text d.1 ++ 10 ∷ [])) }
     ensures unfailed { OnOk result (writer.new.1 ≡ writer.old.1) }
-    ensures fault { IfErr result (IsDeliveryFault destination.entry options
+    ensures steps { IfOk result (λ d. Takes (F.steps files.old) (F.steps files.new)
+        (delivering (file_of destination.entry) d.0.withheld)) }
+    ensures fault { IfErr result (λ f. (steps : List Step)
+        × IsDeliveryFault destination.entry options
         texts.old.document.bytes.items texts.old.scripts.bytes.items
         (F.text files.old) (F.text files.new) (F.have_failed files.new)
-        (W.contents writer.old.0) (W.contents writer.new.0) writer.new.1) }
+        (W.contents writer.old.0) (W.contents writer.new.0) writer.new.1 steps f
+        × Takes (F.steps files.old) (F.steps files.new) steps) }
 {
     let (output, city) = run(rt, alloc, gate, seed, texts, options)?;
     let delivered = deliver(files, seed, destination, writer, output)?;

@@ -1,8 +1,9 @@
 //! Texts from files.
-ghost use Rattle.std.specs.Prelude.{◌≡◌, ◌+◌, ℕ, true, take, List, Option, None, IfOk, IfErr, IfSome, OnOk};
+ghost use Rattle.std.specs.Prelude.{◌≡◌, ◌+◌, ℕ, true, take, is_ok, List, Option, None, IfOk, IfErr, IfSome, OnOk};
 ghost use Rattle.city_tokens.specs.tree.Texts.{max_text};
 ghost use Rattle.city_serve.specs.Served.{IsDeviceFault};
 ghost use Rattle.city_serve.specs.ServedTexts.{IsEnoughOf, LosesAtMost};
+ghost use Rattle.city_serve.specs.Steps.{Step, Takes, steps_if};
 
 use crate::device::Device;
 use crate::fault::ServeFault;
@@ -22,10 +23,15 @@ pub trait TextFiles {
     /// The text from a read of a path, if it is known.
     ghost text: { Self → List ℕ → Option (List ℕ) } = { λ _ _. None };
 
+    /// The steps taken so far, if they are known.
+    ghost steps: { Self → Option (List Step) } = { λ _. None };
+
     /// The text of a file; if it is too long, its first `MAX_TEXT` + 1 bytes.
-    fn read(&self, path: &str) -> Result<Vec<u8>, ServeFault>
-        ensures read { IfOk result (λ v. IfSome (text self.now path.now) (λ all. v.items ≡ all)) }
-        ensures fault { IfErr result (IsDeviceFault true) };
+    fn read(&mut self, path: &str) -> Result<Vec<u8>, ServeFault>
+        ensures read { IfOk result (λ v. IfSome (text self.old path.now) (λ all. v.items ≡ all)) }
+        ensures fault { IfErr result (IsDeviceFault true) }
+        ensures texts { text self.new ≡ text self.old }
+        ensures steps { Takes (steps self.old) (steps self.new) (steps_if (is_ok result) (Step.Read path.now)) };
 
     /// Why the last refused call was refused, if the system said why.
     fn why(&self) -> Option<io::Error> {
@@ -39,29 +45,39 @@ pub trait TextFiles {
 pub fn read_file<R: Files + AllocGlobal>(rt: &R, path: &str) -> Result<Vec<u8>, ServeFault>
     ensures { IfErr result (IsDeviceFault true) }
 {
-    read_noting(rt, path, &mut None)
+    let file = open_noting(rt, path, &mut None)?;
+    read_noting(rt.alloc(), file, &mut None)
 }
 
-/// As `read_file`, and notes why the file can't be opened or read.
-pub(crate) fn read_noting<R: Files + AllocGlobal>(
+/// Opens a file for its text, and notes why it can't be opened.
+pub(crate) fn open_noting<R: Files>(
     rt: &R,
     path: &str,
     why: &mut Option<io::Error>,
-) -> Result<Vec<u8>, ServeFault>
+) -> Result<R::File, ServeFault>
     ensures { IfErr result (IsDeviceFault true) }
 {
     match fs::open(rt, path) {
-        Ok(file) => {
-            let mut device = Device::new(file);
-            let text = read_text(rt.alloc(), &mut device);
-            *why = device.failure();
-            text
-        }
+        Ok(file) => Ok(file),
         Err(error) => {
             *why = Some(error);
             Err(open_fault(error.kind()))
         }
     }
+}
+
+/// The text of an open file, as of `read_file`; notes why it can't be read.
+pub(crate) fn read_noting<F: Read + Drop>(
+    alloc: Global,
+    file: F,
+    why: &mut Option<io::Error>,
+) -> Result<Vec<u8>, ServeFault>
+    ensures { IfErr result (IsDeviceFault true) }
+{
+    let mut device = Device::new(file);
+    let text = read_text(alloc, &mut device);
+    *why = device.failure();
+    text
 }
 
 /// The fault of an error of this kind in opening a file.

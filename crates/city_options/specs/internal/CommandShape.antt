@@ -30,7 +30,8 @@ run_command =
 
 -- with the options for output
 abbrev pub output_command : App
-output_command = with_rule (with_rule run_command output_rule) (flag_rule (codes "atomic"))
+output_command =
+    with_rule (with_rule (with_rule run_command output_rule) (option_rule (codes "wait"))) (flag_rule (codes "atomic"))
 
 -- the command with all its options
 abbrev pub cityed_command : App

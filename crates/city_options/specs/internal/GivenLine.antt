@@ -4,7 +4,7 @@ use Rattle.std.specs.Borrow.{Bor}
 use Rattle.clap.specs.Words.{first_value, one_text}
 use Rattle.clap.specs.declared.parser.matches.Found.{Found}
 use Rattle.city_options.specs.CommandLines.{Atomic, Check, Decimals, Explain, Flag, Line, Output, Valued}
-use Rattle.city_options.specs.CommandLines.{Watch, Workers, flag_name, value_name}
+use Rattle.city_options.specs.CommandLines.{Wait, Watch, Workers, flag_name, value_name}
 use Rattle.city_options.specs.declared.given.Given.{Given}
 
 abbrev pub text_of : Option (Bor (List ℕ)) → Option (List ℕ)
@@ -14,6 +14,7 @@ abbrev pub value_given : Given → Valued → Option (List ℕ)
 value_given given Workers = text_of given.workers
 value_given given Watch = text_of given.watch
 value_given given Output = text_of given.output
+value_given given Wait = text_of given.wait
 
 abbrev pub flag_given : Given → Flag → Bool
 flag_given given Decimals = given.decimals

@@ -27,6 +27,11 @@ abbrev pub run_status : Bool → Status
 run_status true = Status.Withheld
 run_status false = Status.Done
 
+-- the model of a run was withheld, by its status
+abbrev pub is_withheld_at : Status → Bool
+is_withheld_at Status.Withheld = true
+is_withheld_at _ = false
+
 -- the status of a check, by whether it found faults
 abbrev pub check_status : Bool → Status
 check_status true = Status.Faulty

@@ -1,0 +1,21 @@
+-- A new file takes the name of another, or doesn't.
+use Rattle.std.specs.Prelude.{◌≡◌, ◌≢◌, ◌⊎◌, ℕ, Bool, true, List, [], ◌∷◌, Option, None, if◌then◌else◌}
+use Rattle.city_serve.specs.declared.fault.ServeFault.{ServeFault}
+use Rattle.city_serve.specs.Destinations.{Folder}
+use Rattle.city_serve.specs.Steps.{Step, LookedAt, Renamed, GivenUp}
+
+-- the name has the contents of the new file, where such are known, and all others have their texts
+abbrev pub IsPut : List ℕ → Bool → Option (List ℕ) → Folder → Folder → Type 0
+IsPut path known contents before after =
+    (after path ≡ (if known then contents else None))
+    × ((other : List ℕ) → other ≢ path → after other ≡ before other)
+
+-- the file isn't what was read, a step before the rename was refused, or the one behind it
+abbrev pub IsUnplaced : List ℕ → Bool → Option (List ℕ) → Folder → Folder → Bool → List Step → ServeFault → Type 0
+IsUnplaced path known contents before after files_failed steps ServeFault.Changed =
+    (after ≡ before) × (steps ≡ GivenUp ∷ [])
+IsUnplaced path known contents before after files_failed steps ServeFault.Write =
+    ((after ≡ before) × (files_failed ≡ true) × ((steps ≡ GivenUp ∷ []) ⊎ (steps ≡ LookedAt path ∷ [])))
+    ⊎ (IsPut path known contents before after × (files_failed ≡ true)
+    × (steps ≡ LookedAt path ∷ Renamed path ∷ []))
+IsUnplaced path known contents before after files_failed steps _ = ⊥

@@ -1,0 +1,82 @@
+//! Where a path leads: to a plain file behind its links, or to something else.
+use std::fs::{self, File, Files, Metadata};
+use std::io::{self, ErrorKind};
+use std::os::unix::fs::MetadataExt;
+use std::path::PathBuf;
+
+/// How many links are followed, as the system does.
+const MOST_LINKS: u32 = 40;
+
+/// What an output file is.
+#[derive(Drop)]
+pub(crate) enum Target {
+    /// A plain file that is there, or may be made: its path behind all links.
+    Plain(PathBuf),
+    /// A device, a pipe or a terminal.
+    Device,
+}
+
+/// Whether two files that are there are one.
+pub(crate) fn is_one_file(one: &Metadata, other: &Metadata) -> bool {
+    one.dev() == other.dev() && one.ino() == other.ino()
+}
+
+/// What a path leads to. Refused for a folder, and where a link can't be followed.
+///
+/// Links are followed one by one, by their own texts: no path of the working folder is asked for,
+/// which may be too long, and a link whose file isn't there leads to where it would be.
+pub(crate) fn target_of<R: Files<File = File> + AllocGlobal>(
+    rt: &R,
+    path: &str,
+) -> io::Result<Target> {
+    if path.is_empty() {
+        return Err(io::Error::from(ErrorKind::NotFound));
+    }
+    match fs::metadata(rt, path) {
+        Ok(found) if found.is_dir() => Err(io::Error::from(ErrorKind::IsADirectory)),
+        Ok(found) if !found.is_file() => Ok(Target::Device),
+        Ok(found) => {
+            let end = behind_links(rt, path)?;
+            let there = fs::symlink_metadata(rt, end.as_str())?;
+            if !is_one_file(&found, &there) {
+                return Err(io::Error::from(ErrorKind::InvalidInput));
+            }
+            Ok(Target::Plain(end))
+        }
+        Err(error) if error.kind() == ErrorKind::NotFound => {
+            Ok(Target::Plain(behind_links(rt, path)?))
+        }
+        Err(error) => Err(error),
+    }
+}
+
+/// The path behind all links that a path leads through, whether or not a file is there.
+fn behind_links<R: Files<File = File> + AllocGlobal>(rt: &R, path: &str) -> io::Result<PathBuf> {
+    let mut at = PathBuf::from_str(rt.alloc(), path)?;
+    for _ in 0..=MOST_LINKS {
+        match fs::symlink_metadata(rt, at.as_str()) {
+            Ok(found) if found.is_symlink() => at = next_of(rt, &at)?,
+            Ok(_) => return Ok(at),
+            Err(error) if error.kind() == ErrorKind::NotFound => return Ok(at),
+            Err(error) => return Err(error),
+        }
+    }
+    Err(io::Error::from(ErrorKind::FilesystemLoop))
+}
+
+/// The path that a link has: a relative one counts from the link's folder.
+fn next_of<R: Files<File = File> + AllocGlobal>(rt: &R, link: &PathBuf) -> io::Result<PathBuf> {
+    let to = fs::read_link(rt, link.as_str())?;
+    match link.parent() {
+        Some(folder) => Ok(folder.join(rt.alloc(), to.as_str())?),
+        None => Ok(to),
+    }
+}
+
+/// The folder of a path, as it can be opened.
+pub(crate) fn folder_of(path: &PathBuf) -> &str {
+    match path.parent() {
+        Some(parent) if !parent.as_str().is_empty() => parent.as_str(),
+        _ => ".",
+    }
+}
