@@ -228,7 +228,7 @@ module _ {line : Line} {args : List Text} (is : IsLineOf line args) where
   line_fault =
       let held = (at_end goes.end).held in
       let right = defaults_right cityed_rules (settled cityed_rules held).rows
-      (refl, (refl, (refl, (refl, (refl, (refl, (refl, (refl, (refl, (refl, (refl, tt))))))))))) in
+      (refl, (refl, (refl, (refl, (refl, (refl, (refl, (refl, (refl, (refl, (refl, (refl, tt)))))))))))) in
       ap ending at_last ∙ rw (goes.end.rests.0, right) (or_no_fault _ ∙ or_no_fault _)
 
   found_at : (s : Slot) → found (id s) (rows args)

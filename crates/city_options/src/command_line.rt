@@ -35,8 +35,7 @@ pub(crate) const CHECK: &str = "check";
 pub(crate) const EXPLAIN: &str = "explain";
 
 const USAGE: &str = "\
-cityed [--decimals] [--workers N] [--watch K] [--output FILE [--wait SECONDS]] [--atomic] [--explain]
-              [MODEL SCRIPTS]
+cityed [--decimals] [--workers N] [--watch K] [--output FILE [--wait SECONDS]] [--atomic] [--explain] [MODEL SCRIPTS]
        cityed --check [--decimals] [--explain] MODEL [SCRIPTS]";
 
 const ABOUT: &str =

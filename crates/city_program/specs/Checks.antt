@@ -1,5 +1,5 @@
 -- The output of a check: a line for each fault of a model, and then for each of scripts.
-use Rattle.std.specs.Prelude.{◌≡◌, ◌≢◌, ℕ, Bool, true, false, List, [], ◌++◌, Option, Some, None, IfSome}
+use Rattle.std.specs.Prelude.{◌≡◌, ◌≢◌, ℕ, Bool, true, false, List, [], ◌∷◌, ◌++◌, take, Option, Some, None, IfSome}
 use Rattle.city_doc.specs.declared.fault.ReadFault.{ReadFault}
 use Rattle.city_doc.specs.document.Accepted as model
 use Rattle.city_scripts.specs.declared.fault.ScriptFault.{ScriptFault}
@@ -10,6 +10,7 @@ use Rattle.city_diagnostics.specs.ModelLines.{Tells}
 use Rattle.city_diagnostics.specs.ScriptLines.{TellsScript}
 use Rattle.city_serve.specs.Decimals.{IsGiven}
 use Rattle.city_serve.specs.Destinations.{Folder}
+use Rattle.city_serve.specs.Steps.{Step}
 
 -- the text to judge: if numbers of any form are taken, the one given to a run, and else the text itself
 abbrev pub IsJudged : Bool → List ℕ → List ℕ → Type 0
@@ -53,6 +54,15 @@ pub record AreCheckLines (decimals : Bool) (model : List ℕ) (scripts : Option 
 abbrev pub HasLines : Bool → List ℕ → Type 0
 HasLines true lines = lines ≢ []
 HasLines false lines = lines ≡ []
+
+-- the model is read, and then the scripts, if there are any
+abbrev pub reading_of : List ℕ → Option (List ℕ) → List Step
+reading_of model None = Step.Read model ∷ []
+reading_of model (Some scripts) = Step.Read model ∷ Step.Read scripts ∷ []
+
+-- some of the steps, from the first on
+abbrev pub AreFirstOf : List Step → List Step → Type 0
+AreFirstOf all steps = (n : ℕ) × (steps ≡ take n all)
 
 -- a property of the texts of these files, if they are known
 abbrev pub OfFiles : Folder → List ℕ → Option (List ℕ) → (List ℕ → Option (List ℕ) → Type 0) → Type 0

@@ -8,7 +8,7 @@ use Rattle.city_options.specs.declared.command_line.Asked.{Asked}
 use Rattle.city_options.specs.declared.command_line.LineFault.{LineFault}
 use Rattle.city_serve.specs.declared.fault.ServeFault.{ServeFault}
 use Rattle.city_program.specs.declared.status.Status.{Status}
-use Rattle.city_program.specs.Checks.{AreCheckLines, HasLines, OfFiles}
+use Rattle.city_program.specs.Checks.{AreCheckLines, AreFirstOf, HasLines, OfFiles, reading_of}
 use Rattle.city_options.specs.CommandLines.{IsName, Line, IsLineOf, AnswersNames, AnswersOptions, AsksForText}
 use Rattle.city_options.specs.CommandLines.{HasOptions, IsShown, MeetsUnknownOption}
 use Rattle.city_serve.specs.Destinations.{Folder, IsDelivered, IsDeliveryFault, IsLockFault}
@@ -73,9 +73,8 @@ HasOutputAndScripts _ = ⊥
 
 -- the files that are read for a request, in their order
 abbrev pub reading : Asked → List Step
-reading (Asked.Files options destination model scripts) = Step.Read model.now ∷ Step.Read scripts.now ∷ []
-reading (Asked.Check options model None) = Step.Read model.now ∷ []
-reading (Asked.Check options model (Some scripts)) = Step.Read model.now ∷ Step.Read scripts.now ∷ []
+reading (Asked.Files options destination model scripts) = reading_of model.now (Some scripts.now)
+reading (Asked.Check options model scripts) = reading_of model.now (option_map (λ t. t.now) scripts)
 reading _ = []
 
 -- the steps of a request that is done, once its output file is locked
@@ -122,10 +121,6 @@ IsAnswered s (Asked.Check options model scripts) seen withheld =
     (seen ≡ []) × (withheld ≡ false) × IsChecked s (Asked.Check options model scripts) false
 IsAnswered s (Asked.Text text) seen withheld =
     (seen ≡ []) × (withheld ≡ false) × (s.after ≡ s.before) × Appends s.old s.new (string_bytes text)
-
--- some of the steps, from the first on
-abbrev pub AreFirstOf : List Step → List Step → Type 0
-AreFirstOf all steps = (n : ℕ) × (steps ≡ take n all)
 
 -- the texts couldn't be read, or memory ran out for the lines of a check: nothing is written
 abbrev pub IsUnread : Streams → Asked → Bool → ServeFault → List Step → Type 0

@@ -4,7 +4,8 @@ ghost use Rattle.std.specs.Prelude.{◌≡◌, ◌⊎◌, true, List, ℕ, optio
 ghost use Rattle.std.specs.Io.KnownBytes.{Appends, Keeps};
 ghost use Rattle.city_serve.specs.declared.fault.ServeFault.{ServeFault};
 ghost use Rattle.city_program.specs.Checks.{AreCheckLines, AreModelLines, AreScriptsLines, HasLines, IsJudged};
-ghost use Rattle.city_program.specs.Checks.{OfFiles};
+ghost use Rattle.city_program.specs.Checks.{AreFirstOf, OfFiles, reading_of};
+ghost use Rattle.city_serve.specs.Steps.{Step, Takes};
 ghost use Rattle.city_serve.specs.Served.{IsDeviceFault};
 ghost use Rattle.city_serve.specs.ServedTexts.{AppendsSome};
 
@@ -33,12 +34,17 @@ pub(crate) fn check<F: TextFiles, W: Write>(
         OfFiles (F.text files.old) model.now (option_map (λ s. s.now) scripts.entry)
         (λ document commands. (lines : List ℕ) × AreCheckLines decimals document commands lines
         × (HasLines faulty lines × Appends (W.contents output.old.0) (W.contents output.new.0) lines))) }
-    ensures fault { IfErr result (λ f.
-        (IsDeviceFault true f × Keeps (W.contents output.old.0) (W.contents output.new.0))
+    ensures texts { F.text files.new ≡ F.text files.old }
+    ensures steps { OnOk result (Takes (F.steps files.old) (F.steps files.new)
+        (reading_of model.now (option_map (λ s. s.now) scripts.entry))) }
+    ensures fault { IfErr result (λ f. (steps : List Step) × Takes (F.steps files.old) (F.steps files.new) steps
+        × ((IsDeviceFault true f × Keeps (W.contents output.old.0) (W.contents output.new.0)
+        × AreFirstOf (reading_of model.now (option_map (λ s. s.now) scripts.entry)) steps)
         ⊎ ((f ≡ ServeFault.Write) × (output.new.1 ≡ true)
+        × (steps ≡ reading_of model.now (option_map (λ s. s.now) scripts.entry))
         × OfFiles (F.text files.old) model.now (option_map (λ s. s.now) scripts.entry)
         (λ document commands. (lines : List ℕ) × AreCheckLines decimals document commands lines
-        × AppendsSome (W.contents output.old.0) (W.contents output.new.0) lines))) }
+        × AppendsSome (W.contents output.old.0) (W.contents output.new.0) lines)))) }
 {
     let lines = all_lines(alloc, files, texts, decimals, model, scripts)?;
     if !write_output(output, lines.as_slice()) {
@@ -58,7 +64,12 @@ fn all_lines<F: TextFiles>(
 ) -> Result<Vec<u8>, ServeFault>
     ensures lines { IfOk result (λ v. OfFiles (F.text files.old) model.now (option_map (λ s. s.now) scripts.entry)
         (λ document commands. AreCheckLines decimals document commands v.items)) }
-    ensures fault { IfErr result (IsDeviceFault true) }
+    ensures texts { F.text files.new ≡ F.text files.old }
+    ensures steps { OnOk result (Takes (F.steps files.old) (F.steps files.new)
+        (reading_of model.now (option_map (λ s. s.now) scripts.entry))) }
+    ensures fault { IfErr result (λ f. IsDeviceFault true f × ((steps : List Step)
+        × Takes (F.steps files.old) (F.steps files.new) steps
+        × AreFirstOf (reading_of model.now (option_map (λ s. s.now) scripts.entry)) steps)) }
 {
     texts.document = Text::given(files.read(model)?);
     let mut lines = document_lines(alloc, decimals, &mut texts.document)?;

@@ -73,9 +73,6 @@ impl<'a> Folder<'a> {
 
 impl TextFiles for Folder<'_> {
     fn read(&mut self, path: &str) -> Result<Vec<u8>, ServeFault> {
-        if self.locked {
-            self.steps.add(" read");
-        }
         if word_after(self.habits, "without ") == Some(path) {
             return Err(ServeFault::Run(RunFault::OutOfMemory));
         }
@@ -85,6 +82,9 @@ impl TextFiles for Folder<'_> {
                 let mut device = Device::new(reader);
                 let read = read_text(self.alloc, &mut device);
                 self.why = device.failure();
+                if self.locked && read.is_ok() {
+                    self.steps.add(" read");
+                }
                 read
             }
             None => {

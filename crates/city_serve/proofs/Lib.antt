@@ -9,3 +9,4 @@ pub mod Prelude
 mod Replacing
 mod Reported
 mod Serving
+mod Taken

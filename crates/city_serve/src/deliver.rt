@@ -1,6 +1,6 @@
 //! Writes the output of a run to its destination.
 ghost use Rattle.std.specs.Prelude.{◌≡◌, ◌⊎◌, ◌≤◌, true, List, [], ◌∷◌, length, take, drop, Some, IfOk, IfErr, IfSome};
-ghost use Rattle.std.specs.Prelude.{IsNone, IsSome, OnOk};
+ghost use Rattle.std.specs.Prelude.{IsNone, IsSome, OnOk, option_map};
 ghost use Rattle.std.specs.List.{list_any};
 ghost use Rattle.std.specs.Io.KnownBytes.{Appends};
 ghost use Rattle.city_serve.specs.declared.fault.ServeFault.{ServeFault};
@@ -9,7 +9,7 @@ ghost use Rattle.city_serve.specs.ServedTexts.{AppendsSome};
 ghost use Rattle.city_serve.specs.Destinations.{outcome_failed, has_failed, is_withheld, bytes_to_writer};
 ghost use Rattle.city_serve.specs.Destinations.{BreaksOff, IsBrokenOff, IsPlaced, IsReplaced};
 ghost use Rattle.city_serve.specs.Steps.{Step, Takes, delivering, replacing};
-ghost use Rattle.city_serve.specs.internal.Placing.{IsPut, IsUnplaced};
+ghost use Rattle.city_serve.specs.internal.Placing.{IsPut, IsSent, IsUnplaced};
 
 use crate::device::Device;
 use crate::fault::ServeFault;
@@ -57,16 +57,54 @@ pub(crate) fn deliver<F: OutputFiles, W: Write>(
         × Takes (F.steps files.old) (F.steps files.new) steps) }
 {
     let withheld = destination.atomic && any_failed(output.ends.as_slice());
-    let (report, model) = output.bytes.as_slice().split_at(output.report);
-    match destination.file {
-        _ if withheld => write_all(writer, report)?,
-        None => write_all(writer, output.bytes.as_slice())?,
-        Some(path) => replace(files, seed, path, model, writer, report)?,
-    }
+    let bytes = output.bytes.as_slice();
+    send(
+        files,
+        seed,
+        destination.file,
+        withheld,
+        writer,
+        bytes,
+        output.report,
+    )?;
     Ok(Delivered {
         seen: output.seen,
         withheld,
     })
+}
+
+/// Sends the report, the bytes before a place, to the writer, and the model behind it to its file,
+/// if there is one, or after the report. A model that is withheld goes nowhere.
+fn send<F: OutputFiles, W: Write>(
+    files: &mut F,
+    seed: u64,
+    file: Option<&str>,
+    withheld: bool,
+    writer: &mut Device<W>,
+    bytes: &[u8],
+    at: usize,
+) -> Result<(), ServeFault>
+    requires { at ≤ length bytes.now }
+    ensures sent { OnOk result (IsSent (option_map (λ s. s.now) file.entry) withheld
+        (take at bytes.now) (drop at bytes.now) (F.text files.old) (F.text files.new)
+        (W.contents writer.old.0) (W.contents writer.new.0) writer.old.1 writer.new.1) }
+    ensures steps { OnOk result (Takes (F.steps files.old) (F.steps files.new)
+        (delivering (option_map (λ s. s.now) file.entry) withheld)) }
+    ensures fault { IfErr result (λ f. (steps : List Step)
+        × IsBrokenOff (option_map (λ s. s.now) file.entry) withheld
+        (take at bytes.now) (drop at bytes.now)
+        (F.text files.old) (F.text files.new) (F.have_failed files.new)
+        (W.contents writer.old.0) (W.contents writer.new.0) writer.new.1 steps f
+        × Takes (F.steps files.old) (F.steps files.new) steps) }
+{
+    let (report, model) = bytes.split_at(at);
+    if withheld {
+        return write_all(writer, report);
+    }
+    match file {
+        None => write_all(writer, bytes),
+        Some(path) => replace(files, seed, path, model, writer, report),
+    }
 }
 
 /// Writes all bytes and flushes, or is the fault `Write`.

@@ -109,7 +109,8 @@ impl FileLock {
     /// Removes the lock's file, and frees the lock. If the first is refused, the next run takes the
     /// file that is left.
     pub fn release<R: Files<File = File>>(self, rt: &R) {
-        if let Some((file, name)) = self.held {
+        let FileLock { target: _, held } = self;
+        if let Some((file, name)) = held {
             let _ = fs::remove_file(rt, name.as_str());
             drop(file);
         }

@@ -1,6 +1,5 @@
 //! The files of a runtime.
-ghost use Rattle.std.specs.Prelude.{◌≡◌, ◌≢◌, true, false, OnOk, IfErr};
-ghost use Rattle.city_serve.specs.declared.fault.ServeFault.{ServeFault};
+ghost use Rattle.std.specs.Prelude.{◌≡◌, ◌≢◌, true, false, is_ok};
 
 use crate::closed_streams::fill_closed_streams;
 use crate::fault::ServeFault;
@@ -42,6 +41,7 @@ impl<'a, R> RuntimeFiles<'a, R> {
 impl<R: Files<File = File> + AllocGlobal + Clock> RuntimeFiles<'_, R> {
     /// Whether a step succeeded. If not, keeps the failure and why.
     fn noted(&mut self, step: io::Result<()>) -> bool
+        ensures done { result ≡ is_ok step }
         ensures unfailed { result ≡ true → self.new.failed ≡ self.old.failed }
         ensures failed { result ≢ true → self.new.failed ≡ true }
     {
