@@ -20,13 +20,14 @@ import sys
 import tempfile
 import threading
 
-from statuses import DOCUMENT, LEFT, LINES, SCRIPTS
+from statuses import DOCUMENT, LEFT, SCRIPTS
+from statuses import NAMED as NAMED_TEXT
+from statuses import REPORT as REPORT_TEXT
 
 LIMIT = 60
-MODEL, REPORT = LEFT.encode(), (LINES[0] + "0}\n" + LINES[1] + "1}\n").encode()
+MODEL, REPORT, NAMED = LEFT.encode(), REPORT_TEXT.encode(), NAMED_TEXT.encode()
 OLD = DOCUMENT.encode()
 UNREAD, UNWRITTEN = b"cityed: cannot read\n", b"cityed: cannot write\n"
-NAMED = b"error: --output names SCRIPTS\n\nFor more information, try '--help'.\n"
 REFUSED = '[{"name":"s","commands":[{"delete":"z"},"commit"]}]'
 OTHER_USER = 65534
 
@@ -53,8 +54,12 @@ class Place:
             file.write(text)
 
     def read(self, name):
-        with open(self.path(name), "rb") as file:
-            return file.read()
+        """What a file has. None if it isn't there."""
+        try:
+            with open(self.path(name), "rb") as file:
+                return file.read()
+        except FileNotFoundError:
+            return None
 
     def names(self):
         return sorted(os.path.join(at, name) for at, folders, files in os.walk(os.fsencode(self.root)) for name in folders + files)
