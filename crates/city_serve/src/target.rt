@@ -21,6 +21,32 @@ pub(crate) fn is_one_file(one: &Metadata, other: &Metadata) -> bool {
     one.dev() == other.dev() && one.ino() == other.ino()
 }
 
+/// Whether a path leads to the place of a plain file: the same name in the same folder, whatever file
+/// stands there. If a link can't be followed or a folder not looked at, it doesn't.
+pub(crate) fn leads_to_place<R: Files<File = File> + AllocGlobal>(
+    rt: &R,
+    path: &str,
+    place: &PathBuf,
+) -> bool {
+    match target_of(rt, path) {
+        Ok(Target::Plain(end)) => {
+            end.file_name() == place.file_name() && has_folder_of(rt, &end, place)
+        }
+        _ => false,
+    }
+}
+
+/// Whether two paths are of one folder.
+fn has_folder_of<R: Files<File = File>>(rt: &R, one: &PathBuf, other: &PathBuf) -> bool {
+    match (
+        fs::metadata(rt, folder_of(one)),
+        fs::metadata(rt, folder_of(other)),
+    ) {
+        (Ok(one), Ok(other)) => is_one_file(&one, &other),
+        _ => false,
+    }
+}
+
 /// What a path leads to. Refused for a folder, and where a link can't be followed.
 ///
 /// Links are followed one by one, by their own texts: no path of the working folder is asked for,
