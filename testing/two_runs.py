@@ -9,6 +9,7 @@ while a run waits for its scripts. Nothing may be left beside the file. Prints a
 cases, and ends at the first other answer with status 1.
 """
 import argparse
+import errno
 import itertools
 import json
 import os
@@ -153,7 +154,7 @@ def many(program, folder, size, count):
         place = Place(folder, size, there)
         pick = [place.names[(turn + k * (names - 1)) % len(place.names)] for k in range(size)]
         runs = [begin(program, place, 0, pick[0], way, wait, pipe=behind)]
-        feed = open(place.pipe(0), "wb") if behind else None  # it opens once the first run does, which has read the model
+        feed = opened(place.pipe(0), runs[0].process) if behind else None
         runs += [begin(program, place, number, pick[number], way, wait) for number in range(1, size)]
         if feed:
             if not wait and [run.end() for run in runs[1:]] != [(1, b"", IN_USE)] * (size - 1):
@@ -179,8 +180,25 @@ def triples(program, folder, given):
 def holding(program, place, *words):
     """A run that has read the model, and waits for its scripts."""
     run = Run(program, place, [*words, place.pipe(0)])
-    with open(place.pipe(0), "wb") as feed:
+    with opened(place.pipe(0), run.process) as feed:
         yield run, feed
+
+
+def opened(pipe, process):
+    """The pipe of a process, once that reads from it: by then it has read the model."""
+    for _ in range(LIMIT * 500):
+        try:
+            fd = os.open(pipe, os.O_WRONLY | os.O_NONBLOCK)
+        except OSError as error:
+            if error.errno != errno.ENXIO:
+                raise
+        else:
+            os.set_blocking(fd, True)
+            return os.fdopen(fd, "wb")
+        if process.poll() is not None:
+            raise Wrong("ended before its scripts", process.args, process.communicate())
+        time.sleep(0.002)
+    raise Wrong("never reads its scripts", process.args)
 
 
 def nothing_read(program, folder, _given):
@@ -337,7 +355,7 @@ def others(program, folder, _given):
         run = subprocess.Popen(
             words, cwd=place.root, stdin=stdin or subprocess.DEVNULL, stdout=subprocess.PIPE, stderr=subprocess.PIPE
         )
-        with open(place.pipe(0), "wb") as feed:
+        with opened(place.pipe(0), run) as feed:
             change(place.city)
             before, beside = state(place.city), sorted(os.listdir(place.home))
             feed.write(scripts(0))
