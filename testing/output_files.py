@@ -13,6 +13,7 @@ import os
 import pty
 import resource
 import select
+import shutil
 import signal
 import stat
 import subprocess
@@ -20,15 +21,13 @@ import sys
 import tempfile
 import threading
 
-from statuses import DOCUMENT, LEFT, SCRIPTS
-from statuses import NAMED as NAMED_TEXT
-from statuses import REPORT as REPORT_TEXT
+import statuses
+from statuses import REFUSED, SCRIPTS
 
 LIMIT = 60
-MODEL, REPORT, NAMED = LEFT.encode(), REPORT_TEXT.encode(), NAMED_TEXT.encode()
-OLD = DOCUMENT.encode()
+OLD, MODEL, REPORT = (text.encode() for text in (statuses.DOCUMENT, statuses.LEFT, statuses.REPORT))
+REFUSED_REPORT, NAMED = statuses.REFUSED_LINE.encode(), statuses.NAMED.encode()
 UNREAD, UNWRITTEN = b"cityed: cannot read\n", b"cityed: cannot write\n"
-REFUSED = '[{"name":"s","commands":[{"delete":"z"},"commit"]}]'
 OTHER_USER = 65534
 
 
@@ -62,7 +61,8 @@ class Place:
             return None
 
     def names(self):
-        return sorted(os.path.join(at, name) for at, folders, files in os.walk(os.fsencode(self.root)) for name in folders + files)
+        walk = os.walk(os.fsencode(self.root))
+        return sorted(os.path.join(at, name) for at, folders, files in walk for name in folders + files)
 
     def run(self, program, *words, text=b"", before=None, **more):
         """Status, output and standard error."""
@@ -108,11 +108,7 @@ def closed(program, folder):
         edits = (REFUSED if refused else SCRIPTS).encode()
         text = {"input": OLD + b"\n" + edits, "scripts": edits}.get(way, b"")
         names = place.names()
-        if refused:
-            line = b'{"at":0,"cause":"NoObject","id":"z","name":"s","outcome":"refused","replies":[],"script":0,"since":0}\n'
-            report, left = line, OLD + b"\n"
-        else:
-            report, left = REPORT, MODEL
+        report, left = (REFUSED_REPORT, OLD + b"\n") if refused else (REPORT, MODEL)
         if 0 in numbers and way in ("input", "scripts"):
             status, output, error, written = 1, b"", UNREAD, False
         elif 1 in numbers:
@@ -141,7 +137,8 @@ def without_output(program, folder):
         place = Place(folder)
         words = {"files": ["M", "S"], "check": ["--check", "M", "S"], "help": ["--version"]}.get(way, [])
         names = place.names()
-        told = place.run(program, *words, text=OLD + b"\n" + SCRIPTS.encode() if way == "input" else b"", before=closing(numbers))
+        text = OLD + b"\n" + SCRIPTS.encode() if way == "input" else b""
+        told = place.run(program, *words, text=text, before=closing(numbers))
         output = {"check": b"", "help": b"cityed 0.1.0\n"}.get(way, REPORT + MODEL)
         if 0 in numbers and way == "input":
             wanted = (1, b"", UNREAD)
@@ -211,7 +208,8 @@ def on_terminal(program, place):
 def links(program, folder):
     """Each link stays one, and what it leads to has the model, whether or not it was there."""
     count = 0
-    for there, text in itertools.product((True, False), ("relative", "absolute", "up", "chain", "folder", "dotted", "long")):
+    texts = ("relative", "absolute", "up", "chain", "folder", "dotted", "long")
+    for there, text in itertools.product((True, False), texts):
         place = Place(folder)
         new = "sub/new"
         if there:
@@ -383,7 +381,8 @@ def owners(program, folder):
         if (found.st_uid, found.st_gid, stat.S_IMODE(found.st_mode)) != (uid, gid, mode):
             raise Wrong("owner", oct(mode), uid, gid, found)
         count += 1
-    os.chmod(folder, 0o755)  # other users may look it up
+    os.chmod(folder, 0o755)  # other users may look it up, and run the program in it
+    program = shutil.copy(program, folder)
     modes = (0o644, 0o4755, 0o2755, 0o6755, 0o1644)
     for mode, uid, gid in itertools.product(modes, (0, OTHER_USER), (0, 7, OTHER_USER)):
         place = Place(folder)
@@ -433,7 +432,8 @@ def scripts_named(program, folder):
     os.link(place.path("S"), place.path("hard"))
     os.mkfifo(place.path("pipe"))
     names, count = place.names(), 0
-    pairs = [("S", "S"), ("./S", "S"), ("link", "S"), ("S", "chain"), (place.path("S"), "S"), ("hard", "S"), ("no", "no")]
+    pairs = [("S", "S"), ("./S", "S"), ("link", "S"), ("S", "chain"), ("hard", "S"), ("no", "no")]
+    pairs.append((place.path("S"), "S"))
     for (output, edits), more in itertools.product(pairs, ([], ["--atomic"], ["--wait", "2"])):
         told = place.run(program, "-o", output, *more, "no-model", edits)
         hold(place, told, (2, b"", NAMED), {"S": SCRIPTS.encode()}, names, output, edits)

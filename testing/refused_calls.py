@@ -128,7 +128,8 @@ class Replaced:
 
     def __init__(self, folder, document, scripts):
         self.place = tempfile.mkdtemp(dir=folder)
-        self.city, self.edits, self.link = (os.path.join(self.place, name) for name in ("city.json", "edits.json", "link"))
+        names = ("city.json", "edits.json", "link")
+        self.city, self.edits, self.link = (os.path.join(self.place, name) for name in names)
         for name, text in ((self.city, document), (self.edits, scripts)):
             with open(name, "wb") as file:
                 file.write(text)
@@ -163,8 +164,8 @@ NEW, LOCK = "city.json.cityed-", "city.json.cityed-lock"
 
 def replace_files(program, folder, document, scripts):
     """Refuses the Nth step of replacing the model's own file, by its name and through a link, and kills the program
-    before it, for each N until a run meets none. The file is the old one or the new one, whole; what is left over beside
-    it has a name of its own, and keeps no later run from it."""
+    before it, for each N until a run meets none. The file is the old one or the new one, whole; what is left over
+    beside it has a name of its own, and keeps no later run from it."""
     wanted = second.run(document, scripts)[0]
     cut = wanted.rindex(b"\n", 0, -1) + 1
     report, model = wanted[:cut], wanted[cut:]

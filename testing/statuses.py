@@ -80,6 +80,7 @@ NO_WORKERS = "error: --workers takes a number from 1 to 16" + USAGE
 NO_VIEWERS = "error: --watch takes a number from 0 to 4" + USAGE
 NO_SECONDS = "error: --wait takes a number of seconds from 1 to 86400" + USAGE
 NO_OUTPUT = "error: --wait takes an --output to wait for" + USAGE
+TWO_WAITS = "error: the argument '--wait <SECONDS>' cannot be used multiple times" + USAGE
 NAMED = "error: --output names SCRIPTS\n\nFor more information, try '--help'.\n"
 NO_SCRIPTS = "error: a MODEL was given without SCRIPTS" + USAGE
 TIP = "\n\n  tip: to pass '-w' as a value, use '-- -w'"
@@ -149,7 +150,7 @@ CALLS = [
     (["--wait", "x"], "", 2, "", NO_SECONDS),
     (["--wait", "1"], "", 2, "", NO_OUTPUT),
     (["--wait", "86400", "MODEL", "SCRIPTS"], "", 2, "", NO_OUTPUT),
-    (["--wait", "1", "--wait", "1", "-o", "NEW"], "", 2, "", "error: the argument '--wait <SECONDS>' cannot be used multiple times" + USAGE),
+    (["--wait", "1", "--wait", "1", "-o", "NEW"], "", 2, "", TWO_WAITS),
     (["--check", "--wait", "1", "MODEL"], "", 2, "", "error: --check writes no model, and takes no --wait" + USAGE),
     (["--check", "-o", "NEW", "MODEL"], "", 2, "", "error: --check writes no model, and takes no --output" + USAGE),
     (["-o", "SCRIPTS", "MODEL", "SCRIPTS"], "", 2, "", NAMED),

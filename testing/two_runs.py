@@ -230,7 +230,7 @@ def nothing_read(program, folder, _given):
 
 
 def killed(program, folder, _given):
-    """A run that is killed frees its lock, also for one that waits. The lock's file that it leaves is taken by the next."""
+    """A run that is killed frees its lock, also for one that waits. The next one takes the lock's file that it leaves."""
     count = 0
     for wait, name in itertools.product((0, 60), ("home/city.json", "link")):
         place = Place(folder, 2)
@@ -337,7 +337,8 @@ def state(path):
 def others(program, folder, _given):
     """A file that another program changes meanwhile stays as that one left it, if it was read, and has other bytes."""
     count = 0
-    ways = list(itertools.product(CHANGES, ("model", "hard link", "linked", "standard input", "another"), (False, True)))
+    sources = ("model", "hard link", "linked", "standard input", "another")
+    ways = list(itertools.product(CHANGES, sources, (False, True)))
     places = [Place(folder, 1) for _ in ways]
     time.sleep(3.5)  # by now a later change of these files gets another time
     for (kind, way, fresh), place in zip(ways, places):
@@ -384,9 +385,8 @@ def hard_links(program, folder, _given):
         place = Place(folder, 2)
         names = [place.city, os.path.join(place.home, "hard.json")]
         os.link(*names)
-        runs = [
-            Run(program, place, ["-o", names[number], names[number - turn % 2], place.edits(number)]) for number in (0, 1)
-        ]
+        words = [["-o", names[number], names[number - turn % 2], place.edits(number)] for number in (0, 1)]
+        runs = [Run(program, place, it) for it in words]
         ends = [run.end() for run in runs]
         texts = [read(name) for name in names]
         for number, end in enumerate(ends):
