@@ -1,5 +1,5 @@
 //! A text that was read from the output file, to know it again.
-use crate::target::{is_one_file, leads_to_place};
+use crate::target::{is_file_of, leads_to_place};
 use std::fs::{self, File, Files, Metadata};
 use std::hash::{DefaultHasher, Hasher};
 use std::io::{self, ErrorKind, Read};
@@ -110,15 +110,6 @@ impl SeenText {
             }
         }
         Ok(false)
-    }
-}
-
-/// Whether this is the file of a path.
-fn is_file_of<R: Files<File = File>>(rt: &R, found: &Metadata, path: &PathBuf) -> io::Result<bool> {
-    match fs::metadata(rt, path.as_str()) {
-        Ok(other) => Ok(is_one_file(found, &other)),
-        Err(error) if error.kind() == ErrorKind::NotFound => Ok(false),
-        Err(error) => Err(error),
     }
 }
 

@@ -7,6 +7,9 @@ use std::path::PathBuf;
 /// How many links are followed, as the system does.
 const MOST_LINKS: u32 = 40;
 
+/// How often a path is followed anew, since another run replaces its file meanwhile.
+const MOST_TURNS: u32 = 100;
+
 /// What an output file is.
 #[derive(Drop)]
 pub(crate) enum Target {
@@ -58,20 +61,47 @@ pub(crate) fn target_of<R: Files<File = File> + AllocGlobal>(
     if path.is_empty() {
         return Err(io::Error::from(ErrorKind::NotFound));
     }
+    for _ in 0..MOST_TURNS {
+        if let Some(target) = target_at_once(rt, path)? {
+            return Ok(target);
+        }
+    }
+    Err(io::Error::from(ErrorKind::InvalidInput))
+}
+
+/// What a path leads to. `None` if the file at the end of its links isn't the path's: another run has
+/// replaced it meanwhile, or the links' texts aren't the way to it.
+fn target_at_once<R: Files<File = File> + AllocGlobal>(
+    rt: &R,
+    path: &str,
+) -> io::Result<Option<Target>> {
     match fs::metadata(rt, path) {
         Ok(found) if found.is_dir() => Err(io::Error::from(ErrorKind::IsADirectory)),
-        Ok(found) if !found.is_file() => Ok(Target::Device),
+        Ok(found) if !found.is_file() => Ok(Some(Target::Device)),
         Ok(found) => {
             let end = behind_links(rt, path)?;
-            let there = fs::symlink_metadata(rt, end.as_str())?;
-            if !is_one_file(&found, &there) {
-                return Err(io::Error::from(ErrorKind::InvalidInput));
+            if is_file_of(rt, &found, &end)? {
+                Ok(Some(Target::Plain(end)))
+            } else {
+                Ok(None)
             }
-            Ok(Target::Plain(end))
         }
         Err(error) if error.kind() == ErrorKind::NotFound => {
-            Ok(Target::Plain(behind_links(rt, path)?))
+            Ok(Some(Target::Plain(behind_links(rt, path)?)))
         }
+        Err(error) => Err(error),
+    }
+}
+
+/// Whether this is the file of a path, which is no link.
+pub(crate) fn is_file_of<R: Files<File = File>>(
+    rt: &R,
+    found: &Metadata,
+    path: &PathBuf,
+) -> io::Result<bool> {
+    match fs::symlink_metadata(rt, path.as_str()) {
+        Ok(there) => Ok(is_one_file(found, &there)),
+        Err(error) if error.kind() == ErrorKind::NotFound => Ok(false),
         Err(error) => Err(error),
     }
 }
