@@ -9,6 +9,7 @@
  *                       to follow a link, to lock a file, to set its owner, group or mode, to write to it, to sync it
  *                       or its folder, to rename it, to remove it
  *   KILL_STEP=N         the process is killed before that step
+ *   REPLACE=F           once a file of the name F is opened to be read, F.other takes its name
  *   SHORT=1             a read or a write moves one byte at most
  *   INTERRUPT=1         every other read and write is interrupted
  *   REFUSED_FD=F        a byte is written there for each refusal
@@ -21,6 +22,7 @@
 #include <signal.h>
 #include <stdarg.h>
 #include <stdatomic.h>
+#include <stdio.h>
 #include <stdlib.h>
 #include <string.h>
 #include <sys/file.h>
@@ -120,7 +122,14 @@ int open(const char *path, int flags, ...) {
     mode_t mode = flags & O_CREAT ? va_arg(more, mode_t) : 0;
     va_end(more);
     if (refuses_step()) return errno = flags & O_CREAT ? EACCES : EIO, -1;
-    return REAL(real_open, "open")(path, flags, mode);
+    int fd = REAL(real_open, "open")(path, flags, mode);
+    const char *replaced = getenv("REPLACE");
+    char other[4096];
+    if (replaced && !strcmp(replaced, path) && snprintf(other, sizeof other, "%s.other", path) < (int)sizeof other) {
+        REAL(real_rename, "rename")(other, path);
+        if (told >= 0) REAL(real_write, "write")(told, "!", 1);
+    }
+    return fd;
 }
 
 int statx(int folder, const char *path, int flags, unsigned mask, struct statx *found) {

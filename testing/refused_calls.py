@@ -255,6 +255,23 @@ def refuse_reads_of_replaced(program, folder, document, scripts, report):
             raise Wrong(arguments, "read", number, it.left(), it.others())
 
 
+def replaced_once_opened(program, folder, document, scripts):
+    """Another program replaces the model's file between its opening and its first look: it stays as that one left it."""
+    report = second.run(document, scripts)[0]
+    report = report[: report.rindex(b"\n", 0, -1) + 1]
+    names = ("city.json", "./city.json")
+    for name, is_link in itertools.product(names, (False, True)):
+        it = Replaced(folder, document, scripts)
+        model, other = os.path.join(it.place, name), document + b" "
+        with open(model + ".other", "wb") as file:
+            file.write(other)
+        arguments = ["-o", it.link if is_link else it.city, model, it.edits]
+        told = program.answer(arguments, b"", REPLACE=model)
+        if told != (True, 1, report, b"cityed: model changed\n") or it.left() != other or it.others():
+            raise Wrong(arguments, *told, it.left())
+    return 2 * len(names)
+
+
 def go_on(program, document, scripts):
     """Reads and writes that are short or interrupted change nothing."""
     text, wanted = document.replace(b"\n", b" ") + b"\n" + scripts, second.run(document, scripts)[0]
@@ -289,6 +306,8 @@ def main():
                 " refused",
                 flush=True,
             )
+            told = replaced_once_opened(program, folder, document, scripts)
+            print(f"replaced by another program once opened: {told} as they should be", flush=True)
             print(f"short and interrupted: {go_on(program, document, scripts)} ways agree", flush=True)
         except Wrong as wrong:
             print("WRONG:", *(str(part)[:800] for part in wrong.args))

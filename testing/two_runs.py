@@ -250,6 +250,28 @@ def killed(program, folder, _given):
     return f"{count} runs"
 
 
+def turned(program, folder, _given):
+    """A link is turned to another file while a run waits for the first: its edit is in the second, and nothing is left."""
+    for name in ("link", "chain"):
+        place = Place(folder, 2)
+        other = os.path.join(place.root, "other.json")
+        write(other, model(5))
+        with holding(program, place, "-o", "link", "link") as (first, feed):
+            second = begin(program, place, 1, name, "files", 60)
+            time.sleep(0.1)
+            os.symlink("other.json", os.path.join(place.root, "new"))
+            os.rename(os.path.join(place.root, "new"), os.path.join(place.root, "link"))
+            time.sleep(0.1)
+            feed.write(scripts(0))
+        ends, texts = [first.end(), second.end()], [read(place.city), read(other)]
+        if ends != [(0, report(0), b""), (0, report(1), b"")] or texts != [model(0), model(1, 5)]:
+            raise Wrong(name, ends, texts)
+        place.hold_nothing_left(name)
+        if any(LOCK in it for it in os.listdir(place.root)):
+            raise Wrong(name, os.listdir(place.root))
+    return "2 runs"
+
+
 def odd_locks(program, folder, _given):
     """What stands under the name of the lock's file: an older file is taken, and all else keeps the run from FILE."""
     kinds = {
@@ -402,7 +424,7 @@ def hard_links(program, folder, _given):
     return "10 pairs"
 
 
-KINDS = (pairs, triples, nothing_read, killed, odd_locks, others, hard_links)
+KINDS = (pairs, triples, nothing_read, killed, turned, odd_locks, others, hard_links)
 
 
 def main():
