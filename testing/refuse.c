@@ -5,9 +5,11 @@
  *   REFUSE_THREAD=N     the Nth call of pthread_create is refused
  *   REFUSE_READ=N       the Nth read fails
  *   REFUSE_WRITE=N      the Nth write to standard output fails
- *   REFUSE_STEP=N       the Nth step of replacing a file fails: to open a file that is written, to set its mode, to
- *                       write to it, to sync it or its folder, to rename it, to remove it
+ *   REFUSE_STEP=N       the Nth step of replacing a file fails: to open a file or a folder, to look at what a name has,
+ *                       to follow a link, to lock a file, to set its owner, group or mode, to write to it, to sync it
+ *                       or its folder, to rename it, to remove it
  *   KILL_STEP=N         the process is killed before that step
+ *   REPLACE=F           once a file of the name F is opened to be read, F.other takes its name
  *   SHORT=1             a read or a write moves one byte at most
  *   INTERRUPT=1         every other read and write is interrupted
  *   REFUSED_FD=F        a byte is written there for each refusal
@@ -20,8 +22,10 @@
 #include <signal.h>
 #include <stdarg.h>
 #include <stdatomic.h>
+#include <stdio.h>
 #include <stdlib.h>
 #include <string.h>
+#include <sys/file.h>
 #include <sys/stat.h>
 #include <unistd.h>
 
@@ -43,6 +47,10 @@ static int (*real_create)(pthread_t *, const pthread_attr_t *, void *(*)(void *)
 static ssize_t (*real_read)(int, void *, size_t);
 static ssize_t (*real_write)(int, const void *, size_t);
 static int (*real_open)(const char *, int, ...);
+static int (*real_statx)(int, const char *, int, unsigned, struct statx *);
+static ssize_t (*real_readlink)(const char *, char *, size_t);
+static int (*real_flock)(int, int);
+static int (*real_chown)(const char *, uid_t, gid_t);
 static int (*real_fchmod)(int, mode_t);
 static int (*real_fsync)(int);
 static int (*real_rename)(const char *, const char *);
@@ -113,8 +121,35 @@ int open(const char *path, int flags, ...) {
     va_start(more, flags);
     mode_t mode = flags & O_CREAT ? va_arg(more, mode_t) : 0;
     va_end(more);
-    if (flags & O_CREAT && refuses_step()) return errno = EACCES, -1;
-    return REAL(real_open, "open")(path, flags, mode);
+    if (refuses_step()) return errno = flags & O_CREAT ? EACCES : EIO, -1;
+    int fd = REAL(real_open, "open")(path, flags, mode);
+    const char *replaced = getenv("REPLACE");
+    char other[4096];
+    if (replaced && !strcmp(replaced, path) && snprintf(other, sizeof other, "%s.other", path) < (int)sizeof other) {
+        REAL(real_rename, "rename")(other, path);
+        if (told >= 0) REAL(real_write, "write")(told, "!", 1);
+    }
+    return fd;
+}
+
+int statx(int folder, const char *path, int flags, unsigned mask, struct statx *found) {
+    if (refuses_step()) return errno = EIO, -1;
+    return REAL(real_statx, "statx")(folder, path, flags, mask, found);
+}
+
+ssize_t readlink(const char *path, char *into, size_t size) {
+    if (refuses_step()) return errno = EIO, -1;
+    return REAL(real_readlink, "readlink")(path, into, size);
+}
+
+int flock(int fd, int operation) {
+    if (refuses_step()) return errno = ENOLCK, -1;
+    return REAL(real_flock, "flock")(fd, operation);
+}
+
+int chown(const char *path, uid_t owner, gid_t group) {
+    if (refuses_step()) return errno = EPERM, -1;
+    return REAL(real_chown, "chown")(path, owner, group);
 }
 
 int fchmod(int fd, mode_t mode) {

@@ -121,58 +121,155 @@ def withhold(program, document):
             return counts
 
 
+class Replaced:
+    """A model's own file that is replaced, and the scripts, in a folder of their own."""
+
+    OWNER = (1, 7, 0o6640) if os.geteuid() == 0 else (os.getuid(), os.getgid(), 0o640)
+
+    def __init__(self, folder, document, scripts):
+        self.place = tempfile.mkdtemp(dir=folder)
+        names = ("city.json", "edits.json", "link")
+        self.city, self.edits, self.link = (os.path.join(self.place, name) for name in names)
+        for name, text in ((self.city, document), (self.edits, scripts)):
+            with open(name, "wb") as file:
+                file.write(text)
+        os.symlink("city.json", self.link)
+        owner, group, mode = self.OWNER
+        os.chown(self.city, owner, group)
+        os.chmod(self.city, mode)
+
+    def left(self):
+        with open(self.city, "rb") as file:
+            return file.read()
+
+    def others(self):
+        """What is beside the file, by its ending: the digits of a new file are left out."""
+        names = set(os.listdir(self.place)) - {"city.json", "edits.json", "link"}
+        return sorted(name.rstrip("0123456789abcdef") if not name.endswith("lock") else name for name in names)
+
+    def hold_owner(self, *told):
+        """Owner, group and mode are the old ones; where one isn't, no bit lends its rights."""
+        found = os.stat(self.city)
+        owner, group, mode = self.OWNER
+        kept = (found.st_uid, found.st_gid) == (owner, group)
+        if found.st_mode & 0o7777 != (mode if kept else mode & 0o1777):
+            raise Wrong("owner and mode", found, *told)
+        if not os.path.islink(self.link):
+            raise Wrong("no link any more", *told)
+        return kept
+
+
+NEW, LOCK = "city.json.cityed-", "city.json.cityed-lock"
+
+
 def replace_files(program, folder, document, scripts):
-    """Refuses the Nth step of replacing the model's own file, and kills the program before it, for each N until a run
-    meets none. The file is the old one or the new one, whole; what is left over beside it has a name of its own."""
+    """Refuses the Nth step of replacing the model's own file, by its name and through a link, and kills the program
+    before it, for each N until a run meets none. The file is the old one or the new one, whole; what is left over
+    beside it has a name of its own, and keeps no later run from it."""
     wanted = second.run(document, scripts)[0]
     cut = wanted.rindex(b"\n", 0, -1) + 1
     report, model = wanted[:cut], wanted[cut:]
-    counts = {"refused": 0, "killed": 0, "new": 0}
-    for way in ("REFUSE_STEP", "KILL_STEP"):
+    counts = {"refused": 0, "killed": 0, "new": 0, "went on": 0}
+    for way, is_link in itertools.product(("REFUSE_STEP", "KILL_STEP"), (False, True)):
         for number in itertools.count(1):
-            place = tempfile.mkdtemp(dir=folder)
-            city, edits = os.path.join(place, "city.json"), os.path.join(place, "edits.json")
-            for name, text in ((city, document), (edits, scripts)):
-                with open(name, "wb") as file:
-                    file.write(text)
-            os.chmod(city, 0o640)
-            arguments = ["--output", city, city, edits]
+            it = Replaced(folder, document, scripts)
+            arguments = ["--output", it.link if is_link else it.city, it.city, it.edits]
             refused, status, output, error = program.answer(arguments, b"", **{way: str(number)})
-            with open(city, "rb") as file:
-                left = file.read()
-            others = sorted(set(os.listdir(place)) - {"city.json", "edits.json"})
-            told = (status, output, error)
-            if left not in (document, model) or os.stat(city).st_mode & 0o777 != 0o640:
+            left, others, told = it.left(), it.others(), (status, output, error)
+            if left not in (document, model):
                 raise Wrong(arguments, way, number, "file", told, left)
-            if any(not name.startswith("city.json.cityed-") for name in others) or len(others) > 1:
-                raise Wrong(arguments, way, number, "left over", others)
+            kept = it.hold_owner(way, number, told)
             if not refused:
-                if told != (0, report, b"") or left != model or others:
-                    raise Wrong(arguments, way, number, *told)
+                if told != (0, report, b"") or left != model or others or not kept:
+                    raise Wrong(arguments, way, number, *told, others)
                 break
             counts["new"] += left == model
+            if left == model and output != report:
+                raise Wrong(arguments, way, number, "renamed before the report", told)
             if way == "KILL_STEP":
                 counts["killed"] += 1
-                if status != -signal.SIGKILL or not report.startswith(output) or (left == model and output != report):
+                if status != -signal.SIGKILL or not report.startswith(output):
                     raise Wrong(arguments, way, number, *told)
-                continue
-            counts["refused"] += 1
-            if (status, error) != (1, b"cityed: cannot write\n") or not report.startswith(output) or others:
-                raise Wrong(arguments, way, number, *told, others)
-            if left == model and output != report:
-                raise Wrong(arguments, way, number, "renamed before the report", output)
+                if others not in ([], [NEW], [LOCK], [NEW, LOCK]):
+                    raise Wrong(arguments, way, number, "left over", others)
+            else:
+                counts["refused"] += 1
+                counts["went on"] += status == 0
+                hold_refusal(told, left, report, model, others, arguments, number)
+            go_on_after(program, it, arguments, second.run(left, scripts)[0], others)
+    counts["reads"] = refuse_reads_of_replaced(program, folder, document, scripts, report)
+    it = Replaced(folder, document, scripts)
     for number in itertools.count(1):
-        with open(city, "wb") as file:
+        with open(it.city, "wb") as file:
             file.write(document)
-        refused, status, output, error = program.answer(["-o", city, city, edits], b"", REFUSE_WRITE=str(number), SHORT="1")
-        with open(city, "rb") as file:
-            left = file.read()
+        words = ["-o", it.city, it.city, it.edits]
+        refused, status, output, error = program.answer(words, b"", REFUSE_WRITE=str(number), SHORT="1")
         if not refused:
             return counts, number - 1
-        if (status, output, error) != (1, report[: number - 1], b"cityed: cannot write\n") or left != document:
+        if (status, output, error) != (1, report[: number - 1], b"cityed: cannot write\n") or it.left() != document:
             raise Wrong("write of the report", number, status, output, error)
-        if sorted(os.listdir(place)) != ["city.json", "edits.json"]:
-            raise Wrong("left over", os.listdir(place))
+        if it.others():
+            raise Wrong("left over", it.others())
+
+
+def hold_refusal(told, left, report, model, others, *words):
+    """A refused step is told, and leaves nothing; or the run can do without it."""
+    status, output, error = told
+    if status == 0:
+        # owner or group couldn't be given, the lock's file not removed, the scripts' file not compared
+        if (output, error, left) != (report, b"", model) or others not in ([], [LOCK]):
+            raise Wrong(*words, *told, others)
+    elif error == b"cityed: cannot read\n":
+        if (status, output) != (1, b"") or left == model or others:
+            raise Wrong(*words, *told, others)
+    elif (status, error) != (1, b"cityed: cannot write\n") or output not in (b"", report):
+        raise Wrong(*words, *told)
+    elif others not in ([], [LOCK]) or (others and output):
+        # a file that can't be locked isn't removed either: another run may have locked it
+        raise Wrong(*words, *told, others)
+
+
+def go_on_after(program, it, arguments, wanted, others):
+    """The next run takes the lock's file that is left over, and leaves none."""
+    cut = wanted.rindex(b"\n", 0, -1) + 1
+    told = program.answer(arguments, b"")
+    if told != (False, 0, wanted[:cut], b"") or it.left() != wanted[cut:]:
+        raise Wrong(arguments, "the next run", told)
+    if it.others() != [name for name in others if name == NEW]:
+        raise Wrong(arguments, "the next run", it.others())
+
+
+def refuse_reads_of_replaced(program, folder, document, scripts, report):
+    """Refuses the Nth read: of the model, of the scripts, or of the file when it is looked at again."""
+    for number in itertools.count(1):
+        it = Replaced(folder, document, scripts)
+        arguments = ["-o", it.city, it.city, it.edits]
+        refused, *told = program.answer(arguments, b"", REFUSE_READ=str(number))
+        if not refused:
+            if told != [0, report, b""]:
+                raise Wrong(arguments, "read", number, *told)
+            return number - 1
+        if told not in ([1, b"", b"cityed: cannot read\n"], [1, report, b"cityed: cannot write\n"]):
+            raise Wrong(arguments, "read", number, *told)
+        if it.left() != document or it.others():
+            raise Wrong(arguments, "read", number, it.left(), it.others())
+
+
+def replaced_once_opened(program, folder, document, scripts):
+    """Another program replaces the model's file between its opening and its first look: it stays as that one left it."""
+    report = second.run(document, scripts)[0]
+    report = report[: report.rindex(b"\n", 0, -1) + 1]
+    names = ("city.json", "./city.json")
+    for name, is_link in itertools.product(names, (False, True)):
+        it = Replaced(folder, document, scripts)
+        model, other = os.path.join(it.place, name), document + b" "
+        with open(model + ".other", "wb") as file:
+            file.write(other)
+        arguments = ["-o", it.link if is_link else it.city, model, it.edits]
+        told = program.answer(arguments, b"", REPLACE=model)
+        if told != (True, 1, report, b"cityed: model changed\n") or it.left() != other or it.others():
+            raise Wrong(arguments, *told, it.left())
+    return 2 * len(names)
 
 
 def go_on(program, document, scripts):
@@ -204,10 +301,13 @@ def main():
             print(f"with --atomic, growths: {withhold(program, document)}", flush=True)
             told, writes = replace_files(program, folder, document, scripts)
             print(
-                f"files replaced: {told['refused']} steps refused, {told['killed']} kills, {told['new']} times the file was"
-                f" the new one; {writes} writes of the report refused",
+                f"files replaced: {told['refused']} steps refused ({told['went on']} went on), {told['killed']} kills,"
+                f" {told['new']} times the file was the new one; {told['reads']} reads and {writes} writes of the report"
+                " refused",
                 flush=True,
             )
+            told = replaced_once_opened(program, folder, document, scripts)
+            print(f"replaced by another program once opened: {told} as they should be", flush=True)
             print(f"short and interrupted: {go_on(program, document, scripts)} ways agree", flush=True)
         except Wrong as wrong:
             print("WRONG:", *(str(part)[:800] for part in wrong.args))

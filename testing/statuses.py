@@ -41,7 +41,8 @@ LINES = [
     '{"name":"b","outcome":"aborted","replies":["replaced"],"script":1,"since":',
 ]
 LEFT = model('{"f":{"type":"LandUse"},"g":{"attributes":{"lanes":2},"type":"Road"}}') + "\n"
-OUTPUT = LINES[0] + "0}\n" + LINES[1] + "1}\n" + LEFT
+REPORT = LINES[0] + "0}\n" + LINES[1] + "1}\n"
+OUTPUT = REPORT + LEFT
 EMPTY = model("{}")
 REFUSED = '[{"name":"s","commands":[{"delete":"z"},"commit"]}]'
 REFUSED_LINE = (
@@ -70,12 +71,17 @@ UNKNOWN_EXPLAINED = (
 MISSING = "cityed: cannot read\n  file: MISSING\n  what: No such file or directory (os error 2)\n"
 VERSION = "cityed 0.1.0\n"
 USAGE = (
-    "\n\nUsage: cityed [--decimals] [--workers N] [--watch K] [--output FILE] [--atomic] [--explain] [MODEL SCRIPTS]\n"
+    "\n\nUsage: cityed [--decimals] [--workers N] [--watch K] [--output FILE [--wait SECONDS]] [--atomic] [--explain] "
+    "[MODEL SCRIPTS]\n"
     "       cityed --check [--decimals] [--explain] MODEL [SCRIPTS]\n\n"
     "For more information, try '--help'.\n"
 )
 NO_WORKERS = "error: --workers takes a number from 1 to 16" + USAGE
 NO_VIEWERS = "error: --watch takes a number from 0 to 4" + USAGE
+NO_SECONDS = "error: --wait takes a number of seconds from 1 to 86400" + USAGE
+NO_OUTPUT = "error: --wait takes an --output to wait for" + USAGE
+TWO_WAITS = "error: the argument '--wait <SECONDS>' cannot be used multiple times" + USAGE
+NAMED = "error: --output names SCRIPTS\n\nFor more information, try '--help'.\n"
 NO_SCRIPTS = "error: a MODEL was given without SCRIPTS" + USAGE
 TIP = "\n\n  tip: to pass '-w' as a value, use '-- -w'"
 LIKE = "\n\n  tip: a similar argument exists: '--workers'"
@@ -137,6 +143,23 @@ CALLS = [
     (["--workers", "18446744073709551617"], "", 2, "", NO_WORKERS),
     (["--workers", "x", "MODEL", "SCRIPTS"], "", 2, "", NO_WORKERS),
     (["--workers="], "", 2, "", NO_WORKERS),
+    (["-o", "NEW", "--wait", "0", "MODEL", "SCRIPTS"], "", 2, "", NO_SECONDS),
+    (["-o", "NEW", "--wait", "86401", "MODEL", "SCRIPTS"], "", 2, "", NO_SECONDS),
+    (["-o", "NEW", "--wait", "1.5"], "", 2, "", NO_SECONDS),
+    (["--wait="], "", 2, "", NO_SECONDS),
+    (["--wait", "x"], "", 2, "", NO_SECONDS),
+    (["--wait", "1"], "", 2, "", NO_OUTPUT),
+    (["--wait", "86400", "MODEL", "SCRIPTS"], "", 2, "", NO_OUTPUT),
+    (["--wait", "1", "--wait", "1", "-o", "NEW"], "", 2, "", TWO_WAITS),
+    (["--check", "--wait", "1", "MODEL"], "", 2, "", "error: --check writes no model, and takes no --wait" + USAGE),
+    (["--check", "-o", "NEW", "MODEL"], "", 2, "", "error: --check writes no model, and takes no --output" + USAGE),
+    (["-o", "SCRIPTS", "MODEL", "SCRIPTS"], "", 2, "", NAMED),
+    (["-o", "./SCRIPTS", "--atomic", "MISSING", "SCRIPTS"], "", 2, "", NAMED),
+    (["-o", "FOLDER", "MISSING", "SCRIPTS"], "", 1, "", "cityed: cannot write\n"),
+    (["-o", "MISSING/NEW", "MISSING", "SCRIPTS"], "", 1, "", "cityed: cannot write\n"),
+    (["-o", "/dev/null", "MODEL", "SCRIPTS"], "", 0, REPORT, ""),
+    (["-o", "NEW", "--wait", "1", "MODEL", "SCRIPTS"], "", 0, REPORT, ""),
+    (["--output=NEW", "--wait=86400"], DOCUMENT + "\n" + SCRIPTS, 0, REPORT, ""),
     (["--watch", "5", "MODEL", "SCRIPTS"], "", 2, "", NO_VIEWERS),
     (["--watch", "5", "MODEL"], "", 2, "", NO_VIEWERS),
     (["MODEL", "SCRIPTS", "x"], "", 2, "", "error: unexpected argument 'x' found" + USAGE),

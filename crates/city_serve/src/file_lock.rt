@@ -97,13 +97,25 @@ impl FileLock {
             Err(TryLockError::WouldBlock) => return Ok(Try::Held),
             Err(TryLockError::Error(error)) => return Err(error),
         }
-        if !has_name(rt, &file, name.as_str())? || !leads_to(rt, path, end)? {
+        if !has_name(rt, &file, name.as_str())? {
             return Ok(Try::Moved);
         }
-        Ok(Try::Locked(FileLock {
+        let leads = leads_to(rt, path, end);
+        let lock = FileLock {
             target,
             held: Some((file, name)),
-        }))
+        };
+        match leads {
+            Ok(true) => Ok(Try::Locked(lock)),
+            Ok(false) => {
+                lock.release(rt);
+                Ok(Try::Moved)
+            }
+            Err(error) => {
+                lock.release(rt);
+                Err(error)
+            }
+        }
     }
 
     /// Removes the lock's file, and frees the lock. If the first is refused, the next run takes the

@@ -23,6 +23,8 @@ const PRIVATE: u32 = 0o600;
 pub struct NewFile {
     file: File,
     place: Place,
+    /// The mode that it gets once it is written, if it is another one's: a write may drop bits of it.
+    mode: Option<u32>,
     synced: bool,
     /// Why its last write was refused, if it was.
     why: Option<io::Error>,
@@ -38,40 +40,43 @@ enum Place {
 }
 
 impl NewFile {
-    /// Makes a new file for what an output file is. It has the owner, the group and the mode of the
-    /// file that it will replace, if there is one: see `take_over`.
+    /// Makes a new file for what an output file is. It has the owner and the group of the file that it
+    /// will replace, if there is one, and gets its mode when it is synced: see `take_over`.
     pub(crate) fn make<R: Files<File = File> + AllocGlobal>(
         rt: &R,
         target: &Target,
         path: &str,
         seed: u64,
     ) -> io::Result<NewFile> {
-        let (file, place) = match target {
+        let (file, place, mode) = match target {
             Target::Device => {
                 let file = OpenOptions::new().write(true).open(rt, path)?;
-                (file, Place::Device(Vec::new(rt.alloc())))
+                (file, Place::Device(Vec::new(rt.alloc())), None)
             }
             Target::Plain(end) => {
-                let (file, name) = new_for(rt, end, seed)?;
-                (
-                    file,
-                    Place::Name(name, end.as_path().to_path_buf(rt.alloc())?),
-                )
+                let own = end.as_path().to_path_buf(rt.alloc())?;
+                let (file, name, mode) = new_for(rt, end, seed)?;
+                (file, Place::Name(name, own), mode)
             }
         };
         Ok(NewFile {
             file,
             place,
+            mode,
             synced: false,
             why: None,
         })
     }
 
-    /// Brings all that was written to the device. What a device gets at last isn't written yet.
+    /// Gives the new file its mode, and brings all that was written to the device. What a device gets
+    /// at last isn't written yet.
     pub(crate) fn sync(&mut self) -> io::Result<()>
         ensures { OnOk result (self.new.synced ≡ true) }
     {
         if let Place::Name(_, _) = &self.place {
+            if let Some(mode) = self.mode {
+                self.file.set_permissions(Permissions::from_mode(mode))?;
+            }
             self.file.sync_all()?;
         }
         self.synced = true;
@@ -84,6 +89,7 @@ impl NewFile {
         let NewFile {
             mut file,
             place,
+            mode: _,
             synced: _,
             why: _,
         } = self;
@@ -147,12 +153,13 @@ fn is_unable(kind: ErrorKind) -> bool {
     )
 }
 
-/// Makes a new file for the plain file of this path, and takes over what that has, if it is there.
+/// Makes a new file for the plain file of this path, and takes over what that has, if it is there:
+/// owner and group at once, and the mode later.
 fn new_for<R: Files<File = File> + AllocGlobal>(
     rt: &R,
     end: &PathBuf,
     seed: u64,
-) -> io::Result<(File, PathBuf)> {
+) -> io::Result<(File, PathBuf, Option<u32>)> {
     let old = match fs::symlink_metadata(rt, end.as_str()) {
         Ok(found) if found.is_file() => Some(found),
         Ok(_) => return Err(io::Error::from(ErrorKind::InvalidInput)),
@@ -160,34 +167,36 @@ fn new_for<R: Files<File = File> + AllocGlobal>(
         Err(error) => return Err(error),
     };
     let (file, name) = create_new(rt, end, seed, old.is_some())?;
-    if let Some(old) = old {
-        if let Err(error) = take_over(rt, &file, &name, &old) {
+    let Some(old) = old else {
+        return Ok((file, name, None));
+    };
+    match take_over(rt, &file, &name, &old) {
+        Ok(mode) => Ok((file, name, Some(mode))),
+        Err(error) => {
             remove(rt, &name);
-            return Err(error);
+            Err(error)
         }
     }
-    Ok((file, name))
 }
 
-/// Gives a new file the owner, the group and the mode of an old one. Where owner or group may not be
-/// given, the bits of the mode that lend their rights are left out.
+/// Gives a new file the owner and the group of an old one, and returns the mode for it: the old one's.
+/// Where owner or group may not be given, the bits of the mode that lend their rights are left out.
 fn take_over<R: Files<File = File>>(
     rt: &R,
     new: &File,
     name: &PathBuf,
     old: &Metadata,
-) -> io::Result<()> {
+) -> io::Result<u32> {
     let made = new.metadata()?;
     let name = name.as_str();
     let owned = made.uid() == old.uid() || chown(rt, name, Some(old.uid()), None).is_ok();
     let grouped = made.gid() == old.gid() || chown(rt, name, None, Some(old.gid())).is_ok();
     let mode = old.permissions().mode();
-    let mode = if owned && grouped {
-        mode
+    if owned && grouped {
+        Ok(mode)
     } else {
-        mode & NO_SET_ID
-    };
-    new.set_permissions(Permissions::from_mode(mode))
+        Ok(mode & NO_SET_ID)
+    }
 }
 
 /// Makes a new file under the first free name: the file's own, and behind it a number from the seed

@@ -104,10 +104,10 @@ impl<R: Files<File = File> + AllocGlobal + Clock> RuntimeFiles<'_, R> {
         }
     }
 
-    /// Notes an open file before it is read, if it is the locked output file.
-    fn begin_to_read(&self, file: &File) -> io::Result<Option<SeenText>> {
+    /// Notes a file that was opened by its path before it is read, if it is the locked output file.
+    fn begin_to_read(&self, file: &File, path: &str) -> io::Result<Option<SeenText>> {
         match self.locked_path() {
-            Some(end) => SeenText::begin(self.rt, file, end),
+            Some(end) => SeenText::begin(self.rt, file, path, end),
             None => Ok(None),
         }
     }
@@ -117,7 +117,7 @@ impl<R: Files<File = File> + AllocGlobal + Clock> TextFiles for RuntimeFiles<'_,
     fn read(&mut self, path: &str) -> Result<Vec<u8>, ServeFault> {
         self.why = None;
         let file = open_noting(self.rt, path, &mut self.why)?;
-        let begun = match self.begin_to_read(&file) {
+        let begun = match self.begin_to_read(&file, path) {
             Ok(begun) => begun,
             Err(error) => {
                 self.why = Some(error);

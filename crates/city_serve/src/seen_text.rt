@@ -1,5 +1,5 @@
 //! A text that was read from the output file, to know it again.
-use crate::target::is_one_file;
+use crate::target::{is_file_of, leads_to_place};
 use std::fs::{self, File, Files, Metadata};
 use std::hash::{DefaultHasher, Hasher};
 use std::io::{self, ErrorKind, Read};
@@ -46,19 +46,17 @@ pub(crate) struct SeenText {
 }
 
 impl SeenText {
-    /// The state of an open file before it is read, if it is the one of this path. `None` if it is
-    /// another.
-    pub fn begin<R: Files<File = File> + Clock>(
+    /// The state of a file that was opened by its path, before it is read. `None` if neither the path
+    /// nor the file is the output file's: another program may have replaced that since.
+    pub fn begin<R: Files<File = File> + AllocGlobal + Clock>(
         rt: &R,
         file: &File,
-        path: &PathBuf,
+        path: &str,
+        output: &PathBuf,
     ) -> io::Result<Option<SeenText>> {
         let found = file.metadata()?;
-        match fs::metadata(rt, path.as_str()) {
-            Ok(other) if is_one_file(&found, &other) => {}
-            Ok(_) => return Ok(None),
-            Err(error) if error.kind() == ErrorKind::NotFound => return Ok(None),
-            Err(error) => return Err(error),
+        if !leads_to_place(rt, path, output) && !is_file_of(rt, &found, output)? {
+            return Ok(None);
         }
         Ok(Some(SeenText {
             stamp: Stamp::of(&found),

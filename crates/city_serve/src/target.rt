@@ -7,6 +7,9 @@ use std::path::PathBuf;
 /// How many links are followed, as the system does.
 const MOST_LINKS: u32 = 40;
 
+/// How often a path is followed anew, since another run replaces its file meanwhile.
+const MOST_TURNS: u32 = 100;
+
 /// What an output file is.
 #[derive(Drop)]
 pub(crate) enum Target {
@@ -21,6 +24,32 @@ pub(crate) fn is_one_file(one: &Metadata, other: &Metadata) -> bool {
     one.dev() == other.dev() && one.ino() == other.ino()
 }
 
+/// Whether a path leads to the place of a plain file: the same name in the same folder, whatever file
+/// stands there. If a link can't be followed or a folder not looked at, it doesn't.
+pub(crate) fn leads_to_place<R: Files<File = File> + AllocGlobal>(
+    rt: &R,
+    path: &str,
+    place: &PathBuf,
+) -> bool {
+    match target_of(rt, path) {
+        Ok(Target::Plain(end)) => {
+            end.file_name() == place.file_name() && has_folder_of(rt, &end, place)
+        }
+        _ => false,
+    }
+}
+
+/// Whether two paths are of one folder.
+fn has_folder_of<R: Files<File = File>>(rt: &R, one: &PathBuf, other: &PathBuf) -> bool {
+    match (
+        fs::metadata(rt, folder_of(one)),
+        fs::metadata(rt, folder_of(other)),
+    ) {
+        (Ok(one), Ok(other)) => is_one_file(&one, &other),
+        _ => false,
+    }
+}
+
 /// What a path leads to. Refused for a folder, and where a link can't be followed.
 ///
 /// Links are followed one by one, by their own texts: no path of the working folder is asked for,
@@ -32,20 +61,47 @@ pub(crate) fn target_of<R: Files<File = File> + AllocGlobal>(
     if path.is_empty() {
         return Err(io::Error::from(ErrorKind::NotFound));
     }
+    for _ in 0..MOST_TURNS {
+        if let Some(target) = target_at_once(rt, path)? {
+            return Ok(target);
+        }
+    }
+    Err(io::Error::from(ErrorKind::InvalidInput))
+}
+
+/// What a path leads to. `None` if the file at the end of its links isn't the path's: another run has
+/// replaced it meanwhile, or the links' texts aren't the way to it.
+fn target_at_once<R: Files<File = File> + AllocGlobal>(
+    rt: &R,
+    path: &str,
+) -> io::Result<Option<Target>> {
     match fs::metadata(rt, path) {
         Ok(found) if found.is_dir() => Err(io::Error::from(ErrorKind::IsADirectory)),
-        Ok(found) if !found.is_file() => Ok(Target::Device),
+        Ok(found) if !found.is_file() => Ok(Some(Target::Device)),
         Ok(found) => {
             let end = behind_links(rt, path)?;
-            let there = fs::symlink_metadata(rt, end.as_str())?;
-            if !is_one_file(&found, &there) {
-                return Err(io::Error::from(ErrorKind::InvalidInput));
+            if is_file_of(rt, &found, &end)? {
+                Ok(Some(Target::Plain(end)))
+            } else {
+                Ok(None)
             }
-            Ok(Target::Plain(end))
         }
         Err(error) if error.kind() == ErrorKind::NotFound => {
-            Ok(Target::Plain(behind_links(rt, path)?))
+            Ok(Some(Target::Plain(behind_links(rt, path)?)))
         }
+        Err(error) => Err(error),
+    }
+}
+
+/// Whether this is the file of a path, which is no link.
+pub(crate) fn is_file_of<R: Files<File = File>>(
+    rt: &R,
+    found: &Metadata,
+    path: &PathBuf,
+) -> io::Result<bool> {
+    match fs::symlink_metadata(rt, path.as_str()) {
+        Ok(there) => Ok(is_one_file(found, &there)),
+        Err(error) if error.kind() == ErrorKind::NotFound => Ok(false),
         Err(error) => Err(error),
     }
 }

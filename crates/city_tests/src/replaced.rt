@@ -1,9 +1,10 @@
 //! The steps of replacing a file, in a real folder.
-use city_serve::{OutputFiles, RuntimeFiles, read_file};
-use std::fs::{self, Files, Permissions};
+use city_serve::{OutputFiles, RuntimeFiles, ServeFault, TextFiles, read_file};
+use std::fs::{self, File, Files, Permissions};
 use std::io::{self, Write};
 use std::os::unix::fs::{PermissionsExt, symlink};
 use std::test::Fail;
+use std::time::Clock;
 
 /// The seed of the new files' names.
 const SEED: u64 = 7;
@@ -47,8 +48,16 @@ fn make_file<R: Files + AllocGlobal>(
 }
 
 /// Replaces the file of this path, in the steps of a run. Returns whether each step succeeded.
-fn replace<R: Files + AllocGlobal>(rt: &R, path: &str, text: &str) -> bool {
-    let mut files = RuntimeFiles::new(rt);
+fn replace<R: Files<File = File> + AllocGlobal + Clock>(rt: &R, path: &str, text: &str) -> bool {
+    replace_by(&mut RuntimeFiles::new(rt), path, text)
+}
+
+/// Replaces the file of this path by these files, likewise.
+fn replace_by<R: Files<File = File> + AllocGlobal + Clock>(
+    files: &mut RuntimeFiles<'_, R>,
+    path: &str,
+    text: &str,
+) -> bool {
     let Some(mut new) = files.create(path, SEED) else {
         return false;
     };
@@ -56,11 +65,19 @@ fn replace<R: Files + AllocGlobal>(rt: &R, path: &str, text: &str) -> bool {
         files.give_up(new);
         return false;
     }
+    if files.look_again(path).is_err() {
+        files.give_up(new);
+        return false;
+    }
     files.rename(new, path) && files.sync_folder(path)
 }
 
 /// Makes a new file with a text for this path and gives it up. Returns whether it was made.
-fn begin_in_vain<R: Files + AllocGlobal>(rt: &R, path: &str, text: &str) -> bool {
+fn begin_in_vain<R: Files<File = File> + AllocGlobal + Clock>(
+    rt: &R,
+    path: &str,
+    text: &str,
+) -> bool {
     let mut files = RuntimeFiles::new(rt);
     let Some(mut new) = files.create(path, SEED) else {
         return false;
@@ -129,5 +146,106 @@ fn two_new_files_of_one_path_have_two_names(rt: HostRuntime) -> Result<(), Fail>
     assert!(rt; has_text(&rt, "twice/model", "new"));
     assert!(rt; has_names(&rt, "twice", 1)?);
     fs::remove_dir_all(&rt, "twice")?;
+    Ok(())
+}
+
+#[test]
+fn one_of_two_runs_locks_a_file(rt: HostRuntime) -> Result<(), Fail> {
+    make_file(&rt, "locked", "locked/model", "old")?;
+    symlink(&rt, "model", "locked/link")?;
+    let (mut first, mut second) = (RuntimeFiles::new(&rt), RuntimeFiles::new(&rt));
+    assert!(rt; first.lock("locked/model", 0).is_ok());
+    for (path, wait) in [
+        ("locked/model", 0),
+        ("locked/link", 0),
+        ("locked/./model", 1),
+    ] {
+        assert!(rt;
+            matches!(second.lock(path, wait), Err(ServeFault::InUse)),
+            "{path}"
+        );
+    }
+    assert!(rt; second.lock("locked/another", 0).is_ok());
+    second.unlock();
+    assert!(rt; replace_by(&mut first, "locked/model", "new"));
+    assert!(rt; matches!(second.lock("locked/link", 0), Err(ServeFault::InUse)));
+    first.unlock();
+    assert!(rt; has_names(&rt, "locked", 2)?);
+    assert!(rt; second.lock("locked/link", 0).is_ok());
+    assert!(rt; matches!(first.lock("locked/model", 0), Err(ServeFault::InUse)));
+    second.unlock();
+    assert!(rt; has_names(&rt, "locked", 2)?);
+    fs::remove_dir_all(&rt, "locked")?;
+    Ok(())
+}
+
+#[test]
+fn a_file_that_changed_since_it_was_read_stays(rt: HostRuntime) -> Result<(), Fail> {
+    make_file(&rt, "changed", "changed/model", "old")?;
+    for (text, stays) in [("odd", true), ("longer", true), ("", true), ("old", false)] {
+        fs::write(&rt, "changed/model", "old")?;
+        let mut files = RuntimeFiles::new(&rt);
+        assert!(rt; files.lock("changed/model", 0).is_ok());
+        assert!(rt; files.read("changed/model").is_ok());
+        fs::write(&rt, "changed/model", text)?;
+        let looked = files.look_again("changed/model");
+        assert!(rt;
+            matches!(looked, Err(ServeFault::Changed)) == stays,
+            "{text}"
+        );
+        assert!(rt;
+            replace_by(&mut files, "changed/model", "new") != stays,
+            "{text}"
+        );
+        files.unlock();
+        let left = if stays { text } else { "new" };
+        assert!(rt; has_text(&rt, "changed/model", left), "{text}");
+        assert!(rt; has_names(&rt, "changed", 1)?, "{text}");
+    }
+    fs::remove_dir_all(&rt, "changed")?;
+    Ok(())
+}
+
+#[test]
+fn what_a_dangling_link_leads_to_is_made(rt: HostRuntime) -> Result<(), Fail> {
+    make_file(&rt, "dangling", "dangling/model", "old")?;
+    symlink(&rt, "new", "dangling/link")?;
+    symlink(&rt, "../dangling/link", "dangling/chain")?;
+    symlink(&rt, "loop", "dangling/loop")?;
+    let mut files = RuntimeFiles::new(&rt);
+    assert!(rt; matches!(files.lock("dangling/loop", 0), Err(ServeFault::Write)));
+    for path in ["dangling/link", "dangling/chain"] {
+        assert!(rt; files.lock(path, 0).is_ok(), "{path}");
+        assert!(rt; replace_by(&mut files, path, path), "{path}");
+        files.unlock();
+        assert!(rt; has_text(&rt, "dangling/new", path), "{path}");
+        assert!(rt; fs::symlink_metadata(&rt, path)?.is_symlink(), "{path}");
+        assert!(rt; has_names(&rt, "dangling", 5)?, "{path}");
+        fs::remove_file(&rt, "dangling/new")?;
+    }
+    fs::remove_dir_all(&rt, "dangling")?;
+    Ok(())
+}
+
+#[test]
+fn a_file_of_a_long_name_is_replaced(rt: HostRuntime) -> Result<(), Fail> {
+    fs::create_dir(&rt, "long")?;
+    for length in [231, 232, 243, 244, 255] {
+        let mut path = String::new(rt.alloc());
+        path.push_str("long/")?;
+        for _ in 0..length {
+            path.push_str("n")?;
+        }
+        for text in ["first", "second"] {
+            let mut files = RuntimeFiles::new(&rt);
+            assert!(rt; files.lock(path.as_str(), 0).is_ok(), "{length}");
+            assert!(rt; replace_by(&mut files, path.as_str(), text), "{length}");
+            files.unlock();
+            assert!(rt; has_text(&rt, path.as_str(), text), "{length}");
+            assert!(rt; has_names(&rt, "long", 1)?, "{length}");
+        }
+        fs::remove_file(&rt, path.as_str())?;
+    }
+    fs::remove_dir_all(&rt, "long")?;
     Ok(())
 }
