@@ -1,29 +1,61 @@
 -- The output of a check, by the texts read.
-use Rattle.city_program.proofs.Prelude.{◌≡◌, ◌++◌, ℕ, Bool, true, false, List, [], Option, Some, IfSome, refl, sym}
-use Rattle.city_program.proofs.Prelude.{subst, Vec, Appends, Asked}
+use Rattle.city_program.proofs.Prelude.{◌≡◌, ◌++◌, ◌∷◌, ℕ, Bool, true, false, List, [], Option, None, Some, IfSome}
+use Rattle.city_program.proofs.Prelude.{refl, sym, inl, inr, subst, Vec, Appends, Asked}
 use Rattle.std.proofs.Common.{Bor}
-use Rattle.std.proofs.lemmas.Option.{IfSome_then}
-use Rattle.city_program.specs.Checks.{AreModelLines, AreScriptsLines, AreCheckLines, HasLines, OfFiles}
+use Rattle.city_program.specs.Checks.{AreModelLines, AreScriptsLines, AreCheckLines, AreFirstOf, HasLines, OfFiles}
+use Rattle.city_program.specs.Checks.{reading_of}
+use Rattle.city_serve.proofs.Taken.{takes_more}
+use Rattle.city_serve.specs.Steps.{Step, Takes}
 use Rattle.city_serve.specs.Destinations.{Folder}
 use Rattle.city_program.specs.Programs.{Streams, IsChecked, OfLines}
 use Rattle.city_options.specs.declared.options.Options.{Options}
 use Rattle.city_program.specs.declared.status.Status.{Status}
-use Rattle.city_program.specs.internal.Telling.{IsAnsweredAs, check_status}
+use Rattle.city_program.specs.internal.Telling.{IsAnsweredAs, MayRead, check_status}
 
--- a model and scripts are read, and their lines are made
-pub model_and_scripts : (texts : Folder) (decimals : Bool) (model scripts document commands first behind lines : List ℕ)
-    → IfSome (texts model) (λ all. document ≡ all) → AreModelLines decimals document first
-    → IfSome (texts scripts) (λ all. commands ≡ all) → AreScriptsLines decimals commands behind
-    → lines ≡ first ++ behind
+-- the lines of a text that was read are those of the known text
+pub lines_of : (P : List ℕ → Type 0) (known : Option (List ℕ)) (read : List ℕ) → IfSome known (λ all. read ≡ all)
+    → P read → IfSome known P
+lines_of P None read is lines = tt
+lines_of P (Some all) read is lines = subst P is lines
+
+pub model_and_scripts : (texts : Folder) (decimals : Bool) (model scripts first behind lines : List ℕ)
+    → IfSome (texts model) (λ all. AreModelLines decimals all first)
+    → IfSome (texts scripts) (λ all. AreScriptsLines decimals all behind) → lines ≡ first ++ behind
     → OfFiles texts model (Some scripts) (λ all more. AreCheckLines decimals all more lines)
-model_and_scripts texts decimals model scripts document commands first behind lines read of_model more of_scripts are =
-    IfSome_then (texts model) read (λ all same. IfSome_then (texts scripts) more (λ all_scripts same_scripts. record {
-      first = first;
-      behind = behind;
-      of_model = subst (λ t. AreModelLines decimals t first) same of_model;
-      of_scripts = subst (λ t. AreScriptsLines decimals t behind) same_scripts of_scripts;
-      lines_are = are;
-    }))
+model_and_scripts texts decimals model scripts first behind lines of_model of_scripts are =
+    both (texts model) (texts scripts) of_model of_scripts
+  where
+    both : (d c : Option (List ℕ)) → IfSome d (λ all. AreModelLines decimals all first)
+        → IfSome c (λ all. AreScriptsLines decimals all behind)
+        → IfSome d (λ all. IfSome c (λ more. AreCheckLines decimals all (Some more) lines))
+    both None c m s = tt
+    both (Some all) None m s = tt
+    both (Some all) (Some more) m s =
+        record { first = first; behind = behind; of_model = m; of_scripts = s; lines_are = are }
+
+-- ---- steps
+
+abbrev Reads : List ℕ → Option (List ℕ) → Option (List Step) → Option (List Step) → Type 0
+Reads model scripts begun ended =
+    (steps : List Step) × Takes begun ended steps × AreFirstOf (reading_of model scripts) steps
+
+-- the model was read, or not
+pub read_first : (model : List ℕ) (scripts : Option (List ℕ)) (a b : Option (List Step)) → MayRead model a b
+    → Reads model scripts a b
+read_first model scripts a b (inl none) = ([], none, (0, refl))
+read_first model None a b (inr one) = (Step.Read model ∷ [], one, (1, refl))
+read_first model (Some scripts) a b (inr one) = (Step.Read model ∷ [], one, (1, refl))
+
+-- the model was read, and the scripts, or not
+pub read_second : (model scripts : List ℕ) (a b c : Option (List Step)) → Takes a b (Step.Read model ∷ [])
+    → MayRead scripts b c → Reads model (Some scripts) a c
+read_second model scripts a b c one (inl none) =
+    (Step.Read model ∷ [], takes_more a b c (Step.Read model ∷ []) [] one none, (1, refl))
+read_second model scripts a b c one (inr two) = (
+  Step.Read model ∷ Step.Read scripts ∷ [],
+  takes_more a b c (Step.Read model ∷ []) (Step.Read scripts ∷ []) one two,
+  (2, refl),
+)
 
 -- ---- statuses
 

@@ -1,10 +1,11 @@
 //! Tells all faults of a model and of scripts, and runs nothing.
 
-ghost use Rattle.std.specs.Prelude.{◌≡◌, ◌⊎◌, true, List, ℕ, option_map, IfOk, IfErr, OnOk};
+ghost use Rattle.std.specs.Prelude.{◌≡◌, ◌⊎◌, ◌∷◌, [], true, List, ℕ, option_map, IfOk, IfErr, IfSome, OnOk};
 ghost use Rattle.std.specs.Io.KnownBytes.{Appends, Keeps};
 ghost use Rattle.city_serve.specs.declared.fault.ServeFault.{ServeFault};
 ghost use Rattle.city_program.specs.Checks.{AreCheckLines, AreModelLines, AreScriptsLines, HasLines, IsJudged};
 ghost use Rattle.city_program.specs.Checks.{AreFirstOf, OfFiles, reading_of};
+ghost use Rattle.city_program.specs.internal.Telling.{MayRead};
 ghost use Rattle.city_serve.specs.Steps.{Step, Takes};
 ghost use Rattle.city_serve.specs.Served.{IsDeviceFault};
 ghost use Rattle.city_serve.specs.ServedTexts.{AppendsSome};
@@ -71,14 +72,53 @@ fn all_lines<F: TextFiles>(
         × Takes (F.steps files.old) (F.steps files.new) steps
         × AreFirstOf (reading_of model.now (option_map (λ s. s.now) scripts.entry)) steps)) }
 {
-    texts.document = Text::given(files.read(model)?);
-    let mut lines = document_lines(alloc, decimals, &mut texts.document)?;
+    let mut lines = model_lines(alloc, files, texts, decimals, model)?;
     let Some(scripts) = scripts else {
         return Ok(lines);
     };
-    texts.scripts = Text::given(files.read(scripts)?);
-    let more = scripts_lines(alloc, decimals, &mut texts.scripts)?;
+    let more = more_lines(alloc, files, texts, decimals, scripts)?;
     lines.extend_from_slice(more.as_slice())?;
+    Ok(lines)
+}
+
+/// The lines of all faults of the model.
+fn model_lines<F: TextFiles>(
+    alloc: Global,
+    files: &mut F,
+    texts: &mut Texts,
+    decimals: bool,
+    model: &str,
+) -> Result<Vec<u8>, ServeFault>
+    ensures lines { IfOk result (λ v. IfSome (F.text files.old model.now)
+        (λ all. AreModelLines decimals all v.items)) }
+    ensures texts { F.text files.new ≡ F.text files.old }
+    ensures steps { OnOk result (Takes (F.steps files.old) (F.steps files.new) (Step.Read model.now ∷ [])) }
+    ensures fault { IfErr result (λ f. IsDeviceFault true f × MayRead model.now (F.steps files.old) (F.steps files.new)) }
+{
+    let text = files.read(model)?;
+    texts.document = Text::given(text);
+    let lines = document_lines(alloc, decimals, &mut texts.document)?;
+    Ok(lines)
+}
+
+/// The lines of all faults of the scripts.
+fn more_lines<F: TextFiles>(
+    alloc: Global,
+    files: &mut F,
+    texts: &mut Texts,
+    decimals: bool,
+    scripts: &str,
+) -> Result<Vec<u8>, ServeFault>
+    ensures lines { IfOk result (λ v. IfSome (F.text files.old scripts.now)
+        (λ all. AreScriptsLines decimals all v.items)) }
+    ensures texts { F.text files.new ≡ F.text files.old }
+    ensures steps { OnOk result (Takes (F.steps files.old) (F.steps files.new) (Step.Read scripts.now ∷ [])) }
+    ensures fault { IfErr result (λ f. IsDeviceFault true f
+        × MayRead scripts.now (F.steps files.old) (F.steps files.new)) }
+{
+    let text = files.read(scripts)?;
+    texts.scripts = Text::given(text);
+    let lines = scripts_lines(alloc, decimals, &mut texts.scripts)?;
     Ok(lines)
 }
 

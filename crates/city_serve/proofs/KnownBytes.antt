@@ -1,6 +1,6 @@
 -- Known bytes, read or written part by part.
 use Rattle.city_serve.proofs.Prelude.{◌≡◌, ◌≤◌, ◌+◌, ◌-◌, ℕ, List, ◌++◌, length, take, drop, Option, Some, None, IfSome}
-use Rattle.city_serve.proofs.Prelude.{sym, ap, subst, ◌∙◌, append_assoc, append-nil, arith, length-drop, length-take}
+use Rattle.city_serve.proofs.Prelude.{refl, sym, ap, subst, ◌∙◌, append_assoc, append-nil, arith, length-drop, length-take}
 use Rattle.city_serve.proofs.Prelude.{take_all, Appends, Consumes, Keeps, AppendsSome}
 use Rattle.std.proofs.Common.{length-append}
 use Rattle.std.proofs.lemmas.List.{take-append-drop, take-append-le}
@@ -8,6 +8,10 @@ use Rattle.std.specs.Io.KnownBytes.{IsAtEnd}
 use Rattle.city_serve.specs.ServedTexts.{LosesAtMost}
 
 -- ---- writing
+
+pub keeps_same : (u : Option (List ℕ)) → Keeps u u
+keeps_same None = tt
+keeps_same (Some xs) = refl
 
 pub appends_then_keeps : (u v w : Option (List ℕ)) (a : List ℕ) → Appends u v a → Keeps v w → Appends u w a
 appends_then_keeps None v w a h k = tt

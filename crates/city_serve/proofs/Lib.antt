@@ -9,4 +9,4 @@ pub mod Prelude
 mod Replacing
 mod Reported
 mod Serving
-mod Taken
+pub mod Taken

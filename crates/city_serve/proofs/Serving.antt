@@ -1,12 +1,17 @@
 -- Output delivered from a run is served from its texts; and a property of two texts holds of the two parts of an input,
 -- if they are the parts of its bytes read.
-use Rattle.city_serve.proofs.Prelude.{◌≡◌, ◌++◌, ℕ, List, Bool, Option, Some, None, IfSome, sym, subst, take, drop}
+use Rattle.city_serve.proofs.Prelude.{◌≡◌, ◌++◌, ℕ, List, Bool, true, false, Option, Some, None, IfSome, sym, subst}
+use Rattle.city_serve.proofs.Prelude.{take, drop}
 use Rattle.city_serve.proofs.Prelude.{Vec, Appends, End, ServeFault, AreServedBy, document_part, written_by, faults_by}
 use Rattle.std.proofs.lemmas.List.{take-append-drop}
 use Rattle.city_scheduler.specs.InTurn.{AreInTurn}
 use Rattle.city_options.specs.declared.options.Options.{Options}
-use Rattle.city_options.specs.RunOptions.{plain_destination}
-use Rattle.city_serve.specs.Destinations.{Folder, IsCutAt, IsRunInParts, IsDelivered, IsDeliveryFault, bytes_to_writer}
+use Rattle.city_options.specs.RunOptions.{file_of, plain_destination}
+use Rattle.city_options.specs.declared.options.Destination.{Destination}
+use Rattle.city_serve.specs.Destinations.{Folder, IsBrokenOff, IsCutAt, IsCutShort, IsRunInParts, IsDelivered}
+use Rattle.city_serve.specs.Destinations.{IsDeliveryFault, bytes_to_writer, is_withheld}
+use Rattle.city_serve.specs.Steps.{Step}
+use Rattle.city_desk.specs.declared.fault.RunFault.{RunFault}
 use Rattle.city_serve.specs.ServedTexts.{Written, Faults, WhereAlone, AreCutShortBy, IsTextsFaultBy}
 use Rattle.city_serve.specs.Served.{read_of, scripts_part, IsServeFaultBy}
 
@@ -75,19 +80,42 @@ module _ (options : Options) (document scripts : List ℕ) (before after : Folde
     written = subst (λ b. Appends old new (bytes_to_writer None b d.report d.model)) d.withheld_is d.written;
   }
 
-  pub fault_whole : (files_failed failed : Bool) (f : ServeFault)
-      → IsDeliveryFault plain_destination options document scripts before after files_failed old new failed f
+  pub fault_whole : (files_failed failed : Bool) (steps : List Step) (f : ServeFault)
+      → IsDeliveryFault plain_destination options document scripts before after files_failed old new failed steps f
       → IsTextsFaultBy (written_by options.decimals) (faults_by options.decimals) document scripts options.workers
       options.viewers old new failed f
-  fault_whole files_failed failed ServeFault.Read h = absurd h
-  fault_whole files_failed failed (ServeFault.Run f) h = (h.0, h.2)
-  fault_whole files_failed failed ServeFault.Write h = (
+  fault_whole files_failed failed steps (ServeFault.Run f) h = (h.0, h.3)
+  fault_whole files_failed failed steps ServeFault.Write h = (
     record {
-      ends = h.0.ends;
-      bytes = h.0.report ++ h.0.model;
-      ran = h.0.run.ran;
-      in_turn = h.0.run.in_turn;
-      written = h.0.written;
+      ends = h.ends;
+      bytes = h.report ++ h.model;
+      ran = h.run.ran;
+      in_turn = h.run.in_turn;
+      written = h.broken.1;
     },
-    h.1,
+    h.broken.3,
   )
+  fault_whole files_failed failed steps ServeFault.Read h = let wrong = h.broken.0 in absurd (cc)
+  fault_whole files_failed failed steps ServeFault.InUse h = let wrong = h.broken.0 in absurd (cc)
+  fault_whole files_failed failed steps ServeFault.Changed h = let wrong = h.broken.0 in absurd (cc)
+
+-- a delivery that breaks off is no fault of the run
+module _ (report model : List ℕ) (before after : Folder) (files_failed : Bool) (old new : Option (List ℕ))
+    (failed : Bool) (steps : List Step) where
+  never_run : (file : Option (List ℕ)) (withheld : Bool) (f : RunFault)
+      → IsBrokenOff file withheld report model before after files_failed old new failed steps (ServeFault.Run f) → ⊥
+  never_run (Some path) false f broken = broken
+  never_run (Some path) true f broken = let wrong = broken.0 in cc
+  never_run None withheld f broken = let wrong = broken.0 in cc
+
+module _ (destination : Destination) (options : Options) (document scripts : List ℕ) (before after : Folder)
+    (files_failed : Bool) (old new : Option (List ℕ)) (failed : Bool) (steps : List Step) where
+  pub cut_fault : (f : ServeFault)
+      → IsCutShort destination options document scripts before after files_failed old new failed steps f
+      → IsDeliveryFault destination options document scripts before after files_failed old new failed steps f
+  cut_fault (ServeFault.Run f) is = absurd (never_run is.report is.model before after files_failed old new failed steps
+      (file_of destination) (is_withheld destination is.ends) f is.broken)
+  cut_fault ServeFault.Read is = is
+  cut_fault ServeFault.Write is = is
+  cut_fault ServeFault.InUse is = is
+  cut_fault ServeFault.Changed is = is

@@ -5,6 +5,7 @@ use Rattle.city_options.specs.declared.command_line.Asked.{Asked}
 use Rattle.city_serve.specs.declared.fault.ServeFault.{ServeFault}
 use Rattle.city_program.specs.declared.status.Status.{Status}
 use Rattle.city_serve.specs.FaultTexts.{fault_text}
+use Rattle.city_serve.specs.Steps.{Step, Takes}
 use Rattle.city_program.specs.Programs.{Streams, IsAnswered, IsChecked, IsTold, IsToldInPart, memory_line, seen_lines}
 
 -- if standard error hasn't failed, it hadn't before, and has got this text and no other bytes
@@ -21,6 +22,10 @@ IsSeenTold done status old new failed seen =
 abbrev pub IsFaultText : ServeFault → List ℕ → List ℕ → Type 0
 IsFaultText f behind text =
     (text ≡ (fault_text f ++ 10 ∷ []) ++ behind) ⊎ (text ≡ memory_line)
+
+-- a file was read, or not
+abbrev pub MayRead : List ℕ → Option (List Step) → Option (List Step) → Type 0
+MayRead path begun ended = Takes begun ended [] ⊎ Takes begun ended (Step.Read path ∷ [])
 
 -- the status of a run, by whether its model was withheld
 abbrev pub run_status : Bool → Status

@@ -1,9 +1,13 @@
 use Rattle.std.proofs.Common.{rules}
-use Rattle.city_serve.proofs.Prelude.{drop, subst, sym, take}
+use Rattle.city_serve.proofs.Prelude.{List, [], drop, refl, subst, sym, take}
 use Rattle.city_model.specs.SerialEnds.{commits_in}
 use Rattle.city_crew.specs.Seen.{AreSeen}
 use Rattle.city_serve.specs.Destinations.{IsDeliveryFault}
-use Rattle.city_serve.proofs.Serving.{in_parts}
+use Rattle.city_serve.specs.Steps.{Step, Takes}
+use Rattle.city_serve.specs.declared.fault.ServeFault.{ServeFault}
+use Rattle.city_serve.proofs.KnownBytes.{keeps_same}
+use Rattle.city_serve.proofs.Serving.{cut_fault, in_parts}
+use Rattle.city_serve.proofs.Taken.{takes_none}
 use Rattle.city_serve.proofs.serve_texts.serve_to.Goals as goal
 
 pub returns-clause-delivered : goal.returns-clause-delivered
@@ -29,6 +33,19 @@ returns-clause-delivered g c =
       run.city,
     )
 
+pub returns-in_err-output-clause-fault : goal.returns-in_err-output-clause-fault
+returns-in_err-output-clause-fault g c =
+    let document = c.args.texts.now.document.bytes.items in
+    let scripts = c.args.texts.now.scripts.bytes.items in
+    let text = g.F.TextFiles.text c.args.files.now in
+    let files_failed = g.F.OutputFiles.have_failed c.args.files.now in
+    let old = g.W.Write.contents c.args.writer.now.0 in
+    let taken = g.F.TextFiles.steps c.args.files.now in
+    let fault : (steps : List Step) × IsDeliveryFault c.args.destination c.args.options document scripts text text
+    files_failed old old c.args.writer.now.1 steps (ServeFault.Run c.in_err-output.field-0) × Takes taken taken steps =
+    ([], (keeps_same old, refl, refl, c.in_err-output.ensures.fault), takes_none taken) in
+    search (fault, rules)
+
 pub returns-in_err-delivered-clause-fault : goal.returns-in_err-delivered-clause-fault
 returns-in_err-delivered-clause-fault g c =
     let output = c.in_ok-output.output in
@@ -37,20 +54,26 @@ returns-in_err-delivered-clause-fault g c =
     let document = c.args.texts.now.document.bytes.items in
     let scripts = c.args.texts.now.scripts.bytes.items in
     let run = c.in_ok-output.ensures in
+    let f = c.in_err-delivered.field-0 in
     let is = c.in_err-delivered.ensures.fault in
-    let fault = subst (IsDeliveryFault c.args.destination asked document scripts
-    (g.F.TextFiles.text c.args.files.now) (g.F.TextFiles.text c.deliver.new.files)
-    (g.F.OutputFiles.have_failed c.deliver.new.files) (g.W.Write.contents c.args.writer.now.0)
-    (g.W.Write.contents c.deliver.new.writer.0) c.deliver.new.writer.1) (sym is.0) (
-      record {
-        ends = output.ends;
-        report = take output.report bytes;
-        model = drop output.report bytes;
-        run = in_parts asked document scripts output.ends bytes output.report run.ran run.in_turn
-            run.cut;
-        written = is.1;
-        kept = is.2;
-      },
-      is.3,
+    let before = g.F.TextFiles.text c.args.files.now in
+    let after = g.F.TextFiles.text c.deliver.new.files in
+    let files_failed = g.F.OutputFiles.have_failed c.deliver.new.files in
+    let old = g.W.Write.contents c.args.writer.now.0 in
+    let new = g.W.Write.contents c.deliver.new.writer.0 in
+    let fault : (steps : List Step) × IsDeliveryFault c.args.destination asked document scripts before after
+    files_failed old new c.deliver.new.writer.1 steps f
+    × Takes (g.F.TextFiles.steps c.args.files.now) (g.F.TextFiles.steps c.deliver.new.files) steps = (
+      is.0,
+      cut_fault c.args.destination asked document scripts before after files_failed old new c.deliver.new.writer.1 is.0
+          f (record {
+            ends = output.ends;
+            report = take output.report bytes;
+            model = drop output.report bytes;
+            run = in_parts asked document scripts output.ends bytes output.report run.ran run.in_turn
+                run.cut;
+            broken = is.1;
+          }),
+      is.2,
     ) in
     search (fault, rules)
