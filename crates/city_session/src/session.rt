@@ -112,12 +112,15 @@ impl Session {
         ensures begun { IfOk result (λ t. IsBegun stamp stamps self.old self.new) }
         ensures err { OnErr result (IsUnchanged self.old self.new) }
     {
-        if self.ended == u64::MAX || self.core.is_open(stamp) {
+        if u64::MAX <= self.ended {
+            return Err(OutOfMemory);
+        }
+        if self.core.is_open(stamp) {
             return Err(OutOfMemory);
         }
         self.growing.add(stamp, Transaction::begun(self.ended))?;
         let Ok(()) = self.core.begin(stamp) else {
-            let _ = self.growing.take(stamp);
+            let _unbegun = self.growing.take(stamp);
             return Err(OutOfMemory);
         };
         self.stamps = stamps;
@@ -209,11 +212,12 @@ impl Session {
         ensures ended { HasEnded stamp true self.old self.new }
         ensures city { committed self.new.core ≡ view self.old.core stamp }
     {
-        if let Some(transaction) = self.growing.take(stamp) {
-            self.core.commit(stamp);
-            self.past = self.past.with(&transaction, true);
-            self.ended = self.ended.saturating_add(1);
-        }
+        let Some(transaction) = self.growing.take(stamp) else {
+            unreachable!()
+        };
+        self.core.commit(stamp);
+        self.past = self.past.with(&transaction, true);
+        self.ended = self.ended.saturating_add(1);
     }
 
     /// Ends an open transaction; its writes are undone. One that dies ends so, at this place, if its
@@ -223,11 +227,12 @@ impl Session {
         ensures ended { HasEnded stamp false self.old self.new }
         ensures undone { IsRolledBack stamp self.old.core self.new.core }
     {
-        if let Some(transaction) = self.growing.take(stamp) {
-            self.core.roll_back(stamp);
-            self.past = self.past.with(&transaction, false);
-            self.ended = self.ended.saturating_add(1);
-        }
+        let Some(transaction) = self.growing.take(stamp) else {
+            unreachable!()
+        };
+        self.core.roll_back(stamp);
+        self.past = self.past.with(&transaction, false);
+        self.ended = self.ended.saturating_add(1);
     }
 
     /// Undoes an open transaction whose replies nobody was told, as an attempt of a script that dies.
@@ -236,7 +241,7 @@ impl Session {
         requires { is_open self.old.core stamp ≡ true }
         ensures { IsForgotten stamp self.old self.new }
     {
-        let _ = self.growing.take(stamp);
+        let _forgotten = self.growing.take(stamp);
         self.core.roll_back(stamp);
     }
 
