@@ -425,9 +425,9 @@ module _ {start : CityValue} {closed : List Closed} {growing : List (ℕ × Grow
         })
 
   pub seen_full : {stamp : ℕ} {command : Command} → is_full_there (grown_at growing stamp) ≡ true
-      → IsActed stamp command acts.TooMany seen (state start closed growing stamps core)
+      → IsActed stamp command acts.TooMany seen seen
   seen_full {stamp} {command} full =
-      seen_as (λ v. IsActed stamp command acts.TooMany v (state start closed growing stamps core)) (record {
+      seen_as (λ v. IsActed stamp command acts.TooMany v v) (record {
         answered = (full, refl);
         growing = grows_as_told stamp growing;
         given = refl;
