@@ -1,5 +1,5 @@
 -- What a transaction was told, as the script of its commands that were not refused.
-use Rattle.std.specs.Prelude.{◌≡◌, ◌<◌, ◌≤◌, ◌+◌, ◌++◌, ℕ, List, [], ◌∷◌, Bool, true, false, length, map, refl}
+use Rattle.std.specs.Prelude.{◌≡◌, ◌<◌, ◌≤◌, ◌+◌, ◌++◌, ℕ, List, [], ◌∷◌, true, false, length, refl}
 use Rattle.std.proofs.Common.{sym, ◌∙◌, ap, subst, arith}
 use Rattle.std.proofs.lemmas.List.{length-append, length-map}
 use Rattle.std.proofs.lemmas.List.Elements.{filter-append}
@@ -9,7 +9,7 @@ use Rattle.city_model.specs.declared.command.Command.TheVariants.{Commit, Abort}
 use Rattle.city_model.specs.declared.command.Reply.{Reply}
 use Rattle.city_model.specs.declared.end.Outcome.{Outcome}
 use Rattle.city_model.specs.Marks.{Snapshot}
-use Rattle.city_model.specs.Meaning.{Effect, Answers, effect, reply_of, step, GoesOn, is_refusal}
+use Rattle.city_model.specs.Meaning.{Effect, effect, reply_of, step, GoesOn, is_refusal}
 use Rattle.city_model.specs.Runs.{Trace, EndsAt, EndsFrom, view_at_end, goes_to}
 use Rattle.city_model.specs.Scripts.{is_end, ends_once}
 use Rattle.city_model.specs.Standing.{Held, Answered, IsTraceUnderLocks}

@@ -1,7 +1,7 @@
 -- Small sessions: two planners and one building, a death, a mark, and an orphan.
-use Rattle.std.specs.Prelude.{◌≡◌, ◌≤◌, ◌&&◌, ℕ, List, [], ◌∷◌, Bool, true, false, Option, Some, option_map, slice_get}
+use Rattle.std.specs.Prelude.{◌≡◌, ◌≤◌, ℕ, List, [], ◌∷◌, Bool, true, false, Option, Some, option_map, slice_get}
 use Rattle.std.specs.Prelude.{take, refl, codes, if◌then◌else◌}
-use Rattle.std.proofs.Common.{arith, inl, inr}
+use Rattle.std.proofs.Common.{arith, inl}
 use Rattle.city_model.specs.declared.command.Command.{Command}
 use Rattle.city_model.specs.declared.command.Command.TheVariants.{Read, Put, Set, Expect, Attach, Mark, Back, Commit}
 use Rattle.city_model.specs.declared.command.Cause.TheVariants.{NoMark, Orphan, Unexpected}
@@ -16,7 +16,7 @@ use Rattle.serde_json.specs.Data.{Members, no_members, member, number, unsigned}
 use Rattle.serde_json.specs.Data as Data
 use Rattle.city_model.specs.CityMap.{CityMap, Entries, found_in, changed, same_id}
 use Rattle.city_model.specs.Actions.{attached, with_parent, with_child}
-use Rattle.city_model.specs.Marks.{Snapshot, unmarked}
+use Rattle.city_model.specs.Marks.{unmarked}
 use Rattle.city_model.specs.Meaning.{Does}
 use Rattle.city_model.specs.Relations.{HasNoOrphan, is_orphan, is_orphan_there}
 use Rattle.city_model.specs.Runs.{Scripted, IsEndOf, IsScriptResult, IsSerialHistory, model_after}
@@ -217,5 +217,5 @@ parts = (adds_a_part, true) ∷ []
 pub attached_is_serial : AreSerial building parts
 attached_is_serial =
     let left = attached with_part (codes "p") (codes "b") in
-    let none : HasNoOrphan left = search (arith, no_orphan, no_orphan_attached, orphan_apart, alone, no_orphan_at) in
+    let none : HasNoOrphan left = search (arith, no_orphan, no_orphan_attached, orphan_apart, no_orphan_at) in
     (in_turn refl (omega arith) (refl, refl, (refl, refl, (inl (refl, none), refl))), tt, tt)

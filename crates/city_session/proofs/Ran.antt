@@ -1,9 +1,9 @@
 -- Transactions run one at a time are a serial history of their scripts.
-use Rattle.std.specs.Prelude.{◌≡◌, ◌<◌, ◌≤◌, ◌+◌, ◌++◌, ℕ, List, [], ◌∷◌, true, Some, length, map, take, slice_get, refl}
+use Rattle.std.specs.Prelude.{◌≡◌, ◌<◌, ◌≤◌, ◌+◌, ◌++◌, ℕ, List, [], ◌∷◌, true, Some, length, take, slice_get, refl}
 use Rattle.std.proofs.Common.{sym, ◌∙◌, ap, subst, arith, add-one, zero, suc}
 use Rattle.city_model.specs.CityMap.{CityMap}
 use Rattle.city_model.specs.Relations.{IsLawful}
-use Rattle.city_model.specs.Runs.{Scripted, left_by, model_after, IsEndOf, NoEndOf, IsSerialHistoryFrom}
+use Rattle.city_model.specs.Runs.{Scripted, left_by, model_after, NoEndOf, IsSerialHistoryFrom}
 use Rattle.city_model.specs.Scripts.{ends_once}
 use Rattle.city_model.proofs.Lawful.{lawful_left}
 use Rattle.city_session.specs.Grown.{Closed, max_commands, unrefused, replies_in, script_of, outcome_of, scripts_of}

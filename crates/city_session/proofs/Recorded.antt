@@ -26,7 +26,7 @@ use Rattle.city_session.specs.Grown.{is_full_there, IsTold}
 use Rattle.city_session.specs.Live.{SessionState, grown_at, IsStanding, IsLive}
 use Rattle.city_session.specs.Acting.{GrowsTo, IsActed, HasEnded, IsForgotten}
 use Rattle.city_session.specs.declared.acted.Acted.TheVariants as acts
-use Rattle.city_session.specs.internal.Recorded.{left, left_by_all, IsRunAt, AreRun, IsRecorded}
+use Rattle.city_session.specs.internal.Recorded.{left, left_by_all, IsRunAt, IsRecorded}
 use Rattle.city_session.proofs.AsScripts.{trace_of, ends_as, leads_to, ends_last, with_end}
 use Rattle.city_session.proofs.Ran.{left_by_more, run_more, told_at, within_at, scripted_at, lawful_at, are_scripts}
 use Rattle.city_session.proofs.Ran.{history_of, model_of, model_of_first}

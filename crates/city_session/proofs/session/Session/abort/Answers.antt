@@ -1,4 +1,4 @@
-use Rattle.std.proofs.Common.{ap, sym, subst, ◌∙◌}
+use Rattle.std.proofs.Common.{sym, subst}
 use Rattle.city_txn.specs.CoreState.{IsRolledBack}
 use Rattle.city_session.specs.Live.{SessionState}
 use Rattle.city_session.proofs.Recorded.{undone_end, seen_ended}
