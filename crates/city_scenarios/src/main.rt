@@ -12,7 +12,7 @@
 //!   scripts one at a time; `canonical`: a model's canonical form
 //! - `serve`, `reader`, `writer`: from a device to a device; `program`, `folder`, `seen`: the program, over files that
 //!   are texts with names, and the line of a viewer
-//! - `steps`, `turns`: steps, a desk; `core_steps`, `reply`, `change`: transactions; `locks`: a
+//! - `steps`, `turns`: steps, a desk; `core_steps`, `session_steps`, `reply`, `change`: transactions; `locks`: a
 //!   lock table; `board`: viewers; `shelves`: a change made by hand
 //! - `command_line`, `pool`: command lines parsed, and points numbered
 #![tactic(auto)]
@@ -48,6 +48,7 @@ mod scripts;
 mod seen;
 mod serve;
 mod served;
+mod session_steps;
 mod shelves;
 mod steps;
 mod tokens;

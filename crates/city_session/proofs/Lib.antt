@@ -1,0 +1,4 @@
+pub mod AsScripts
+mod Examples
+pub mod Ran
+pub mod Recorded

@@ -1,0 +1,4 @@
+pub mod Acting
+pub mod Grown
+pub mod Live
+pub mod internal

@@ -1,0 +1,3 @@
+-- Specs for the crate's own clauses and proofs only.
+pub mod NoCity
+pub mod Recorded

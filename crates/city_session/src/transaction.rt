@@ -1,0 +1,85 @@
+//! An open transaction.
+ghost use Rattle.std.specs.Prelude.{◌≡◌, ◌<◌, [], length, false, not};
+ghost use Rattle.city_model.specs.Meaning.{is_refusal};
+ghost use Rattle.city_session.specs.Grown.{unrefused, max_commands, is_full, with_reply};
+
+use crate::MAX_COMMANDS;
+use crate::ghosts::told::Told;
+use city_model::command::{Command, Reply};
+use std::marker::Model;
+
+/// An open transaction of a session.
+///
+/// Contracts see how many had ended when it began, and what it was told.
+#[derive(Drop)]
+pub struct Transaction {
+    since: u64,
+    /// How many of its commands were not refused.
+    commands: usize,
+    told: Told,
+}
+
+impl Model for Transaction {
+    ghost use Rattle.city_session.specs.Grown.{Grown};
+
+    ghost Value = { Grown };
+
+    ghost use Rattle.std.specs.Coded.{codes};
+    ghost use Rattle.city_members.specs.internal.DataCode.{coded_members};
+    ghost use Rattle.city_txn.specs.internal.Codes.{coded_objects};
+
+    ghost coded = { Prim.hlevel (codes, coded_members, coded_objects) };
+
+    ghost view = { λ t. record { since = t.since; told = t.told } };
+
+    ghost use Rattle.std.specs.Prelude.{◌≡◌, ◌<◌, length};
+    ghost use Rattle.city_session.specs.Grown.{unrefused, max_commands};
+
+    ghost invariant = { λ t. (t.commands ≡ length (unrefused t.told)) × (t.commands < max_commands) };
+}
+
+/// Whether a command with this reply is part of its transaction's script.
+fn is_done(reply: &Reply) -> bool
+    ensures { result ≡ not (is_refusal reply.now) }
+{
+    !matches!(reply, Reply::Refused(_))
+}
+
+impl Transaction {
+    /// One that was told nothing yet. Doesn't allocate.
+    pub fn begun(since: u64) -> Transaction
+        ensures { result ≡ record { since = since; told = [] } }
+    {
+        Transaction {
+            since,
+            commands: 0,
+            told: Told::nothing(),
+        }
+    }
+
+    /// How many had ended when it began. Doesn't allocate.
+    pub fn since(&self) -> u64
+        ensures since { result ≡ self.now.since }
+        ensures within { length (unrefused self.now.told) < max_commands }
+    {
+        self.since
+    }
+
+    /// Whether only a commit or an abort has room left: a refused command takes none. Doesn't allocate.
+    pub fn is_full(&self) -> bool
+        ensures { result ≡ is_full self.now }
+    {
+        self.commands + 1 == MAX_COMMANDS
+    }
+
+    /// Adds a reply. Doesn't allocate.
+    pub fn hear(&mut self, command: &Command, reply: &Reply)
+        requires { is_full self.old ≡ false }
+        ensures { self.new ≡ with_reply command.now reply.now self.old }
+    {
+        if is_done(reply) {
+            self.commands += 1;
+        }
+        self.told = self.told.with(command, reply);
+    }
+}
