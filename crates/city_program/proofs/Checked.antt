@@ -1,10 +1,11 @@
 -- The output of a check, by the texts read.
 use Rattle.city_program.proofs.Prelude.{◌≡◌, ◌++◌, ◌∷◌, ℕ, Bool, true, false, List, [], Option, None, Some, IfSome}
-use Rattle.city_program.proofs.Prelude.{refl, sym, inl, inr, subst, Vec, Appends, Asked}
+use Rattle.city_program.proofs.Prelude.{refl, sym, inl, inr, subst, Vec, Appends, Asked, ServeFault}
 use Rattle.std.proofs.Common.{Bor}
 use Rattle.city_program.specs.Checks.{AreModelLines, AreScriptsLines, AreCheckLines, AreFirstOf, HasLines, OfFiles}
 use Rattle.city_program.specs.Checks.{reading_of}
 use Rattle.city_serve.proofs.Taken.{takes_more}
+use Rattle.city_serve.specs.Served.{IsDeviceFault}
 use Rattle.city_serve.specs.Steps.{Step, Takes}
 use Rattle.city_serve.specs.Destinations.{Folder}
 use Rattle.city_program.specs.Programs.{Streams, IsChecked, OfLines}
@@ -35,9 +36,13 @@ model_and_scripts texts decimals model scripts first behind lines of_model of_sc
 
 -- ---- steps
 
-abbrev Reads : List ℕ → Option (List ℕ) → Option (List Step) → Option (List Step) → Type 0
+abbrev pub Reads : List ℕ → Option (List ℕ) → Option (List Step) → Option (List Step) → Type 0
 Reads model scripts begun ended =
     (steps : List Step) × Takes begun ended steps × AreFirstOf (reading_of model scripts) steps
+
+-- a text couldn't be read, or memory ran out
+abbrev pub Unread : List ℕ → Option (List ℕ) → Option (List Step) → Option (List Step) → ServeFault → Type 0
+Unread model scripts begun ended f = IsDeviceFault true f × Reads model scripts begun ended
 
 -- the model was read, or not
 pub read_first : (model : List ℕ) (scripts : Option (List ℕ)) (a b : Option (List Step)) → MayRead model a b

@@ -1,3 +1,4 @@
 mod Checked
+mod Locked
 pub mod Prelude
 mod Telling

@@ -1,23 +1,20 @@
 -- The bytes on standard error, line by line, and the program's end with them.
 use Rattle.city_program.proofs.Prelude.{◌≡◌, ◌<◌, ◌+◌, ℕ, Bool, false, List, [], ◌∷◌, ◌++◌, length, Option, Some}
 use Rattle.city_program.proofs.Prelude.{None, true, inl, inr, refl, sym, ap, subst, ◌∙◌, append_assoc, append-nil, Vec}
-use Rattle.city_program.proofs.Prelude.{Appends, Keeps, Asked, ServeFault, seen_text, EndsAsked, IsSeenTold}
+use Rattle.city_program.proofs.Prelude.{Appends, Asked, ServeFault, seen_text, EndsAsked, IsSeenTold}
 use Rattle.std.proofs.Common.{arith, get_or, take}
 use Rattle.std.proofs.lemmas.List.{take_more, length-take-le}
 use Rattle.city_program.specs.declared.status.Status.{Status}
 use Rattle.city_serve.specs.FaultTexts.{fault_text}
 use Rattle.city_program.specs.Programs.{Streams, IsAnswered, IsTold, IsToldFault, IsUnanswered, is_explained}
-use Rattle.city_program.specs.Programs.{seen_lines, memory_line}
-use Rattle.city_program.specs.internal.Telling.{IsToldAfter, IsFaultText, IsFound, IsAnsweredAs}
+use Rattle.city_program.specs.Programs.{seen_lines, memory_line, TakesLocked, reading, steps_inside}
+use Rattle.city_serve.specs.Steps.{Takes}
+use Rattle.city_program.specs.internal.Telling.{IsToldAfter, IsFaultText, IsFound, IsAnsweredAs, is_withheld_at}
 use Rattle.city_serve.proofs.KnownBytes.{appends_more}
 
 -- the lines of the first viewers, if all writes succeeded
 abbrev pub AreToldTo : ℕ → List (Vec ℕ) → Option (List ℕ) → Option (List ℕ) → Bool → Type 0
 AreToldTo viewer all old new failed = IsTold old new failed (seen_lines 0 (take viewer all))
-
-pub keeps_same : (u : Option (List ℕ)) → Keeps u u
-keeps_same None = tt
-keeps_same (Some xs) = refl
 
 seen_lines-append : (viewer : ℕ) (first : List (Vec ℕ)) (seen : Vec ℕ)
     → seen_lines viewer (first ++ seen ∷ [])
@@ -71,41 +68,48 @@ none_within viewer seen none within = grind arith
 
 module _ (terminal : Bool) (s : Streams) (told telling : Option (List ℕ)) (mute : Bool) where
   found : (asked : Asked) (status : Status) (seen : List (Vec ℕ)) → IsFound s asked seen
+      → TakesLocked asked s (steps_inside asked false)
       → IsSeenTold Status.Faulty status told telling mute seen → EndsAsked terminal asked status s told telling mute
-  found (Asked.Check options model scripts) status seen is (inl lines) =
-      subst (λ status. EndsAsked terminal (Asked.Check options model scripts) status s told telling mute) (sym lines.0)
-      (is.1, subst (λ seen. IsTold told telling mute (seen_lines 0 seen)) is.0 lines.1)
-  found (Asked.Check options model scripts) status seen is (inr failed) =
+  found (Asked.Check options model scripts) status seen is steps (inl lines) =
+      let check = Asked.Check options model scripts in
+      subst (λ status. EndsAsked terminal check status s told telling mute) (sym lines.0) (
+        is.1,
+        subst (λ seen. IsTold told telling mute (seen_lines 0 seen)) is.0 lines.1,
+        subst (Takes s.begun s.ended) (append-nil (reading check)) steps,
+      )
+  found (Asked.Check options model scripts) status seen is steps (inr failed) =
       absurd (none_within failed.1.0 seen is.0 failed.1.1)
-  found (Asked.Input options destination) status seen is lines = absurd is
-  found (Asked.Files options destination model scripts) status seen is lines = absurd is
-  found (Asked.Text text) status seen is lines = absurd is
+  found (Asked.Input options destination) status seen is steps lines = absurd is
+  found (Asked.Files options destination model scripts) status seen is steps lines = absurd is
+  found (Asked.Text text) status seen is steps lines = absurd is
 
   module _ (asked : Asked) where
     ends_so : (ending : Status) (withheld : Bool) (status : Status) (seen : List (Vec ℕ))
-        → IsAnswered s asked seen withheld
+        → IsAnswered s asked seen withheld → TakesLocked asked s (steps_inside asked withheld)
         → (IsTold told telling mute (seen_lines 0 seen) → EndsAsked terminal asked ending s told telling mute)
         → IsSeenTold ending status told telling mute seen → EndsAsked terminal asked status s told telling mute
-    ends_so ending withheld status seen answered ends (inl lines) =
+    ends_so ending withheld status seen answered steps ends (inl lines) =
         subst (λ status. EndsAsked terminal asked status s told telling mute) (sym lines.0) (ends lines.1)
-    ends_so ending withheld status seen answered ends (inr failed) =
+    ends_so ending withheld status seen answered steps ends (inr failed) =
         subst (λ status. EndsAsked terminal asked status s told telling mute) (sym failed.0)
         (inr (record {
           seen = seen;
           withheld = withheld;
           answered = answered;
+          steps = steps;
           seen_told = failed.1;
         }))
 
     pub ends_told : (ending status : Status) (seen : List (Vec ℕ)) → IsAnsweredAs s asked seen ending
+        → TakesLocked asked s (steps_inside asked (is_withheld_at ending))
         → IsSeenTold ending status told telling mute seen → EndsAsked terminal asked status s told telling mute
-    ends_told Status.Done status seen answered lines = ends_so Status.Done false status seen answered
-        (λ told. record { seen = seen; answered = answered; seen_told = told }) lines
-    ends_told Status.Withheld status seen answered lines = ends_so Status.Withheld true status seen answered
-        (λ told. record { seen = seen; answered = answered; seen_told = told }) lines
-    ends_told Status.Faulty status seen is lines = found asked status seen is lines
-    ends_told Status.Failed status seen answered lines = absurd answered
-    ends_told Status.Refused status seen answered lines = absurd answered
+    ends_told Status.Done status seen answered steps lines = ends_so Status.Done false status seen answered steps
+        (λ told. record { seen = seen; answered = answered; steps = steps; seen_told = told }) lines
+    ends_told Status.Withheld status seen answered steps lines = ends_so Status.Withheld true status seen answered
+        steps (λ told. record { seen = seen; answered = answered; steps = steps; seen_told = told }) lines
+    ends_told Status.Faulty status seen is steps lines = found asked status seen is steps lines
+    ends_told Status.Failed status seen answered steps lines = absurd answered
+    ends_told Status.Refused status seen answered steps lines = absurd answered
 
     pub ends_faulty : (before : Bool) (f : ServeFault) → IsUnanswered s asked f
         → ((text : List ℕ) × IsToldFault (is_explained terminal asked) f text

@@ -1,8 +1,12 @@
-use Rattle.city_program.proofs.Prelude.{IfSome, ◌++◌, ◌∙◌, ap, subst, sym}
-use Rattle.std.proofs.Common.{option_map}
+use Rattle.city_program.proofs.Prelude.{IfSome, List, ServeFault, inr, refl, ◌++◌, ◌∙◌, ap, subst, sym, ℕ}
+use Rattle.std.proofs.Common.{Bor, option_map, rules}
+use Rattle.city_desk.specs.declared.fault.RunFault.{RunFault}
 use Rattle.city_program.specs.Checks.{AreCheckLines, AreScriptsLines, OfFiles}
-use Rattle.city_program.proofs.Checked.{model_and_scripts}
+use Rattle.city_program.proofs.Checked.{Reads, Unread, model_and_scripts, read_first, read_second}
 use Rattle.city_program.proofs.check.all_lines.Goals as goal
+
+abbrev now : Bor (List ℕ) → List ℕ
+now s = s.now
 
 pub returns-clause-lines : goal.returns-clause-lines
 returns-clause-lines g c =
@@ -17,3 +21,40 @@ returns-clause-lines g c =
     (subst (λ folder. IfSome (folder scripts) (λ all. AreScriptsLines c.args.decimals all behind))
     c.model_lines.ensures.texts c.in_ok-more.ensures.lines)
     (c.in_ok-extend_from_slice.ensures.items ∙ ap (λ more. first ++ more) c.as_slice.ensures.value))
+
+pub returns-in_err-lines-clause-fault : goal.returns-in_err-lines-clause-fault
+returns-in_err-lines-clause-fault g c =
+    let is = c.in_err-lines.ensures.fault in
+    let scripts = option_map now c.args.scripts in
+    let begun = g.F.TextFiles.steps c.args.files.now in
+    let ended = g.F.TextFiles.steps c.model_lines.new.files in
+    let fault : Unread c.args.model.now scripts begun ended c.in_err-lines.field-0 =
+    (is.0, read_first c.args.model.now scripts begun ended is.1) in
+    search (fault, rules)
+
+pub returns-in_err-more-clause-fault : goal.returns-in_err-more-clause-fault
+returns-in_err-more-clause-fault g c =
+    let is = c.in_err-more.ensures.fault in
+    let scripts = option_map now c.args.scripts in
+    let begun = g.F.TextFiles.steps c.args.files.now in
+    let ended = g.F.TextFiles.steps c.more_lines.new.files in
+    let fault : Unread c.args.model.now scripts begun ended c.in_err-more.field-0 = (
+      is.0,
+      subst (λ o. Reads c.args.model.now (option_map now o) begun ended) (sym c.in-Some.is)
+          (read_second c.args.model.now c.in-Some.scripts.now begun (g.F.TextFiles.steps c.model_lines.new.files) ended
+          c.in_ok-lines.ensures.steps is.1),
+    ) in
+    search (fault, rules)
+
+pub returns-in_err-extend_from_slice-clause-fault : goal.returns-in_err-extend_from_slice-clause-fault
+returns-in_err-extend_from_slice-clause-fault g c =
+    let scripts = option_map now c.args.scripts in
+    let begun = g.F.TextFiles.steps c.args.files.now in
+    let ended = g.F.TextFiles.steps c.more_lines.new.files in
+    let fault : Unread c.args.model.now scripts begun ended (ServeFault.Run RunFault.OutOfMemory) = (
+      inr refl,
+      subst (λ o. Reads c.args.model.now (option_map now o) begun ended) (sym c.in-Some.is)
+          (read_second c.args.model.now c.in-Some.scripts.now begun (g.F.TextFiles.steps c.model_lines.new.files) ended
+          c.in_ok-lines.ensures.steps (inr c.in_ok-more.ensures.steps)),
+    ) in
+    search (fault, rules)

@@ -3,23 +3,25 @@ use Rattle.city_program.specs.Programs.{Streams}
 use Rattle.city_program.proofs.Telling.{ends_told, ends_faulty}
 use Rattle.city_program.proofs.program.run_asked.Goals as goal
 
-pub returns-in-Ok : goal.returns-in-Ok
-returns-in-Ok g c =
+pub returns-in-Ok-clause-ended : goal.returns-in-Ok-clause-ended
+returns-in-Ok-clause-ended g c =
     let told = g.E.Write.contents c.args.errors.now.0 in
     let telling = g.E.Write.contents c.tell_seen.new.errors.0 in
     let mute = c.tell_seen.new.errors.1 in
     let answer = c.in-Ok.answer in
     ends_told c.args.terminal _ told telling mute c.args.asked.now answer.status c.tell_seen.result answer.seen.items
-    c.in-Ok.ensures.answered
+    c.in-Ok.ensures.answered c.in-Ok.ensures.steps
     (subst (IsSeenTold answer.status c.tell_seen.result told telling mute) c.as_slice.ensures.value
     c.tell_seen.ensures)
 
-pub returns-in-Err : goal.returns-in-Err
-returns-in-Err g c =
+pub returns-in-Err-clause-ended : goal.returns-in-Err-clause-ended
+returns-in-Err-clause-ended g c =
     let streams : Streams = record {
       before = g.F.TextFiles.text c.args.files.now;
       after = g.F.TextFiles.text c.answer.new.files;
       files_failed = g.F.OutputFiles.have_failed c.answer.new.files;
+      begun = g.F.TextFiles.steps c.args.files.now;
+      ended = g.F.TextFiles.steps c.answer.new.files;
       input = g.R.Read.remaining c.args.input.now.0;
       reader_failed = c.answer.new.input.1;
       old = g.W.Write.contents c.args.output.now.0;

@@ -1,6 +1,7 @@
 use Rattle.city_program.proofs.Prelude.{List, ℕ, drop, map, string_bytes, inl, inr, refl, subst}
 use Rattle.city_program.specs.Programs.{AsksFor}
-use Rattle.city_program.proofs.Telling.{keeps_same}
+use Rattle.city_serve.proofs.KnownBytes.{keeps_same}
+use Rattle.city_serve.proofs.Taken.{takes_none}
 use Rattle.city_program.proofs.program.run_program.Goals as goal
 
 pub returns-in-Ok : goal.returns-in-Ok
@@ -16,7 +17,8 @@ returns-in-Ok g c =
     inl (record {
       asked = c.in-Ok.asked;
       asks = subst (AsksFor arguments) c.in-Ok.is asks;
-      ended = c.run_asked.ensures;
+      named = c.run_asked.ensures.named;
+      ended = c.run_asked.ensures.ended;
     })
 
 pub returns-in-Err : goal.returns-in-Err
@@ -34,5 +36,6 @@ returns-in-Err g c =
       asks = subst (AsksFor arguments) c.in-Err.is asks;
       kept = keeps_same (g.W.Write.contents c.args.output.now.0);
       same = refl;
+      steps = takes_none (g.F.TextFiles.steps c.args.files.now);
       line = c.refuse_line.ensures;
     })
