@@ -30,7 +30,8 @@ import time
 from collections import namedtuple
 from pathlib import Path
 
-ROOT = Path(__file__).resolve().parent.parent
+from listed_crates import ROOT, listed, own, reached
+
 EDITS = ROOT / "testing" / "edits"
 PROVED_FROM = ("src", "specs", "proofs")
 NAME = re.compile(r"[A-Za-z0-9_-][A-Za-z0-9_.-]*\.edit")
@@ -54,27 +55,6 @@ class Bad(Exception):
 
 class Stop(Exception):
     """Why nothing can be tried."""
-
-
-def crates():
-    """The crates of crates.txt, each with those of them that it uses."""
-    uses = {}
-    for line in (ROOT / "crates.txt").read_text(encoding="utf-8").splitlines():
-        names, colon, below = line.partition("#")[0].partition(":")
-        if colon:
-            uses[names.split()[0]] = below.split()
-    return {name: [it for it in below if it in uses] for name, below in uses.items()}
-
-
-def reached(uses, names):
-    """The names, and all that is reached from them."""
-    found, left = set(), list(names)
-    while left:
-        name = left.pop()
-        if name not in found:
-            found.add(name)
-            left += uses[name]
-    return found
 
 
 def edits_in(folder, crate):
@@ -105,7 +85,7 @@ def changed_since(base, uses):
             differ.add(parts[1])
         if parts[:2] == ["testing", "edits"] and len(parts) > 3:
             edited.add(parts[2])
-    return edited | {name for name in uses if reached(uses, [name]) & differ}
+    return edited | {name for name in uses if differ.intersection(reached(uses, [name]))}
 
 
 def chosen(asked, uses):
@@ -305,7 +285,7 @@ def tried(edits, uses, jobs):
     with tempfile.TemporaryDirectory(prefix="edits-") as folder:
         room = Path(folder)
         copy(room, below, edits)
-        print("proving", *[name for name in uses if name in below], flush=True)
+        print("proving", *below, flush=True)
         holds = proved(room, jobs)
         for edit in [it for it in edits if it.crate not in holds]:
             print(f"{label(edit)}: NOT TRIED: {edit.crate} isn't proved as it stands; rt check there says why")
@@ -325,7 +305,7 @@ def main():
     asked.add_argument("--apply", action="store_true")
     asked = asked.parse_args()
     signal.signal(signal.SIGTERM, lambda *_: sys.exit("edits: ended"))
-    uses = crates()
+    uses = own(listed())
     try:
         edits, kept = all_edits(chosen(asked, uses))
         strange = [it.name for it in sorted(EDITS.iterdir()) if it.name not in uses]
