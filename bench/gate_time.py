@@ -14,6 +14,7 @@ import json
 import os
 import re
 import shutil
+import signal
 import subprocess
 import sys
 import time
@@ -124,8 +125,13 @@ def main():
     if shutil.which("rt") is None:
         print("gate_time: there is no command rt: the Rattle toolchain has to be installed, its bin/ in PATH")
         return 2
-    start = time.monotonic()
-    seconds, status, whole = sampled(subprocess.Popen(["rt", "ci", *words]))
+    signal.signal(signal.SIGTERM, lambda *_: sys.exit("gate_time: ended"))
+    start, ran = time.monotonic(), subprocess.Popen(["rt", "ci", *words])
+    try:
+        seconds, status, whole = sampled(ran)
+    except BaseException:
+        ran.kill()
+        raise
     tell(seconds, whole, time.monotonic() - start)
     if asked.json:
         with open(asked.json, "w", encoding="utf-8") as file:

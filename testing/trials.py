@@ -14,6 +14,7 @@ status is 1 if one failed.
 import argparse
 import os
 import shutil
+import signal
 import subprocess
 import sys
 import tempfile
@@ -133,6 +134,7 @@ def main():
     if asked.list:
         print(*[f"{name}: {command(words)}" for name, words in chosen.items()], sep="\n")
         return 0
+    signal.signal(signal.SIGTERM, lambda *_: sys.exit("trials: ended"))
     with tempfile.TemporaryDirectory(prefix="trials-") as folder:
         programs = {CITYED: asked.cityed, SCENARIOS: asked.scenarios}
         for name, given in programs.items():
