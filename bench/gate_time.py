@@ -59,7 +59,7 @@ def below(found, root):
 
 
 def kind_of(pid):
-    """The kind that a process belongs to, and its crate."""
+    """The kind that a process belongs to, and its crate, if its words and its folder tell."""
     words = text_of(f"/proc/{pid}/cmdline").split("\0")
     try:
         folder = os.readlink(f"/proc/{pid}/cwd")
@@ -72,7 +72,19 @@ def kind_of(pid):
         return "tests", crate
     if any("rt-run-" in word for word in [folder, *words]):
         return "programs", crate
-    return "first proofs" if crate else "rt itself", crate
+    return ("first proofs", crate) if crate else None
+
+
+def kinds_of(found, root):
+    """The kind and the crate of each process below one: its own, or else those of what started it."""
+    kinds = {root: ("rt itself", "")}
+
+    def kind(pid):
+        if pid not in kinds:
+            kinds[pid] = kind_of(pid) or kind(found[pid][0])
+        return kinds[pid]
+
+    return {pid: kind(pid) for pid in below(found, root)}
 
 
 def sampled(ran):
@@ -80,10 +92,9 @@ def sampled(ran):
     taken, kinds = {}, {}
     while True:
         found = looked_at()
-        for pid in below(found, ran.pid):
+        for pid, kind in kinds_of(found, ran.pid).items():
             key = pid, found[pid][1]
             taken[key] = found[pid][2]
-            kind = kind_of(pid)
             if kind[1] or key not in kinds:
                 kinds[key] = kind
         ended, status, used = os.wait4(ran.pid, os.WNOHANG)
