@@ -69,6 +69,8 @@ def label(edit):
 
 def git(*words):
     """The names that git lists, of files from the root of the repository."""
+    if shutil.which("git") is None:
+        raise Stop("there is no command git, which lists the files")
     ran = subprocess.run(["git", words[0], "-z", *words[1:]], cwd=ROOT, capture_output=True, text=True)
     if ran.returncode:
         raise Stop(f"git {words[0]} failed: {ran.stderr.strip()}")
@@ -171,8 +173,8 @@ def copy(room, names, edits):
         (room / name).parent.mkdir(parents=True, exist_ok=True)
         shutil.copyfile(ROOT / name, room / name)
     lines = (room / "crates.txt").read_text(encoding="utf-8").splitlines(keepends=True)
-    own = [line for line in lines if (line.partition(":")[0].split() or [""])[0] in names]
-    (room / "crates.txt").write_text("".join(own), encoding="utf-8")
+    lines = [line for line in lines if (line.partition(":")[0].split() or [""])[0] in names]
+    (room / "crates.txt").write_text("".join(lines), encoding="utf-8")
     for edit in edits:
         folder = room / "crates" / edit.crate / "must-fail"
         folder.mkdir(exist_ok=True)
