@@ -6,7 +6,7 @@ usage: pages.py [PROGRAM] [--slow] [PAGE.md ..]
 PROGRAM is a built cityed; without it no command is run. Without pages it goes through all pages of the repository, and
 counts. The commands of a page are the blocks that begin with ```sh, and what stands as `python3 ..` in its sentences.
 One bash runs them for each page, each block from the top of a copy of the repository, in which PROGRAM stands as
-crates/cityed/out/cityed. It says which command
+crates/cityed/out/cityed; it also takes the place of /tmp/cityed-unproved. It says which command
 
 - doesn't end with status 0;
 - prints anything else than the block that follows the commands' block at once (`..` stands for anything);
@@ -35,6 +35,7 @@ ROOT = Path(__file__).resolve().parent.parent
 SECONDS = 300  # for each page, with --slow 3,600
 MOST_WORDS, MOST_LINES, MOST_RELATIVE = 20_000, 120, 0.45
 OLD = ("CHANGELOG.md", "bench/HISTORY.md")  # what tells of earlier days, and may repeat its figures
+UNPROVED = "/tmp/cityed-unproved"
 SNAKEMAKE = shutil.which("snakemake")
 COMMON = "and|of|to|or|in|at|by|for|with|on|is|are|the|alone|more|less|each|times"  # words that name no figure's unit
 
@@ -43,7 +44,8 @@ SKIPPED = [
     (r"\brt (ci|check|verdict|lib|run|test|all|tidy|plant|must-fail)\b", "it proves", False),
     (r"\b(NAME|NAMES|MODEL|SCRIPTS|OLD|NEW|EDIT|FILE|FUNCTION|RUN|CITY)\b", "the reader fills in a name", False),
     *([] if SNAKEMAKE else [(r"\b(snakemake|tiles\.py)\b|/tmp/town", "Snakemake isn't installed", False)]),
-    (r"\bout/city_(tests_tests|scenarios)\b", "it wants another program", False),
+    (r"\btesting/unproved\.py|edits\.py(?! --apply)|trials\.py$|gate_time\.py", "it proves, or builds", False),
+    (r"\bout/city_tests_tests\b|city_scenarios-unproved", "it wants another program", False),
     (r"\brt (try|fmt|seed|expand)\b", "minutes", True),
     (r"\btesting/pages\.py", "it is this script", False),
     (r"\btesting/(hostile_texts|refused_calls|decimals)\.py", "minutes", True),
@@ -175,6 +177,7 @@ class Trial:
     def run(self, page, script, notes):
         """Runs a page's commands, each of which notes its status, and each block its output."""
         words = {"stdin": subprocess.DEVNULL, "env": {**os.environ, "NOTES": notes}}
+        script = script.replace(UNPROVED, str(self.program))
         seconds = 3600 if self.slow else SECONDS
         try:
             subprocess.run(["bash", "-c", script], timeout=seconds, **words)
