@@ -35,6 +35,8 @@ TRIALS = {
     "statuses": ["statuses.py", CITYED],
     "mistakes": ["mistakes.py", CITYED],
     "pages": ["pages.py", CITYED],
+    "two_runs": ["two_runs.py", CITYED],
+    "output_files": ["output_files.py", CITYED],
     "counted_calls": ["counted_calls.py", CITYED, SCENARIOS],
     "refused_calls": ["refused_calls.py", CITYED],
     "decimals": ["decimals.py", CITYED],
@@ -43,7 +45,15 @@ TRIALS = {
     "checked_texts": ["checked_texts.py", CITYED],
     "city": ["city.py", CITYED],
 }
+# The other scripts: one that needs the proved tests, and those that try no program.
+OTHERS = {"refused_growths", "edits", "trials", "unproved"}
 MOST_LINES = 30
+
+
+def left_out():
+    """The scripts beside this one that are in neither list."""
+    texts = {path.stem: path.read_text(encoding="utf-8") for path in (ROOT / "testing").glob("*.py")}
+    return sorted(name for name, text in texts.items() if text.startswith("#!") and name not in OTHERS | TRIALS.keys())
 
 
 def is_script(words):
@@ -122,6 +132,9 @@ def main():
     asked.add_argument("--scenarios", metavar="FILE")
     asked.add_argument("--list", action="store_true")
     asked = asked.parse_args()
+    if left_out():
+        print(f"trials: {left_out()[0]}.py is in no list of trials.py")
+        return 2
     unknown = [name for name in asked.trials if name not in TRIALS]
     if unknown:
         print(f"trials: there is no trial {unknown[0]}; --list prints all")
