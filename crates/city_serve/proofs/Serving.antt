@@ -45,13 +45,6 @@ module _ (input : Option (List ℕ)) (document scripts : List ℕ)
   fault_of_input ran faults workers viewers old new reader_failed failed ServeFault.Write h =
       (of_input (λ d s. AreCutShortBy ran d s workers viewers old new) h.0, h.1)
 
-pub of_files : (first second : Option (List ℕ)) (P : List ℕ → List ℕ → Type 0) (document scripts : List ℕ)
-    → IfSome first (λ all. document ≡ all) → IfSome second (λ all. scripts ≡ all) → P document scripts
-    → IfSome first (λ d. IfSome second (λ s. P d s))
-of_files None second P document scripts is too h = tt
-of_files (Some d) None P document scripts is too h = tt
-of_files (Some d) (Some s) P document scripts is too h = subst (λ t. P d t) too (subst (λ t. P t scripts) is h)
-
 -- ---- destinations
 
 -- a run on two texts, cut behind its report
