@@ -1,5 +1,5 @@
 -- A run on two files that breaks off.
-use Rattle.city_program.proofs.Prelude.{◌≡◌, ◌++◌, ◌∷◌, ◌∙◌, ℕ, List, [], Option, Some, None, IfSome, inr, refl, subst, sym}
+use Rattle.city_program.proofs.Prelude.{◌≡◌, ◌∷◌, ◌∙◌, ℕ, List, [], Option, Some, None, IfSome, inr, refl, subst, sym}
 use Rattle.city_program.proofs.Prelude.{ap, Vec, Asked, ServeFault}
 use Rattle.std.proofs.Common.{Bor}
 use Rattle.city_serve.proofs.Taken.{takes_more}

@@ -1,9 +1,8 @@
-use Rattle.std.proofs.Common.{Bor, rules}
+use Rattle.std.proofs.Common.{rules}
 use Rattle.city_program.proofs.Prelude.{List, [], ◌∷◌, inl, refl, subst, sym, ◌∙◌}
 use Rattle.city_serve.proofs.KnownBytes.{keeps_same}
 use Rattle.city_serve.proofs.Taken.{takes_more, takes_none}
 use Rattle.city_serve.specs.Steps.{Step, Takes}
-use Rattle.city_options.specs.declared.command_line.Asked.{Asked}
 use Rattle.city_program.specs.Programs.{IsUnansweredBy, Streams}
 use Rattle.city_program.proofs.Files.{files_broken}
 use Rattle.city_program.proofs.Checked.{checked_as}
