@@ -1,4 +1,5 @@
 mod Checked
+mod Files
 mod Locked
 pub mod Prelude
 mod Telling

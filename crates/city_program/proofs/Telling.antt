@@ -1,6 +1,6 @@
 -- The bytes on standard error, line by line, and the program's end with them.
-use Rattle.city_program.proofs.Prelude.{◌≡◌, ◌<◌, ◌+◌, ℕ, Bool, false, List, [], ◌∷◌, ◌++◌, length, Option, Some}
-use Rattle.city_program.proofs.Prelude.{None, true, inl, inr, refl, sym, ap, subst, ◌∙◌, append_assoc, append-nil, Vec}
+use Rattle.city_program.proofs.Prelude.{◌≡◌, ◌<◌, ◌+◌, ℕ, Bool, false, List, [], ◌∷◌, ◌++◌, length, Option}
+use Rattle.city_program.proofs.Prelude.{true, inl, inr, refl, sym, ap, subst, ◌∙◌, append_assoc, append-nil, Vec}
 use Rattle.city_program.proofs.Prelude.{Appends, Asked, ServeFault, seen_text, EndsAsked, IsSeenTold}
 use Rattle.std.proofs.Common.{arith, get_or, take}
 use Rattle.std.proofs.lemmas.List.{take_more, length-take-le}

@@ -1,12 +1,11 @@
 -- A new file in the place of another has given it everything written to it, and how that breaks off.
-use Rattle.city_serve.proofs.Prelude.{◌≡◌, ◌≢◌, ◌⊎◌, ℕ, Bool, true, false, List, [], ◌∷◌, ◌++◌, Option, Some, None}
-use Rattle.city_serve.proofs.Prelude.{IfSome, if◌then◌else◌, refl, sym, ap, subst, inl, inr, ◌∙◌, Appends, Keeps}
+use Rattle.city_serve.proofs.Prelude.{◌≡◌, ℕ, Bool, true, false, List, [], ◌∷◌, ◌++◌, Option, Some, None}
+use Rattle.city_serve.proofs.Prelude.{IfSome, refl, sym, ap, subst, inl, inr, ◌∙◌, Appends}
 use Rattle.city_serve.proofs.Prelude.{AppendsSome, ServeFault}
 use Rattle.city_serve.proofs.Taken.{takes_more, takes_none}
 use Rattle.city_serve.specs.Destinations.{BreaksOff, Folder, IsBrokenOff, IsLookFault, IsPlaced, IsReplaced, IsWriterCut}
 use Rattle.city_serve.specs.Destinations.{bytes_to_writer}
-use Rattle.city_serve.specs.Steps.{Step, Created, FolderSynced, GivenUp, LookedAt, Renamed, Synced, Takes, delivering}
-use Rattle.city_serve.specs.Steps.{replacing}
+use Rattle.city_serve.specs.Steps.{Step, Created, GivenUp, LookedAt, Renamed, Synced, Takes, delivering}
 use Rattle.city_serve.specs.internal.Placing.{IsPut, IsUnplaced}
 
 pub replaced : (path model : List ℕ) (known : Bool) (contents : Option (List ℕ)) (before after : Folder)

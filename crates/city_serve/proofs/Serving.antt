@@ -2,7 +2,7 @@
 -- if they are the parts of its bytes read.
 use Rattle.city_serve.proofs.Prelude.{◌≡◌, ◌++◌, ℕ, List, Bool, true, false, Option, Some, None, IfSome, sym, subst}
 use Rattle.city_serve.proofs.Prelude.{take, drop}
-use Rattle.city_serve.proofs.Prelude.{Vec, Appends, End, ServeFault, AreServedBy, document_part, written_by, faults_by}
+use Rattle.city_serve.proofs.Prelude.{Vec, Appends, End, ServeFault, AreServedBy, document_part, written_by}
 use Rattle.std.proofs.lemmas.List.{take-append-drop}
 use Rattle.city_scheduler.specs.InTurn.{AreInTurn}
 use Rattle.city_options.specs.declared.options.Options.{Options}
@@ -44,13 +44,8 @@ module _ (input : Option (List ℕ)) (document scripts : List ℕ)
       (h.0, of_input (λ d s. faults d s workers viewers f) h.1)
   fault_of_input ran faults workers viewers old new reader_failed failed ServeFault.Write h =
       (of_input (λ d s. AreCutShortBy ran d s workers viewers old new) h.0, h.1)
-
-pub of_files : (first second : Option (List ℕ)) (P : List ℕ → List ℕ → Type 0) (document scripts : List ℕ)
-    → IfSome first (λ all. document ≡ all) → IfSome second (λ all. scripts ≡ all) → P document scripts
-    → IfSome first (λ d. IfSome second (λ s. P d s))
-of_files None second P document scripts is too h = tt
-of_files (Some d) None P document scripts is too h = tt
-of_files (Some d) (Some s) P document scripts is too h = subst (λ t. P d t) too (subst (λ t. P t scripts) is h)
+  fault_of_input ran faults workers viewers old new reader_failed failed ServeFault.InUse h = absurd h
+  fault_of_input ran faults workers viewers old new reader_failed failed ServeFault.Changed h = absurd h
 
 -- ---- destinations
 
@@ -79,25 +74,6 @@ module _ (options : Options) (document scripts : List ℕ) (before after : Folde
     looked = d.looked;
     written = subst (λ b. Appends old new (bytes_to_writer None b d.report d.model)) d.withheld_is d.written;
   }
-
-  pub fault_whole : (files_failed failed : Bool) (steps : List Step) (f : ServeFault)
-      → IsDeliveryFault plain_destination options document scripts before after files_failed old new failed steps f
-      → IsTextsFaultBy (written_by options.decimals) (faults_by options.decimals) document scripts options.workers
-      options.viewers old new failed f
-  fault_whole files_failed failed steps (ServeFault.Run f) h = (h.0, h.3)
-  fault_whole files_failed failed steps ServeFault.Write h = (
-    record {
-      ends = h.ends;
-      bytes = h.report ++ h.model;
-      ran = h.run.ran;
-      in_turn = h.run.in_turn;
-      written = h.broken.1;
-    },
-    h.broken.3,
-  )
-  fault_whole files_failed failed steps ServeFault.Read h = let wrong = h.broken.0 in absurd (cc)
-  fault_whole files_failed failed steps ServeFault.InUse h = let wrong = h.broken.0 in absurd (cc)
-  fault_whole files_failed failed steps ServeFault.Changed h = let wrong = h.broken.0 in absurd (cc)
 
 -- a delivery that breaks off is no fault of the run
 module _ (report model : List ℕ) (before after : Folder) (files_failed : Bool) (old new : Option (List ℕ))

@@ -30,9 +30,9 @@ refused_next : (held : Held) (v : Snapshot) (d : Answered) (ds : List Answered) 
     → is_refusal d.1 ≡ true → GoesOn (effect v d.0) (Next held d.1 ds w) → IsTraceUnderLocks held v ds w
 refused_next held v d ds w refused h = goes_on_case (Next held d.1 ds w) (effect v d.0)
     (λ reply u is next.
-        let stays : step v d.0 ≡ v =
-            refused_stays v d.0 (ap (λ e. is_refusal (reply_of e)) is ∙ (ap is_refusal next.0 ∙ refused)) in
-        subst (λ x. IsTraceUnderLocks held x ds w) (answered_next v d.0 reply u is ∙ stays) next.1) h
+    let stays : step v d.0 ≡ v =
+    refused_stays v d.0 (ap (λ e. is_refusal (reply_of e)) is ∙ (ap is_refusal next.0 ∙ refused)) in
+    subst (λ x. IsTraceUnderLocks held x ds w) (answered_next v d.0 reply u is ∙ stays) next.1) h
 
 -- ---- all of them
 
@@ -50,7 +50,7 @@ ends_as held v [] w i end o h f = subst (λ x. EndsAt x end i o) h (f i)
 ends_as held v (d ∷ ds) w i end o h f = bool_cases (is_refusal d.1)
     (λ r. rw r (ends_as held v ds w i end o (refused_next held v d ds w r h.1) f))
     (λ r. rw r (goes_on_to _ _ (effect v d.0)
-        (λ reply u is next. (next.0, ap is_refusal next.0 ∙ r, ends_as held u ds w (i + 1) end o next.1 f)) h.1))
+    (λ reply u is next. (next.0, ap is_refusal next.0 ∙ r, ends_as held u ds w (i + 1) end o next.1 f)) h.1))
 
 further : (held : Held) (v : Snapshot) (e : Effect) (w : Snapshot) (cs : List Command) (r : Reply) (ds : List Answered)
     → is_refusal r ≡ false → ((u : Snapshot) → IsTraceUnderLocks held u ds w → view_at_end u cs ≡ w)
@@ -64,7 +64,7 @@ leads_to held v [] w h = sym h
 leads_to held v (d ∷ ds) w h = bool_cases (is_refusal d.1)
     (λ r. rw r (leads_to held v ds w (refused_next held v d ds w r h.1)))
     (λ r. rw r (further held v (effect v d.0) w (commands_in (unrefused ds) ++ Commit ∷ []) d.1 ds r
-        (λ u. leads_to held u ds w) h.1))
+    (λ u. leads_to held u ds w) h.1))
 
 -- and they are a script
 pub ends_last : (held : Held) (v : Snapshot) (told : List Answered) (w : Snapshot) (end : Command) → is_end end ≡ true
@@ -73,7 +73,7 @@ ends_last held v [] w end e h = rw e refl
 ends_last held v (d ∷ ds) w end e h = bool_cases (is_refusal d.1)
     (λ r. rw r (ends_last held v ds w end e (refused_next held v d ds w r h.1)))
     (λ r. rw (r, goes_not_end v d.0 (Next held d.1 ds w) h.1)
-        (goes_on_case (Next held d.1 ds w) (effect v d.0) (λ reply u is next. ends_last held u ds w end e next.1) h.1))
+    (goes_on_case (Next held d.1 ds w) (effect v d.0) (λ reply u is next. ends_last held u ds w end e next.1) h.1))
 
 -- ---- how many they are
 

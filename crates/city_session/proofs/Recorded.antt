@@ -40,7 +40,7 @@ live_of {start} {closed} r =
     let m = object_at start.1 in
     let all = are_scripts closed in
     let first : (n : ℕ) → model_after (scripts_of closed) m (take n (ends_from 0 closed)) ≡ left_by_all m (take n closed) =
-        λ n. model_of_first (scripts_of closed) m 0 closed n all in
+    λ n. model_of_first (scripts_of closed) m 0 closed n all in
     record {
       scripts = λ n s h. scripted_at m 0 closed n s r.runs h;
       within = λ n c h. within_at m 0 closed n c r.runs h;
@@ -152,7 +152,7 @@ pub acted : {start : CityValue} {closed : List Closed} {ended stamps : ℕ} {gro
 acted {closed = closed} {stamps = stamps} {growing = growing} {after = after} {new = new} r stamp f same k city opened grows stands =
     let o = option_map f (grown_at growing stamp) in
     let own : is_open new stamp ≡ is_some o =
-        opened ∙ (r.opened stamp ∙ sym (is_some_map f (grown_at growing stamp))) in
+    opened ∙ (r.opened stamp ∙ sym (is_some_map f (grown_at growing stamp))) in
     record {
       lawful = r.lawful;
       runs = r.runs;
@@ -414,7 +414,7 @@ module _ {start : CityValue} {closed : List Closed} {growing : List (ℕ × Grow
         → IsActed stamp command acts.NoMemory seen (state start closed growing stamps new)
     seen_no_memory {fault} k open_then =
         let is : fault ≡ faults.OutOfMemory =
-            k.fault ∙ ap (λ b. if b then faults.OutOfMemory else faults.NotOpen stamp) open_then in
+        k.fault ∙ ap (λ b. if b then faults.OutOfMemory else faults.NotOpen stamp) open_then in
         seen_as (λ v. IsActed stamp command acts.NoMemory v (state start closed growing stamps new)) (record {
           answered = subst (λ (x : TxnFault). IsAct stamp command (Err x) core new) is k;
           growing = grows_as_told stamp growing;

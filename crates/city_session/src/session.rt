@@ -51,11 +51,11 @@ impl Model for Session {
     ghost coded = { Prim.hlevel (codes, coded_members, coded_objects) };
 
     ghost view = { λ s. record {
-        start = s.start;
-        closed = s.past;
-        growing = s.growing;
-        stamps = s.stamps;
-        core = s.core;
+      start = s.start;
+      closed = s.past;
+      growing = s.growing;
+      stamps = s.stamps;
+      core = s.core;
     } };
 
     ghost use Rattle.city_session.specs.internal.Recorded.{IsRecorded};
@@ -68,11 +68,11 @@ impl Session {
     pub fn open(alloc: Global, city: City) -> Session
         requires { IsLawful (object_at city.1) }
         ensures { result ≡ record {
-            start = city;
-            closed = [];
-            growing = [];
-            stamps = 0;
-            core = record { frame = city.0; city = city.1; writes = []; opened = []; logs = []; locks = [] };
+          start = city;
+          closed = [];
+          growing = [];
+          stamps = 0;
+          core = record { frame = city.0; city = city.1; writes = []; opened = []; logs = []; locks = [] };
         } }
     {
         Session {

@@ -28,7 +28,7 @@ returns-in_err-lines-clause-fault g c =
     let scripts = option_map now c.args.scripts in
     let begun = g.F.TextFiles.steps c.args.files.now in
     let ended = g.F.TextFiles.steps c.model_lines.new.files in
-    let fault : Unread c.args.model.now scripts begun ended c.in_err-lines.field-0 =
+    let fault : Unread c.args.model.now scripts begun ended c.in_err-lines.field-0.0 =
     (is.0, read_first c.args.model.now scripts begun ended is.1) in
     search (fault, rules)
 
@@ -38,7 +38,7 @@ returns-in_err-more-clause-fault g c =
     let scripts = option_map now c.args.scripts in
     let begun = g.F.TextFiles.steps c.args.files.now in
     let ended = g.F.TextFiles.steps c.more_lines.new.files in
-    let fault : Unread c.args.model.now scripts begun ended c.in_err-more.field-0 = (
+    let fault : Unread c.args.model.now scripts begun ended c.in_err-more.field-0.0 = (
       is.0,
       subst (λ o. Reads c.args.model.now (option_map now o) begun ended) (sym c.in-Some.is)
           (read_second c.args.model.now c.in-Some.scripts.now begun (g.F.TextFiles.steps c.model_lines.new.files) ended

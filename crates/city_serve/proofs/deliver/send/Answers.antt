@@ -1,5 +1,5 @@
-use Rattle.city_serve.proofs.Prelude.{IfErr-weaker, List, Option, Some, ap, drop, sym, take, ◌∙◌, ℕ}
-use Rattle.std.proofs.Common.{Bor, option_map, rules}
+use Rattle.city_serve.proofs.Prelude.{IfErr-weaker, List, ap, drop, sym, take, ℕ}
+use Rattle.std.proofs.Common.{Bor, option_map}
 use Rattle.std.proofs.lemmas.List.{take-append-drop}
 use Rattle.city_serve.proofs.Replacing.{cut_where_withheld, cut_without_file}
 use Rattle.city_serve.proofs.deliver.send.Goals as goal

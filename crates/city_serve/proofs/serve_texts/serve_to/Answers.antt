@@ -42,7 +42,7 @@ returns-in_err-output-clause-fault g c =
     let old = g.W.Write.contents c.args.writer.now.0 in
     let taken = g.F.TextFiles.steps c.args.files.now in
     let fault : (steps : List Step) × IsDeliveryFault c.args.destination c.args.options document scripts text text
-    files_failed old old c.args.writer.now.1 steps (ServeFault.Run c.in_err-output.field-0) × Takes taken taken steps =
+    files_failed old old c.args.writer.now.1 steps (ServeFault.Run c.in_err-output.field-0.0) × Takes taken taken steps =
     ([], (keeps_same old, refl, refl, c.in_err-output.ensures.fault), takes_none taken) in
     search (fault, rules)
 
@@ -54,7 +54,7 @@ returns-in_err-delivered-clause-fault g c =
     let document = c.args.texts.now.document.bytes.items in
     let scripts = c.args.texts.now.scripts.bytes.items in
     let run = c.in_ok-output.ensures in
-    let f = c.in_err-delivered.field-0 in
+    let f = c.in_err-delivered.field-0.0 in
     let is = c.in_err-delivered.ensures.fault in
     let before = g.F.TextFiles.text c.args.files.now in
     let after = g.F.TextFiles.text c.deliver.new.files in
