@@ -1,13 +1,17 @@
--- A run on two files that breaks off.
-use Rattle.city_program.proofs.Prelude.{◌≡◌, ◌∷◌, ◌∙◌, ℕ, List, [], Option, Some, None, IfSome, inr, refl, subst, sym}
+-- A run on two files, that is done or breaks off.
+use Rattle.city_program.proofs.Prelude.{◌≡◌, ◌∷◌, ◌∙◌, ℕ, Bool, true, false, List, [], Option, Some, None, IfSome, inr}
+use Rattle.city_program.proofs.Prelude.{refl, subst, sym}
 use Rattle.city_program.proofs.Prelude.{ap, Vec, Asked, ServeFault}
 use Rattle.std.proofs.Common.{Bor}
 use Rattle.city_serve.proofs.Taken.{takes_more}
 use Rattle.city_serve.specs.Destinations.{Folder, IsDeliveryFault}
-use Rattle.city_serve.specs.Steps.{Step, Takes}
+use Rattle.city_serve.specs.Steps.{Step, Takes, delivering}
+use Rattle.city_options.specs.RunOptions.{file_of}
 use Rattle.city_options.specs.declared.options.Destination.{Destination}
 use Rattle.city_options.specs.declared.options.Options.{Options}
-use Rattle.city_program.specs.Programs.{IsUnansweredBy, Streams}
+use Rattle.city_program.specs.declared.status.Status.{Status}
+use Rattle.city_program.specs.Programs.{IsUnansweredBy, Streams, steps_inside}
+use Rattle.city_program.specs.internal.Telling.{is_withheld_at, run_status}
 
 -- a property of two texts that were read holds of the known texts of their files
 of_files : (first second : Option (List ℕ)) (P : List ℕ → List ℕ → Type 0) (document scripts : List ℕ)
@@ -16,6 +20,25 @@ of_files : (first second : Option (List ℕ)) (P : List ℕ → List ℕ → Typ
 of_files None second P document scripts is too h = tt
 of_files (Some d) None P document scripts is too h = tt
 of_files (Some d) (Some s) P document scripts is too h = subst (λ t. P d t) too (subst (λ t. P t scripts) is h)
+
+-- a withheld model is told by the status
+withheld_told : (withheld : Bool) → is_withheld_at (run_status withheld) ≡ withheld
+withheld_told true = refl
+withheld_told false = refl
+
+pub files_done : (begun a b ended : Option (List Step)) (asked : Asked) (options : Options) (destination : Destination)
+    (model scripts : Bor (List ℕ)) → asked ≡ Asked.Files options destination model scripts → (withheld : Bool)
+    (status : Status) → status ≡ run_status withheld → Takes begun a (Step.Read model.now ∷ [])
+    → Takes a b (Step.Read scripts.now ∷ []) → Takes b ended (delivering (file_of destination) withheld)
+    → Takes begun ended (steps_inside asked (is_withheld_at status))
+files_done begun a b ended asked options destination model scripts asks withheld status is step next last =
+    let steps = delivering (file_of destination) withheld in
+    let told : is_withheld_at status ≡ withheld = ap is_withheld_at is ∙ withheld_told withheld in
+    let taken : Takes begun ended (steps_inside (Asked.Files options destination model scripts) withheld) =
+    takes_more begun a ended (Step.Read model.now ∷ []) (Step.Read scripts.now ∷ steps) step
+    (takes_more a b ended (Step.Read scripts.now ∷ []) steps next last) in
+    subst (λ asked. Takes begun ended (steps_inside asked (is_withheld_at status))) (sym asks)
+    (subst (λ w. Takes begun ended (steps_inside (Asked.Files options destination model scripts) w)) (sym told) taken)
 
 module _ (s : Streams) (one two : Folder) (a b : Option (List Step)) (asked : Asked) (options : Options)
     (destination : Destination) (model scripts : Bor (List ℕ))

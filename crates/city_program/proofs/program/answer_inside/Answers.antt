@@ -4,7 +4,7 @@ use Rattle.city_serve.proofs.KnownBytes.{keeps_same}
 use Rattle.city_serve.proofs.Taken.{takes_more, takes_none}
 use Rattle.city_serve.specs.Steps.{Step, Takes}
 use Rattle.city_program.specs.Programs.{IsUnansweredBy, Streams}
-use Rattle.city_program.proofs.Files.{files_broken}
+use Rattle.city_program.proofs.Files.{files_broken, files_done}
 use Rattle.city_program.proofs.Checked.{checked_as}
 use Rattle.city_program.proofs.program.answer_inside.Goals as goal
 
@@ -114,3 +114,12 @@ returns-in_err-delivered-in-Files-clause-fault g c =
     c.given-in-Files-2.result.bytes c.given-in-Files.ensures.bytes c.given-in-Files-2.ensures.bytes first.read
     second.read first.texts second.texts first.steps second.steps f c.in_err-delivered-in-Files.ensures.fault in
     search (fault, rules)
+
+pub returns-in_ok-delivered-in-Files-clause-steps : goal.returns-in_ok-delivered-in-Files-clause-steps
+returns-in_ok-delivered-in-Files-clause-steps g c =
+    let steps = g.F.TextFiles.steps in
+    files_done (steps c.args.files.now) (steps c.read.new.self) (steps c.read-in-Files.new.self)
+    (steps c.serve_to-in-Files.new.files) c.args.asked.now c.in-Files.options c.in-Files.destination c.in-Files.model
+    c.in-Files.scripts c.in-Files.is c.in_ok-delivered-in-Files.delivered.withheld c.run_answer-in-Files.result.status
+    c.run_answer-in-Files.ensures.status c.in_ok-read-in-Files.ensures.steps c.in_ok-read-in-Files-2.ensures.steps
+    c.in_ok-delivered-in-Files.ensures.steps
