@@ -2,8 +2,9 @@
 use Rattle.city_locks.proofs.Prelude.{◌≡◌, ◌==◌, ◌&&◌, ℕ, List, [], ◌∷◌, true, None, Some, refl, ap, ◌≢◌, arith, Result}
 use Rattle.city_locks.proofs.Prelude.{Ok, cond, same_id, same_id_true, same_id_itself, same_id_back, Mode, Answer}
 use Rattle.city_locks.proofs.Prelude.{Granted, Wait, Die, stronger, Locks, mode_of, answer_of, Lawful, first_answer}
-use Rattle.city_locks.proofs.Prelude.{Asked, IsInConflict, IsWaitDie}
-use Rattle.std.proofs.Common.{is_some, IsErr}
+use Rattle.city_locks.proofs.Prelude.{first_ungranted, Asked, IsInConflict, IsWaitDie}
+use Rattle.std.proofs.Common.{is_some, IsErr, Option}
+use Rattle.std.specs.Prelude.{IfSome}
 use Rattle.city_model.proofs.History.{more_held}
 use Rattle.city_model.specs.Standing.{Lock, covers}
 use Rattle.city_locks.specs.Asking.{held_in, granted_before, MoreLocks, GainsFirst, IsBlocked, HoldsLock}
@@ -15,6 +16,18 @@ use Rattle.std.proofs.lemmas.Result.{IfOk-weaker}
 pub all_granted : (hs : Locks) (s : ℕ) (ls : List Lock) → first_answer hs s ls ≡ Granted → granted_before hs s ls ≡ ls
 all_granted hs s [] e = refl
 all_granted hs s (l ∷ ls) e = let rest = all_granted hs s ls in grind arith
+
+-- the answer to a lock, or Granted
+abbrev pub answer_to : Locks → ℕ → Option Lock → Answer
+answer_to hs s None = Granted
+answer_to hs s (Some l) = answer_of hs s l.0 l.1
+
+-- the first answer is the answer to the first lock not granted
+pub first_answered : (hs : Locks) (s : ℕ) (ls : List Lock) →
+    (first_answer hs s ls ≡ answer_to hs s (first_ungranted hs s ls))
+    × IfSome (first_ungranted hs s ls) (λ l. answer_of hs s l.0 l.1 ≢ Granted)
+first_answered hs s [] = (refl, tt)
+first_answered hs s (l ∷ ls) = let rest = first_answered hs s ls in grind arith
 
 -- locks with the same answers to a stamp
 same_asked : (s : ℕ) (hs ks : Locks) (ls : List Lock)

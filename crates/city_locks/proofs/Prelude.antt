@@ -9,7 +9,7 @@ pub use Rattle.city_model.specs.Chunks.{ids_left}
 pub use Rattle.city_model.specs.CityMap.{has_id, same_id}
 pub use Rattle.city_model.specs.Meaning.{exclusively}
 pub use Rattle.city_model.specs.declared.mode.Mode.{Mode}
-pub use Rattle.city_locks.specs.Asking.{Asked, first_answer}
+pub use Rattle.city_locks.specs.Asking.{Asked, first_answer, first_ungranted}
 pub use Rattle.city_locks.specs.Holders.{answer_among, gives_way, in_conflict, mode_among, with_holder, without}
 pub use Rattle.city_locks.specs.Locks.{Lawful, Locks, answer_of, holders_of, mode_of}
 pub use Rattle.city_locks.specs.Mode.{stronger}

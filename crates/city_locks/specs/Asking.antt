@@ -1,6 +1,6 @@
 -- Locks asked for in turn, up to the first not granted.
 use Rattle.std.specs.Prelude.{◌≡◌, ◌⊎◌, ◌==◌, ◌<◌, ℕ, List, [], ◌∷◌, ◌++◌, Bool, true, false, is_some}
-use Rattle.std.specs.Prelude.{Result, IfOk, IsOk, OnOk}
+use Rattle.std.specs.Prelude.{Result, IfOk, IsOk, OnOk, Option, None, Some}
 use Rattle.city_model.specs.declared.mode.Mode.{Mode}
 use Rattle.city_model.specs.declared.mode.Mode.TheVariants.{Exclusive}
 use Rattle.city_locks.specs.declared.answer.Answer.{Answer}
@@ -22,6 +22,17 @@ abbrev pub first_answer : Locks → ℕ → List Lock → Answer
 first_answer locks stamp [] = Granted
 first_answer locks stamp (l ∷ ls) =
     go_on (answer_of locks stamp l.0 l.1) (first_answer locks stamp ls)
+
+abbrev pub unless_granted : Answer → Lock → Option Lock → Option Lock
+unless_granted Granted l next = next
+unless_granted Wait l next = Some l
+unless_granted Die l next = Some l
+
+-- the first lock not granted
+abbrev pub first_ungranted : Locks → ℕ → List Lock → Option Lock
+first_ungranted locks stamp [] = None
+first_ungranted locks stamp (l ∷ ls) =
+    unless_granted (answer_of locks stamp l.0 l.1) l (first_ungranted locks stamp ls)
 
 abbrev pub first_if : Answer → Lock → List Lock → List Lock
 first_if Granted l ls = l ∷ ls

@@ -18,7 +18,7 @@ pub struct Holder {
 
 impl Holder {
     /// Whether this is another holder than the asker, and one of the two modes is exclusive.
-    fn conflicts(&self, stamp: u64, mode: Mode) -> bool
+    pub fn conflicts(&self, stamp: u64, mode: Mode) -> bool
         ensures { result ≡ in_conflict stamp mode self.now }
     {
         self.stamp != stamp && (mode.is_exclusive() || self.mode.is_exclusive())
@@ -48,6 +48,13 @@ impl Holders {
         Holders {
             list: Vec::new(alloc),
         }
+    }
+
+    /// The holders, each stamp once. Doesn't allocate.
+    pub fn as_slice(&self) -> &[Holder]
+        ensures { result.now ≡ self.now }
+    {
+        self.list.as_slice()
     }
 
     /// Whether nobody holds the id.

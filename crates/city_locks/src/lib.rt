@@ -16,4 +16,5 @@ mod lock_table;
 
 pub use answer::Answer;
 pub use city_model::mode::Mode;
+pub use holders::Holder;
 pub use lock_table::LockTable;

@@ -1,13 +1,13 @@
 //! The lock table.
 ghost use Rattle.std.specs.Prelude.{◌≡◌, ◌≢◌, ℕ, List, ◌==◌, ◌&&◌, cond, OnOk, OnErr, IfOk, None, Some, [], ◌∷◌};
-ghost use Rattle.std.specs.Prelude.{true, is_some};
+ghost use Rattle.std.specs.Prelude.{true, is_some, option_map};
 ghost use Rattle.std.specs.Ordering.{nat_cmp};
 ghost use Rattle.std.specs.Cmp.Lexicographic.{slice_cmp};
 ghost use Rattle.std.specs.BTreeMap.{get};
 ghost use Rattle.city_model.specs.declared.mode.Mode.{Mode};
 ghost use Rattle.city_model.specs.Chunks.{ids_left};
 ghost use Rattle.city_model.specs.Meaning.{exclusively};
-ghost use Rattle.city_locks.specs.Asking.{Asked, first_answer};
+ghost use Rattle.city_locks.specs.Asking.{Asked, first_answer, first_ungranted};
 ghost use Rattle.city_locks.specs.Mode.{stronger};
 ghost use Rattle.city_locks.specs.Holders.{with_holder, without};
 ghost use Rattle.city_model.specs.CityMap.{same_id, has_id};
@@ -17,7 +17,7 @@ ghost use Rattle.city_locks.specs.WaitDie.{IsWaitDie, IsInConflict};
 
 use crate::answer::Answer;
 use crate::by_stamp::push;
-use crate::holders::Holders;
+use crate::holders::{Holder, Holders};
 use crate::holders_by_id;
 use crate::lock_request::LockRequest;
 use city_members::copied::Copied;
@@ -135,6 +135,27 @@ impl LockTable {
         holders_by_id::answer_at(&self.holders, stamp, id, mode)
     }
 
+    /// The holders of the id, each stamp once; none if nobody holds it. Doesn't allocate.
+    pub fn holders(&self, id: &Id) -> &[Holder]
+        ensures value { result.now ≡ holders_of self.now id.now }
+        ensures once { HoldOnce self.now }
+    {
+        match self.holders.get(id) {
+            Some(holders) => holders.as_slice(),
+            None => &[],
+        }
+    }
+
+    /// The ids that the stamp holds, and maybe more, each maybe more than once. Doesn't allocate.
+    pub fn locked(&self, stamp: u64) -> &[Id]
+        ensures { (q : List ℕ) → is_some (mode_of self.now stamp q) ≡ true → has_id result.now q ≡ true }
+    {
+        match self.locked.get(&stamp) {
+            Some(ids) => ids.as_slice(),
+            None => &[],
+        }
+    }
+
     /// Asks for the id in the mode, and then for the others exclusively, in their order, up to the
     /// first lock not granted. If memory runs out, the locks granted so far stay.
     pub fn ask_in_turn(
@@ -190,6 +211,39 @@ impl LockTable {
             }
         }
         Answer::Granted
+    }
+
+    /// The first lock that `ask_in_turn` isn't granted, if there is one. Doesn't allocate.
+    pub fn first_conflict<'a>(
+        &self,
+        stamp: u64,
+        id: &'a Id,
+        mode: Mode,
+        others: Ids<'a>,
+    ) -> Option<(&'a Id, Mode)>
+        ensures { option_map (λ lock. (lock.0.now, lock.1)) result
+            ≡ first_ungranted self.now stamp ((id.now, mode) ∷ exclusively (ids_left others.entry)) }
+    {
+        match self.would_answer(stamp, id, mode) {
+            Answer::Granted => self.first_conflict_each(stamp, others),
+            Answer::Wait => Some((id, mode)),
+            Answer::Die => Some((id, mode)),
+        }
+    }
+
+    /// The first of exclusive locks on the ids that isn't granted, if there is one.
+    fn first_conflict_each<'a>(&self, stamp: u64, ids: Ids<'a>) -> Option<(&'a Id, Mode)>
+        ensures { option_map (λ lock. (lock.0.now, lock.1)) result
+            ≡ first_ungranted self.now stamp (exclusively (ids_left ids.entry)) }
+    {
+        for id in ids {
+            match self.would_answer(stamp, id, Mode::Exclusive) {
+                Answer::Granted => {}
+                Answer::Wait => return Some((id, Mode::Exclusive)),
+                Answer::Die => return Some((id, Mode::Exclusive)),
+            }
+        }
+        None
     }
 }
 

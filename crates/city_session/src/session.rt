@@ -1,11 +1,15 @@
 //! Transactions on one city, each open as long as whoever runs it likes.
 ghost use Rattle.std.specs.Prelude.{◌≡◌, ◌<◌, ◌≤◌, ◌&&◌, ◌↔◌, ℕ, [], None, Some, true, false, not, IfOk, IfErr, IfSome};
-ghost use Rattle.std.specs.Prelude.{IfNone, IsOk, IsTrue, OnErr, MatchOption};
-ghost use Rattle.city_model.specs.CityMap.{object_at};
+ghost use Rattle.std.specs.Prelude.{IfNone, IsOk, IsTrue, OnErr, MatchOption, List, ◌∷◌, is_some, option_copied};
+ghost use Rattle.city_model.specs.Chunks.{ids_left};
+ghost use Rattle.city_model.specs.CityMap.{has_id, object_at};
+ghost use Rattle.city_model.specs.Meaning.{exclusively, locks_of};
 ghost use Rattle.city_model.specs.Relations.{IsLawful, HasNoOrphan};
 ghost use Rattle.city_model.specs.Scripts.{is_end};
 ghost use Rattle.city_locks.specs.Asking.{is_wait};
-ghost use Rattle.city_txn.specs.Acting.{answer_in, RefusesCommit};
+ghost use Rattle.city_locks.specs.Locks.{mode_of};
+ghost use Rattle.city_locks.specs.declared.answer.Answer.{Answer};
+ghost use Rattle.city_txn.specs.Acting.{answer_in, IsConflict, RefusesCommit};
 ghost use Rattle.city_txn.specs.Changing.{IsPrepared};
 ghost use Rattle.city_txn.specs.CoreState.{committed, view, is_open, IsRolledBack};
 ghost use Rattle.city_session.specs.Grown.{is_full_there};
@@ -18,10 +22,14 @@ use crate::ghosts::opening_city::OpeningCity;
 use crate::ghosts::past::Past;
 use crate::growing::Growing;
 use crate::transaction::Transaction;
+use city_locks::Mode;
+use city_members::text::Id;
 use city_model::OutOfMemory;
 use city_model::city::City;
 use city_model::command::{Cause, Command};
-use city_txn::{Core, Prepared, Step};
+use city_model::id_list::Ids;
+use city_model::object::Object;
+use city_txn::{Conflict, Core, Prepared, Step};
 use std::alloc::Global;
 use std::marker::Model;
 
@@ -177,6 +185,50 @@ impl Session {
             && is_wait (answer_in self.now.core stamp command.now)) }
     {
         !self.growing.is_full(stamp) && self.core.would_wait(stamp, command)
+    }
+
+    /// The first lock of a command that an open transaction isn't granted, if there is one. Doesn't
+    /// allocate.
+    pub fn conflict<'a>(&'a self, stamp: u64, command: &'a Command) -> Option<Conflict<'a>>
+        ensures none { IfNone result (answer_in self.now.core stamp command.now ≡ Answer.Granted) }
+        ensures some { IfSome result (IsConflict self.now.core stamp command.now) }
+    {
+        self.core.conflict(stamp, command)
+    }
+
+    /// The locks that a command asks for in an open transaction, in their order: the first, and the ids
+    /// that it locks exclusively behind it. `None` if it asks for none. Doesn't allocate.
+    pub fn locks<'a>(
+        &'a self,
+        stamp: u64,
+        command: &'a Command,
+    ) -> Option<(&'a Id, Mode, Ids<'a>)>
+        ensures some { IfSome result (λ lock. locks_of (view self.now.core stamp) command.now
+            ≡ (lock.0.now, lock.1) ∷ exclusively (ids_left lock.2)) }
+        ensures none { IfNone result (locks_of (view self.now.core stamp) command.now ≡ []) }
+    {
+        self.core.locks(stamp, command)
+    }
+
+    /// The ids that the stamp has locked, and maybe more. Doesn't allocate.
+    pub fn locked(&self, stamp: u64) -> &[Id]
+        ensures { (q : List ℕ) → is_some (mode_of self.now.core.locks stamp q) ≡ true → has_id result.now q ≡ true }
+    {
+        self.core.locked(stamp)
+    }
+
+    /// The committed object at the id. Doesn't allocate.
+    pub fn committed(&self, id: &Id) -> Option<&Object>
+        ensures { option_copied result ≡ committed self.now.core id.now }
+    {
+        self.core.committed(id)
+    }
+
+    /// A copy of the committed city. It shares the objects' contents.
+    pub fn committed_city(&self) -> Result<City, OutOfMemory>
+        ensures { IfOk result (λ city. city ≡ (self.now.core.frame, self.now.core.city)) }
+    {
+        self.core.committed_city()
     }
 
     /// Why a commit of an open transaction would be refused; `None` if it may commit. Copies no object.

@@ -3,7 +3,7 @@ use Rattle.city_txn.proofs.Prelude.{arith, ◌≡◌, ◌==◌, ℕ, List, [], �
 use Rattle.city_txn.proofs.Prelude.{◌∙◌, ◌||◌, keys_of, nat_cmp, slice_cmp, is_at, list_any, false≢true, eq-eqb, Object}
 use Rattle.city_txn.proofs.Prelude.{object_at, has_id, same_id, same_id_true, UndoImage, Inside, committed_at, write_at}
 use Rattle.city_txn.proofs.Prelude.{writer_of, write_of, is_by, own_or, State, store_committed, store_view, state_of}
-use Rattle.city_txn.proofs.Prelude.{is_writer, IsInPlace, image_at, reservations_of, Bool, if◌then◌else◌}
+use Rattle.city_txn.proofs.Prelude.{is_writer, IsInPlace, image_at, reservations_of, Bool, if◌then◌else◌, is_some}
 use Rattle.std.proofs.Common.{Less}
 use Rattle.std.specs.Map.{lookup}
 use Rattle.std.specs.Cmp.{unsigned_tied, eq_by_cmp_equiv}
@@ -20,7 +20,10 @@ use Rattle.city_model.specs.CityMap.{CityValue}
 use Rattle.city_txn.specs.Writes.{made_by}
 use Rattle.city_txn.specs.internal.Images.{is_orphan_written}
 use Rattle.city_txn.specs.internal.InPlace.{IsPlain}
+use Rattle.city_txn.specs.internal.Reserved.{Became, HasRoom}
+use Rattle.city_txn.specs.internal.Ending.{left_at_end}
 use Rattle.city_txn.specs.internal.Transactions.{Images}
+use Rattle.city_txn.specs.declared.end.End.TheVariants.{RollBack}
 
 -- a map's keys are tested as numbers are
 pub tied : (s t : ℕ) → is_at (nat_cmp s) t ≡ (s == t)
@@ -87,6 +90,12 @@ module _ (a : Inside) (k : IsInPlace a) (q : List ℕ) where
       → store_view (state_of a) s q ≡ own_or s (write_at (here a q) (image a q)) (committed_at (here a q) (image a q))
   view_is s = λ i. own_or s (writes_is i) (city_is i)
 
+-- the committed object of a store with the state v and the image o there
+pub committed_seen : (a : Inside) → IsInPlace a → {v : State} → state_of a ≡ v → (q : List ℕ) {o : Option UndoImage}
+    → o ≡ image a q → committed_at (here a q) o ≡ store_committed v q
+committed_seen a k seen q is =
+    ap (committed_at (here a q)) is ∙ sym (city_is a k q) ∙ ap (λ (u : State). store_committed u q) seen
+
 -- and of a store with the state v and the image o there
 module _ (a : Inside) (k : IsInPlace a) {v : State} (seen : state_of a ≡ v) (q : List ℕ) {o : Option UndoImage}
     (is : o ≡ image a q) (s : ℕ) where
@@ -139,6 +148,35 @@ pub idle_city : (a : Inside) → IsInPlace a → a.transactions.reservations.ent
 idle_city a k shut = same_objects (state_of a).city a.city.1 (λ i q. (city_is a k q
     ∙ ap (committed_at (here a q)) (unwritten (image a q)
     (λ s. sym (k.listed s q) ∙ ap (λ reservations. has_id (reservations_of reservations s) q) shut))) i)
+
+-- ---- copies of the city and of the images
+
+here_copied : (a : Inside) {b : CityValue} → b ≡ a.city → (q : List ℕ) → object_at b.1 q ≡ here a q
+here_copied a copied q = ap (λ (o : CityValue). object_at o.1 q) copied
+
+image_copied : (a : Inside) (m : Images) → m.entries ≡ a.transactions.images.entries → (q : List ℕ)
+    → image_at m q ≡ image a q
+image_copied a m images q = ap (λ es. lookup (is_at (slice_cmp nat_cmp q)) es) images
+
+-- each image has room in the copy
+pub room_copied : (a : Inside) → IsInPlace a → {b : CityValue} (m : Images) → b ≡ a.city
+    → m.entries ≡ a.transactions.images.entries → (q : List ℕ) → is_some (image_at m q) ≡ true → HasRoom b q
+room_copied a k m copied images q some =
+    let room = k.has_room q in let there = here_copied a copied q in let same = image_copied a m images q in grind arith
+
+-- if all images are put back into the one city, it is the committed one
+pub put_back_all : (a : Inside) → IsInPlace a → {v : State} → state_of a ≡ v → {b c : CityValue} {m n : Images}
+    → b ≡ a.city → m.entries ≡ a.transactions.images.entries
+    → Became (λ q. is_some (image_at m q)) (λ q. left_at_end RollBack (object_at b.1 q) (image_at m q)) (λ q. None)
+    b c m n
+    → c ≡ (v.frame, v.city)
+put_back_all a k seen {b} {c} {m} copied images t =
+    let at : (q : List ℕ) → object_at c.1 q ≡ store_committed (state_of a) q =
+    λ q.
+    let is = t.object_is q in let was = city_is a k q in let there = here_copied a copied q in
+    let same = image_copied a m images q in grind arith in
+    let objects : c.1 ≡ (state_of a).city = same_objects c.1 (state_of a).city (λ i q. at q i) in
+    (λ i. ((t.frame ∙ ap (λ (o : CityValue). o.0) copied) i, objects i)) ∙ ap (λ (u : State). (u.frame, u.city)) seen
 
 -- the state of a new one
 pub new_state : (a : Inside) → a.transactions.images.entries ≡ [] → a.transactions.reservations.entries ≡ []

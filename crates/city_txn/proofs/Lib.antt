@@ -1,6 +1,7 @@
 pub mod ActDone
 pub mod AtOneId
 pub mod ChangeMade
+pub mod Conflicts
 pub mod CoreFields
 pub mod FirstWrites
 pub mod PerformDone

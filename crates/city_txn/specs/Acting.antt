@@ -1,7 +1,8 @@
 -- The effect of a command on a core.
 use Rattle.std.specs.Prelude.{◌≡◌, ◌≢◌, ◌==◌, ℕ, Bool, true, false, List, [], ◌∷◌, ◌++◌}
 use Rattle.std.specs.Prelude.{if◌then◌else◌}
-use Rattle.std.specs.Prelude.{Result, Ok, Err, IfOk, IfErr, OnOk, IsOk}
+use Rattle.std.specs.Prelude.{Result, Ok, Err, IfOk, IfErr, OnOk, IsOk, Option, Some}
+use Rattle.std.specs.List.{list_all}
 use Rattle.city_model.specs.declared.command.Command.{Command}
 use Rattle.city_model.specs.declared.command.Command.TheVariants.{Commit}
 use Rattle.city_model.specs.declared.command.Cause.{Cause}
@@ -14,6 +15,7 @@ use Rattle.city_model.specs.Marks.{Snapshot}
 use Rattle.city_model.specs.Meaning.{Answers, effect, Does, is_refusal, locks_of}
 use Rattle.city_locks.specs.declared.answer.Answer.{Answer}
 use Rattle.city_locks.specs.declared.answer.Answer.TheVariants.{Granted, Wait, Die}
+use Rattle.city_txn.specs.declared.txn_core.Conflict.{Conflict}
 use Rattle.city_txn.specs.declared.txn_core.Step.{Step}
 use Rattle.city_txn.specs.declared.txn_core.Step.TheVariants as steps
 use Rattle.city_txn.specs.declared.txn_core.TxnFault.{TxnFault}
@@ -23,7 +25,9 @@ use Rattle.city_txn.specs.UndoLog.{written_by}
 use Rattle.city_model.specs.Standing.{Lock, Answered, AllHeld}
 use Rattle.city_txn.specs.CoreState.{CoreState, committed, view, written, snapshot, is_open, held}
 use Rattle.city_txn.specs.CoreState.{StandsUnderLocks, KeepsOthers}
-use Rattle.city_locks.specs.Asking.{first_answer, granted_before, GainsFirst, IsBlocked}
+use Rattle.city_locks.specs.Asking.{first_answer, first_ungranted, granted_before, GainsFirst, IsBlocked}
+use Rattle.city_locks.specs.Holders.{answer_among, gives_way, Once}
+use Rattle.city_locks.specs.Locks.{holders_of}
 
 -- the answer to the command's locks: of the first not granted, or Granted
 abbrev pub answer_in : CoreState → ℕ → Command → Answer
@@ -32,6 +36,21 @@ answer_in v stamp command = first_answer v.locks stamp (locks_of (view v stamp) 
 -- the locks before the first not granted
 abbrev pub granted_in : CoreState → ℕ → Command → List Lock
 granted_in v stamp command = granted_before v.locks stamp (locks_of (view v stamp) command)
+
+-- the first lock not granted
+abbrev pub ungranted_in : CoreState → ℕ → Command → Option Lock
+ungranted_in v stamp command = first_ungranted v.locks stamp (locks_of (view v stamp) command)
+
+-- It is the first lock not granted, with the holders of its id.
+pub record IsConflict (v : CoreState) (stamp : ℕ) (command : Command) (c : Conflict) : Type 0 where
+  pub first : ungranted_in v stamp command ≡ Some (c.id.now, c.mode)
+  pub held : c.holders.now ≡ holders_of v.locks c.id.now
+  pub once : Once c.holders.now
+  -- the answer to the command's locks is the one among these holders, Wait or Die
+  pub answer : answer_in v stamp command ≡ answer_among c.holders.now stamp c.mode
+  pub refused : answer_in v stamp command ≢ Granted
+  -- on Wait the holders in conflict are younger
+  pub younger : answer_in v stamp command ≡ Wait → list_all (gives_way stamp c.mode) c.holders.now ≡ true
 
 -- the transaction ends with this outcome at the command, which is number `number` of its script
 abbrev pub EndsIn : CoreState → ℕ → Command → ℕ → Outcome → Type 0

@@ -1,6 +1,6 @@
 //! The locks of a command, in the order of asking, and the answer to expect.
-ghost use Rattle.std.specs.Prelude.{◌≡◌, [], ◌∷◌, IfSome, IfNone, drop};
-ghost use Rattle.city_locks.specs.Asking.{Asked, first_answer};
+ghost use Rattle.std.specs.Prelude.{◌≡◌, [], ◌∷◌, IfSome, IfNone, drop, option_map};
+ghost use Rattle.city_locks.specs.Asking.{Asked, first_answer, first_ungranted};
 ghost use Rattle.city_model.specs.Chunks.{ids_left};
 ghost use Rattle.city_model.specs.CityMap.{CityMap};
 ghost use Rattle.city_model.specs.Meaning.{delete_locks, exclusively, locks_of};
@@ -42,8 +42,25 @@ pub fn would_lock(locks: &LockTable, store: &Store, stamp: u64, command: &Comman
     locks.would_answer_in_turn(stamp, id, mode, others)
 }
 
+/// The first lock of a command that isn't granted, if there is one. Doesn't allocate.
+pub fn first_conflict<'a>(
+    locks: &LockTable,
+    store: &'a Store,
+    stamp: u64,
+    command: &'a Command,
+) -> Option<(&'a Id, Mode)>
+    ensures { option_map (λ lock. (lock.0.now, lock.1)) result
+        ≡ first_ungranted locks.now stamp (locks_of (store_view store.now stamp) command.now) }
+{
+    let Some((id, mode)) = first_lock(command) else {
+        return None;
+    };
+    let others = further_locks(store, stamp, command);
+    locks.first_conflict(stamp, id, mode, others)
+}
+
 /// The first lock of a command; `None` if it locks nothing.
-fn first_lock(command: &Command) -> Option<(&Id, Mode)>
+pub fn first_lock(command: &Command) -> Option<(&Id, Mode)>
     ensures first { IfSome result (λ lock. (m : CityMap)
         → locks_of m command.now ≡ (lock.0.now, lock.1) ∷ drop 1 (locks_of m command.now)) }
     ensures none { IfNone result ((m : CityMap) → locks_of m command.now ≡ []) }
@@ -60,7 +77,7 @@ fn first_lock(command: &Command) -> Option<(&Id, Mode)>
 
 /// The ids that a command locks after the first, exclusively. Once the first is locked, no other
 /// transaction can change them.
-fn further_locks<'a>(store: &'a Store, stamp: u64, command: &'a Command) -> Ids<'a>
+pub fn further_locks<'a>(store: &'a Store, stamp: u64, command: &'a Command) -> Ids<'a>
     ensures { drop 1 (locks_of (store_view store.now stamp) command.now) ≡ exclusively (ids_left result) }
 {
     match command {

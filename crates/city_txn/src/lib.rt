@@ -19,4 +19,4 @@ mod txn_core;
 mod undo_image;
 mod undo_logs;
 
-pub use txn_core::{Core, Prepared, Step, TxnFault};
+pub use txn_core::{Conflict, Core, Prepared, Step, TxnFault};

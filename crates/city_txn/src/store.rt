@@ -39,6 +39,7 @@ use std::alloc::Global;
 use std::marker::Model;
 
 mod commands;
+mod committed;
 
 /// One city as the open transactions have written it, with an undo image of each written id.
 ///

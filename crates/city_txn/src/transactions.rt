@@ -25,6 +25,7 @@ use city_members::sequence::Sequence;
 use city_members::text::Id;
 use city_model::OutOfMemory;
 use city_model::city::City;
+use city_model::copied::copy_map;
 use city_model::object::Object;
 use std::alloc::Global;
 use std::collections::BTreeMap;
@@ -70,6 +71,17 @@ impl Transactions {
         ensures { option_copied result ≡ image_at self.now.images id.now }
     {
         self.images.get(id)
+    }
+
+    /// The images alone, copied: they share the objects' contents.
+    pub fn copy_images(&self) -> Result<Transactions, OutOfMemory>
+        ensures { IfOk result (λ copy. copy.images.entries ≡ self.now.images.entries) }
+    {
+        Ok(Transactions {
+            alloc: self.alloc,
+            images: copy_map(self.alloc, &self.images)?,
+            reservations: BTreeMap::new(self.alloc),
+        })
     }
 
     /// The ids reserved by the stamp; none if it isn't open. Doesn't allocate.

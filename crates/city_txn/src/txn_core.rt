@@ -1,7 +1,10 @@
 //! The transaction core: strict two-phase locking over one city.
 ghost use Rattle.std.specs.Prelude.{◌≡◌, ◌&&◌, ℕ, List, [], None, true, false, Some, is_some, OnOk, OnErr, IfOk};
-ghost use Rattle.std.specs.Prelude.{IfErr, IfSome, IfNone, IsErr, IsOk, ◌↔◌, if◌then◌else◌};
-ghost use Rattle.city_model.specs.CityMap.{object_at};
+ghost use Rattle.std.specs.Prelude.{IfErr, IfSome, IfNone, IsErr, IsOk, ◌↔◌, if◌then◌else◌, option_copied, ◌∷◌};
+ghost use Rattle.city_locks.specs.declared.answer.Answer.{Answer};
+ghost use Rattle.city_model.specs.CityMap.{has_id, object_at};
+ghost use Rattle.city_model.specs.Chunks.{ids_left};
+ghost use Rattle.city_model.specs.Meaning.{exclusively, locks_of};
 ghost use Rattle.city_model.specs.Scripts.{is_end};
 ghost use Rattle.city_model.specs.Marks.{AreSound};
 ghost use Rattle.city_model.specs.Relations.{IsLawful, HasNoOrphan, IsSound};
@@ -11,18 +14,22 @@ ghost use Rattle.city_txn.specs.Writes.{write_of, is_by};
 ghost use Rattle.city_txn.specs.CoreState.{committed, view, snapshot, is_open, StandsUnderLocks, KeepsOthers};
 ghost use Rattle.city_txn.specs.CoreState.{IsTransactionEnd, IsRolledBack};
 ghost use Rattle.city_txn.specs.UndoLog.{log_of, has_before};
-ghost use Rattle.city_txn.specs.Acting.{answer_in, IsAct, RefusesCommit};
+ghost use Rattle.city_txn.specs.Acting.{answer_in, IsAct, IsConflict, RefusesCommit};
 ghost use Rattle.city_txn.specs.Changing.{IsPrepared, IsChangeOf, change_in};
 ghost use Rattle.city_locks.specs.Asking.{is_wait};
 
-use crate::command_locks::{lock, would_lock};
+use crate::command_locks::{first_conflict, first_lock, further_locks, lock, would_lock};
 use crate::end::End;
 use crate::store::Store;
-use city_locks::{Answer, LockTable};
+use city_locks::{Answer, Holder, LockTable, Mode};
 use city_members::copied::Copied;
+use city_members::text::Id;
+use city_model::OutOfMemory;
 use city_model::change::Change;
 use city_model::city::City;
 use city_model::command::{Cause, Command, Reply};
+use city_model::id_list::Ids;
+use city_model::object::Object;
 use std::alloc::Global;
 use std::marker::Model;
 use thiserror::Error;
@@ -36,6 +43,15 @@ pub enum Step {
     Wait,
     /// A lock of the command is held by an older transaction: the asker must give up.
     Die,
+}
+
+/// A lock that isn't granted: its id, the mode it was asked in, and who holds the id.
+#[derive(Clone, Copy)]
+pub struct Conflict<'a> {
+    pub id: &'a Id,
+    pub mode: Mode,
+    /// All holders of the id, each stamp once; those that `conflicts` are in the way.
+    pub holders: &'a [Holder],
 }
 
 /// Whether a transaction may commit.
@@ -173,6 +189,53 @@ impl Core {
             Answer::Wait => true,
             Answer::Granted | Answer::Die => false,
         }
+    }
+
+    /// The first lock of the command that the transaction, which is open, isn't granted, if there is
+    /// one. Doesn't allocate.
+    pub fn conflict<'a>(&'a self, stamp: u64, command: &'a Command) -> Option<Conflict<'a>>
+        ensures none { IfNone result (answer_in self.now stamp command.now ≡ Answer.Granted) }
+        ensures some { IfSome result (IsConflict self.now stamp command.now) }
+    {
+        let (id, mode) = first_conflict(&self.locks, &self.store, stamp, command)?;
+        Some(Conflict {
+            id,
+            mode,
+            holders: self.locks.holders(id),
+        })
+    }
+
+    /// The locks that the command asks for in the transaction, in their order: the first, and the ids
+    /// that it locks exclusively behind it. `None` if it asks for none. Doesn't allocate.
+    pub fn locks<'a>(&'a self, stamp: u64, command: &'a Command) -> Option<(&'a Id, Mode, Ids<'a>)>
+        ensures some { IfSome result (λ lock. locks_of (view self.now stamp) command.now
+            ≡ (lock.0.now, lock.1) ∷ exclusively (ids_left lock.2)) }
+        ensures none { IfNone result (locks_of (view self.now stamp) command.now ≡ []) }
+    {
+        let (id, mode) = first_lock(command)?;
+        Some((id, mode, further_locks(&self.store, stamp, command)))
+    }
+
+    /// The ids that the stamp has locked, and maybe more. Doesn't allocate.
+    pub fn locked(&self, stamp: u64) -> &[Id]
+        ensures { (q : List ℕ) → is_some (mode_of self.now.locks stamp q) ≡ true → has_id result.now q ≡ true }
+    {
+        self.locks.locked(stamp)
+    }
+
+    /// The committed object at the id, whatever open transactions have written. Doesn't allocate.
+    pub fn committed(&self, id: &Id) -> Option<&Object>
+        ensures { option_copied result ≡ committed self.now id.now }
+    {
+        self.store.committed(id)
+    }
+
+    /// A copy of the committed city, whatever open transactions have written. It shares the objects'
+    /// contents.
+    pub fn committed_city(&self) -> Result<City, OutOfMemory>
+        ensures { IfOk result (λ city. city ≡ (self.now.frame, self.now.city)) }
+    {
+        self.store.committed_city()
     }
 
     /// Finds whether the transaction may commit, and its change. Changes nothing.

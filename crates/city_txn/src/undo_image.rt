@@ -10,9 +10,12 @@ ghost use Rattle.city_txn.specs.internal.Reserved.{HasRoom};
 
 use crate::end::End;
 use crate::reserved;
+use city_members::copied::Copied;
 use city_members::text::Id;
+use city_model::OutOfMemory;
 use city_model::city::City;
 use city_model::object::Object;
+use std::alloc::Global;
 
 /// The object at an id before a transaction wrote it.
 #[derive(Drop)]
@@ -58,6 +61,16 @@ impl UndoImage {
             if let Some(before) = &self.before {
                 return before.as_ref();
             }
+        }
+        if self.deleted { None } else { here }
+    }
+
+    /// The committed object at the image's id, if the city has `here`.
+    pub fn committed<'a>(&'a self, here: Option<&'a Object>) -> Option<&'a Object>
+        ensures { option_copied result ≡ before_image (option_copied here.entry) self.now }
+    {
+        if let Some(before) = &self.before {
+            return before.as_ref();
         }
         if self.deleted { None } else { here }
     }
@@ -119,6 +132,16 @@ impl UndoImage {
                 Some(before) => reserved::put_back(city, id, before),
             },
         }
+    }
+}
+
+impl Copied for UndoImage {
+    fn copy(&self, alloc: Global) -> Result<UndoImage, OutOfMemory> {
+        Ok(UndoImage {
+            by: self.by,
+            deleted: self.deleted,
+            before: self.before.copy(alloc)?,
+        })
     }
 }
 
