@@ -18,6 +18,7 @@ use crate::scenario::Scenario;
 use crate::scripts::play_scripts;
 use crate::seen::SeenLines;
 use crate::serve::play_serve;
+use crate::live_steps::play_live;
 use crate::session_steps::play_session;
 use crate::shelves::play_shelves;
 use crate::steps::take_steps;
@@ -90,6 +91,7 @@ fn play_text<T: Threads + Sync>(
         "lines" => play_lines(alloc, rest, text, answer),
         "explain" => play_explain(alloc, rest, text, answer),
         "core" => play_core(alloc, text, lines, answer),
+        "live" => play_live(alloc, text, lines, answer),
         "session" => play_session(alloc, text, lines, answer),
         _ => answer.add_line("no such verb of one text"),
     }

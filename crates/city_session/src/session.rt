@@ -1,6 +1,7 @@
 //! Transactions on one city, each open as long as whoever runs it likes.
 ghost use Rattle.std.specs.Prelude.{◌≡◌, ◌<◌, ◌≤◌, ◌&&◌, ◌↔◌, ℕ, [], None, Some, true, false, not, IfOk, IfErr, IfSome};
 ghost use Rattle.std.specs.Prelude.{IfNone, IsOk, IsTrue, OnErr, MatchOption, List, ◌∷◌, is_some, option_copied};
+ghost use Rattle.std.specs.Prelude.{◌^◌, ◌-◌, length};
 ghost use Rattle.city_model.specs.Chunks.{ids_left};
 ghost use Rattle.city_model.specs.CityMap.{has_id, object_at};
 ghost use Rattle.city_model.specs.Meaning.{exclusively, locks_of};
@@ -140,6 +141,13 @@ impl Session {
         ensures { result ≡ is_open self.now.core stamp }
     {
         self.core.is_open(stamp)
+    }
+
+    /// How many have ended. It stays at `u64::MAX`. Doesn't allocate.
+    pub fn ended(&self) -> u64
+        ensures { result < 2 ^ 64 - 1 → result ≡ length self.now.closed }
+    {
+        self.ended
     }
 
     /// Whether `begin` takes this stamp: it was given, and isn't open. Doesn't allocate.

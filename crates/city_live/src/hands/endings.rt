@@ -1,0 +1,256 @@
+//! How scripts and transactions end.
+ghost use Rattle.std.specs.Prelude.{◌≡◌};
+ghost use Rattle.city_live.specs.Continuing.{Continues};
+
+use super::{Hands, STEP_ANSWERS};
+use crate::answer::{Answer, Changed, Ended, Fault, Name, What};
+use crate::hand::At;
+use crate::in_the_way::InTheWay;
+use crate::request::Tag;
+use crate::work::Work;
+use city_members::copied::Copied;
+use city_model::OutOfMemory;
+use city_model::change::Change;
+use city_model::command::Cause;
+use city_model::end::Outcome;
+use city_txn::Prepared;
+use std::mem::replace;
+use std::sync::Arc;
+
+/// What came of a commit.
+#[derive(Drop)]
+enum Committing {
+    Done,
+    Refused(Cause),
+    NoMemory,
+}
+
+impl Hands {
+    /// Commits the hand's transaction.
+    #[tactic(auto, using(crate::proofs::Continued::then, crate::proofs::Continued::same))]
+    pub(super) fn commit_by(&mut self, hand: &Name, tag: Tag)
+        ensures { Continues self.old self.new }
+    {
+        let Some(stamp) = self.stamp_of(hand) else {
+            return self.refuse(hand, tag, Fault::NotOpen);
+        };
+        if self.is_busy(stamp) {
+            return self.refuse(hand, tag, Fault::Busy);
+        }
+        if let Some(work) = self.works.get_mut(&stamp) {
+            work.tag = tag;
+        }
+        match self.commit(stamp) {
+            Committing::Done => {}
+            Committing::Refused(cause) => {
+                let place = self.place_of(stamp);
+                let tag = self.take_tag(stamp);
+                self.say(hand, tag, What::Refused(place, cause));
+            }
+            Committing::NoMemory => {
+                let tag = self.take_tag(stamp);
+                self.refuse(hand, tag, Fault::NoMemory);
+            }
+        }
+    }
+
+    fn take_tag(&mut self, stamp: u64) -> Tag
+        ensures { self.new ≡ self.old }
+    {
+        match self.works.get_mut(&stamp) {
+            Some(work) => work.tag.take(),
+            None => None,
+        }
+    }
+
+    /// Commits a script that has come to its end.
+    #[tactic(auto, using(crate::proofs::Continued::then, crate::proofs::Continued::same))]
+    pub(super) fn commit_script(&mut self, stamp: u64)
+        ensures { Continues self.old self.new }
+    {
+        match self.commit(stamp) {
+            Committing::Done => {}
+            Committing::Refused(cause) => self.end_script(stamp, Some(cause)),
+            Committing::NoMemory => self.end_without_memory(stamp),
+        }
+    }
+
+    /// Commits what is open under the stamp, and tells the watchers of its change, and then its hand. If memory runs out,
+    /// nothing changes.
+    #[tactic(auto, using(crate::proofs::Continued::ended, crate::proofs::Continued::same))]
+    fn commit(&mut self, stamp: u64) -> Committing
+        ensures { Continues self.old self.new }
+    {
+        if !self.session.is_open(stamp) {
+            return Committing::NoMemory;
+        }
+        let change = match self.session.prepare(stamp) {
+            Ok(Prepared::Ready(change)) => change,
+            Ok(Prepared::Refused(cause)) => return Committing::Refused(cause),
+            Err(OutOfMemory) => return Committing::NoMemory,
+        };
+        let version = if change.len() == 0 { self.version } else { self.version.saturating_add(1) };
+        let Ok(changed) = self.room_for(stamp, change, version) else {
+            return Committing::NoMemory;
+        };
+        let since = self.since(stamp);
+        self.release(stamp);
+        self.session.commit(stamp);
+        self.version = version;
+        if let Some(changed) = changed {
+            self.tell_watchers(&changed);
+        }
+        self.tell_end(stamp, since, Outcome::Committed);
+        Committing::Done
+    }
+
+    /// Makes room for all that a commit tells: its change for the watchers, if it has one and there are any.
+    fn room_for(&mut self, stamp: u64, change: Change, version: u64) -> Result<Option<Arc<Changed>>, OutOfMemory>
+        ensures { self.new ≡ self.old }
+    {
+        self.answers.reserve(STEP_ANSWERS)?;
+        if self.watchers.is_empty() || change.len() == 0 {
+            return Ok(None);
+        }
+        let Some(work) = self.works.get(&stamp) else {
+            return Err(OutOfMemory);
+        };
+        let by = Arc::try_clone(&work.hand)?;
+        let name = work.name().copy(self.alloc)?;
+        let changed = Arc::new(self.alloc, Changed { by, name, version, change })?;
+        let Some(room) = self.watchers.len().checked_add(STEP_ANSWERS) else {
+            return Err(OutOfMemory);
+        };
+        self.answers.reserve(room)?;
+        Ok(Some(changed))
+    }
+
+    /// Tells each watcher of a change. There is room for it.
+    fn tell_watchers(&mut self, changed: &Arc<Changed>)
+        ensures { self.new ≡ self.old }
+    {
+        for (_, hand) in self.watchers.iter() {
+            if let (Ok(hand), Ok(changed)) = (Arc::try_clone(hand), Arc::try_clone(changed)) {
+                let _told = self.answers.push(Answer { hand, tag: None, what: What::Changed(changed) });
+            }
+        }
+    }
+
+    /// Aborts what the hand has open, or has waiting.
+    #[tactic(auto, using(crate::proofs::Continued::then, crate::proofs::Continued::same))]
+    pub(super) fn abort_by(&mut self, hand: &Name, tag: Tag)
+        ensures { Continues self.old self.new }
+    {
+        let Some(stamp) = self.stamp_of(hand) else {
+            return self.refuse(hand, tag, Fault::NotOpen);
+        };
+        let Ok(again) = tag.copy(self.alloc) else {
+            return self.refuse(hand, tag, Fault::NoMemory);
+        };
+        if self.give_up(hand, again, stamp).is_err() {
+            self.refuse(hand, tag, Fault::NoMemory);
+        }
+    }
+
+    /// Aborts what is open under the stamp, and answers the request of it that waits. If memory runs out, nothing changes.
+    #[tactic(auto, using(crate::proofs::Continued::then, crate::proofs::Continued::begun, crate::proofs::Continued::same))]
+    pub(super) fn give_up(&mut self, hand: &Name, tag: Tag, stamp: u64) -> Result<(), OutOfMemory>
+        ensures { Continues self.old self.new }
+    {
+        if !self.session.is_open(stamp) {
+            // (a script that died: it begins, so that its end is one of those that count)
+            if !self.session.may_begin_as(stamp) {
+                return Err(OutOfMemory);
+            }
+            self.session.begin(Some(stamp))?;
+        }
+        let _place = self.unlist(stamp);
+        let Some(work) = self.works.get_mut(&stamp) else {
+            return Ok(());
+        };
+        if work.is_waited_for() {
+            let waited = replace(&mut work.tag, tag);
+            self.say(hand, waited, What::Cancelled);
+        } else {
+            work.tag = tag;
+        }
+        self.end_aborted(stamp);
+        Ok(())
+    }
+
+    /// Ends what is open under the stamp by an abort.
+    #[tactic(auto, using(crate::proofs::Continued::then, crate::proofs::Continued::same))]
+    pub(super) fn end_aborted(&mut self, stamp: u64)
+        ensures { Continues self.old self.new }
+    {
+        self.end(stamp, Outcome::Aborted);
+    }
+
+    /// Ends a script, one of whose commands, or whose commit, is refused.
+    #[tactic(auto, using(crate::proofs::Continued::then, crate::proofs::Continued::same))]
+    pub(super) fn end_script(&mut self, stamp: u64, cause: Option<Cause>)
+        ensures { Continues self.old self.new }
+    {
+        let place = self.place_of(stamp);
+        match cause {
+            Some(cause) => self.end(stamp, Outcome::Refused(place, cause)),
+            None => self.end(stamp, Outcome::NoMemory(place)),
+        }
+    }
+
+    /// Ends a script for want of memory.
+    #[tactic(auto, using(crate::proofs::Continued::then, crate::proofs::Continued::same))]
+    pub(super) fn end_without_memory(&mut self, stamp: u64)
+        ensures { Continues self.old self.new }
+    {
+        self.end_script(stamp, None);
+    }
+
+    /// Undoes what is open under the stamp, and tells its end.
+    #[tactic(auto, using(crate::proofs::Continued::ended, crate::proofs::Continued::same))]
+    fn end(&mut self, stamp: u64, outcome: Outcome)
+        ensures { Continues self.old self.new }
+    {
+        if !self.session.is_open(stamp) {
+            return;
+        }
+        let since = self.since(stamp);
+        self.release(stamp);
+        self.session.abort(stamp);
+        self.tell_end(stamp, since, outcome);
+    }
+
+    /// Takes out what has ended, and tells its hand. Doesn't allocate.
+    fn tell_end(&mut self, stamp: u64, since: u64, outcome: Outcome)
+        ensures { self.new ≡ self.old }
+    {
+        let Some((work, hand)) = self.take_work(stamp) else {
+            return;
+        };
+        let (name, replies, tag) = work.into_end();
+        let ended = Ended { name, since, replies, outcome, version: self.version };
+        self.say(&hand, tag, What::Ended(ended));
+    }
+
+    /// Takes out what has ended, so that its hand has nothing open. Doesn't allocate.
+    pub(super) fn take_work(&mut self, stamp: u64) -> Option<(Work, Name)>
+        ensures { self.new ≡ self.old }
+    {
+        let work = self.works.remove(&stamp)?;
+        let hand = Arc::try_clone(&work.hand).ok()?;
+        if let Some(known) = self.hands.get_mut(&*hand) {
+            known.at = At::Idle;
+        }
+        self.forget_idle(&hand);
+        Some((work, hand))
+    }
+
+    /// Keeps the age of a transaction that died for the next one of its hand.
+    pub(super) fn keep_age(&mut self, hand: &Name, stamp: u64, way: InTheWay)
+        ensures { self.new ≡ self.old }
+    {
+        if let Some(known) = self.hands.get_mut(&**hand) {
+            known.at = At::Kept(stamp, way);
+        }
+    }
+}

@@ -1,0 +1,67 @@
+//! What stands in the way of a command.
+use city_locks::Mode;
+use city_members::copied::Copied;
+use city_members::sequence::Sequence;
+use city_members::text::Id;
+use city_model::OutOfMemory;
+use city_session::Session;
+use city_txn::Conflict;
+use std::alloc::Global;
+
+/// A lock that isn't granted, and the stamps in its way.
+#[derive(Drop)]
+pub struct InTheWay {
+    pub id: Id,
+    pub mode: Mode,
+    pub stamps: Sequence<u64>,
+    /// How many had ended then: what began later under one of these stamps is not in the way.
+    pub ended: u64,
+}
+
+impl InTheWay {
+    /// The holders of an id that are in conflict with this stamp.
+    pub fn of(alloc: Global, ended: u64, stamp: u64, conflict: Conflict<'_>) -> Result<InTheWay, OutOfMemory> {
+        let mut stamps = Sequence::new(alloc);
+        for holder in conflict.holders {
+            if holder.conflicts(stamp, conflict.mode) {
+                stamps.push(holder.stamp)?;
+            }
+        }
+        Ok(InTheWay {
+            id: conflict.id.copy(alloc)?,
+            mode: conflict.mode,
+            stamps,
+            ended,
+        })
+    }
+
+    /// One that waits for the id.
+    pub fn one(alloc: Global, ended: u64, id: &Id, mode: Mode, other: u64) -> Result<InTheWay, OutOfMemory> {
+        let mut stamps = Sequence::new(alloc);
+        stamps.push(other)?;
+        Ok(InTheWay {
+            id: id.copy(alloc)?,
+            mode,
+            stamps,
+            ended,
+        })
+    }
+
+    /// Whether one of these stamps is still in the way: it hasn't ended since. Doesn't allocate.
+    pub fn is_open(&self, session: &Session, stamp: u64) -> bool {
+        match session.transaction(stamp) {
+            Some(transaction) => transaction.since() <= self.ended,
+            None => false,
+        }
+    }
+
+    /// One of them that is still in the way, if there is one. Doesn't allocate.
+    pub fn still_open(&self, session: &Session) -> Option<u64> {
+        for other in self.stamps.as_slice() {
+            if self.is_open(session, *other) {
+                return Some(*other);
+            }
+        }
+        None
+    }
+}
