@@ -86,11 +86,17 @@ fn held_back(
         return Ok(None);
     };
     if let Some(older) = waiting.older_at(id, stamp, mode) {
-        return Ok(Some((older, Some(InTheWay::one(alloc, session.ended(), id, mode, older)?))));
+        return Ok(Some((
+            older,
+            Some(InTheWay::one(alloc, session.ended(), id, mode, older)?),
+        )));
     }
     for id in others {
         if let Some(older) = waiting.older_at(id, stamp, Mode::Exclusive) {
-            return Ok(Some((older, Some(InTheWay::one(alloc, session.ended(), id, Mode::Exclusive, older)?))));
+            return Ok(Some((
+                older,
+                Some(InTheWay::one(alloc, session.ended(), id, Mode::Exclusive, older)?),
+            )));
         }
     }
     Ok(None)
@@ -116,7 +122,13 @@ fn act_first(
 
 /// Does the one command of a transaction. `done` counts those that were not refused.
 #[tactic(auto, using(crate::proofs::Continued::acted, crate::proofs::Continued::goes_same))]
-fn act(alloc: Global, session: &mut Session, stamp: u64, command: &Command, done: &mut usize) -> Gone
+fn act(
+    alloc: Global,
+    session: &mut Session,
+    stamp: u64,
+    command: &Command,
+    done: &mut usize,
+) -> Gone
     requires { is_open session.old.core stamp ≡ true }
     ensures { GoesOn stamp session.old session.new }
 {
@@ -178,7 +190,11 @@ fn held_up(alloc: Global, session: &Session, stamp: u64, command: &Command, wait
         return Gone::NoMemory;
     };
     match InTheWay::of(alloc, session.ended(), stamp, conflict) {
-        Ok(way) => if waits { Gone::Waits(way) } else { Gone::Dies(way) },
+        Ok(way) => if waits {
+            Gone::Waits(way)
+        } else {
+            Gone::Dies(way)
+        },
         Err(OutOfMemory) => Gone::NoMemory,
     }
 }

@@ -1,7 +1,9 @@
 //! The hands of one city.
-ghost use Rattle.std.specs.Prelude.{◌≡◌};
+ghost use Rattle.std.specs.Prelude.{◌≡◌, []};
 ghost use Rattle.city_model.specs.CityMap.{object_at};
 ghost use Rattle.city_model.specs.Relations.{IsLawful};
+ghost use Rattle.city_txn.specs.CoreState.{committed};
+ghost use Rattle.city_session.specs.Live.{IsLive};
 ghost use Rattle.city_live.specs.Continuing.{Continues};
 
 use crate::MAX_HANDS;
@@ -72,6 +74,9 @@ impl Hands {
     /// No hands yet, on this city, at this version. Doesn't allocate.
     pub fn new(alloc: Global, city: City, version: u64) -> Hands
         requires { IsLawful (object_at city.1) }
+        ensures start { result.start ≡ city }
+        ensures closed { result.closed ≡ [] }
+        ensures city { committed result.core ≡ object_at city.1 }
     {
         Hands {
             alloc,
@@ -87,6 +92,15 @@ impl Hands {
         }
     }
 
+    /// That what has ended, under whatever requests of whatever hands, is a serial history; that each transaction was told
+    /// what it would have been told there; that the committed city is what they leave, and lawful after each; and that what
+    /// is open stands on it.
+    pub fn is_live(&self)
+        ensures { IsLive self.now }
+    {
+        self.session.is_live();
+    }
+
     /// How many commits that wrote there are. Doesn't allocate.
     pub fn version(&self) -> u64 {
         self.version
@@ -96,7 +110,12 @@ impl Hands {
     ///
     /// If memory runs out before anything is done, nothing changes. If it runs out later, the hand is told so.
     #[tactic(auto, using(crate::proofs::Continued::then, crate::proofs::Continued::same))]
-    pub fn handle(&mut self, hand: Text, tag: Tag, request: Request) -> Result<Vec<Answer>, OutOfMemory>
+    pub fn handle(
+        &mut self,
+        hand: Text,
+        tag: Tag,
+        request: Request,
+    ) -> Result<Vec<Answer>, OutOfMemory>
         ensures { Continues self.old self.new }
     {
         self.answers.reserve(STEP_ANSWERS)?;
@@ -227,7 +246,11 @@ impl Hands {
         ensures { Continues self.old self.new }
     {
         if let Some(stamp) = self.stamp_of(hand) {
-            let fault = if self.is_busy(stamp) { Fault::Busy } else { Fault::AlreadyOpen };
+            let fault = if self.is_busy(stamp) {
+                Fault::Busy
+            } else {
+                Fault::AlreadyOpen
+            };
             return self.refuse(hand, tag, fault);
         }
         if let Err(fault) = self.remember(hand) {

@@ -20,7 +20,12 @@ pub struct InTheWay {
 
 impl InTheWay {
     /// The holders of an id that are in conflict with this stamp.
-    pub fn of(alloc: Global, ended: u64, stamp: u64, conflict: Conflict<'_>) -> Result<InTheWay, OutOfMemory> {
+    pub fn of(
+        alloc: Global,
+        ended: u64,
+        stamp: u64,
+        conflict: Conflict<'_>,
+    ) -> Result<InTheWay, OutOfMemory> {
         let mut stamps = Sequence::new(alloc);
         for holder in conflict.holders {
             if holder.conflicts(stamp, conflict.mode) {
@@ -36,7 +41,13 @@ impl InTheWay {
     }
 
     /// One that waits for the id.
-    pub fn one(alloc: Global, ended: u64, id: &Id, mode: Mode, other: u64) -> Result<InTheWay, OutOfMemory> {
+    pub fn one(
+        alloc: Global,
+        ended: u64,
+        id: &Id,
+        mode: Mode,
+        other: u64,
+    ) -> Result<InTheWay, OutOfMemory> {
         let mut stamps = Sequence::new(alloc);
         stamps.push(other)?;
         Ok(InTheWay {

@@ -120,7 +120,10 @@ impl Work {
     /// The name, the replies of a script, and the tag of the request that its end answers. Doesn't allocate.
     pub fn into_end(self) -> (Text, Option<Sequence<Reply>>, Tag) {
         let Work {
-            name, task, tag, ..
+            name,
+            task,
+            tag,
+            ..
         } = self;
         (name, task.into_replies(), tag)
     }

@@ -206,11 +206,7 @@ impl Session {
 
     /// The locks that a command asks for in an open transaction, in their order: the first, and the ids
     /// that it locks exclusively behind it. `None` if it asks for none. Doesn't allocate.
-    pub fn locks<'a>(
-        &'a self,
-        stamp: u64,
-        command: &'a Command,
-    ) -> Option<(&'a Id, Mode, Ids<'a>)>
+    pub fn locks<'a>(&'a self, stamp: u64, command: &'a Command) -> Option<(&'a Id, Mode, Ids<'a>)>
         ensures some { IfSome result (λ lock. locks_of (view self.now.core stamp) command.now
             ≡ (lock.0.now, lock.1) ∷ exclusively (ids_left lock.2)) }
         ensures none { IfNone result (locks_of (view self.now.core stamp) command.now ≡ []) }

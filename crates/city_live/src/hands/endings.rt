@@ -89,7 +89,11 @@ impl Hands {
             Ok(Prepared::Refused(cause)) => return Committing::Refused(cause),
             Err(OutOfMemory) => return Committing::NoMemory,
         };
-        let version = if change.len() == 0 { self.version } else { self.version.saturating_add(1) };
+        let version = if change.len() == 0 {
+            self.version
+        } else {
+            self.version.saturating_add(1)
+        };
         let Ok(changed) = self.room_for(stamp, change, version) else {
             return Committing::NoMemory;
         };
@@ -105,7 +109,12 @@ impl Hands {
     }
 
     /// Makes room for all that a commit tells: its change for the watchers, if it has one and there are any.
-    fn room_for(&mut self, stamp: u64, change: Change, version: u64) -> Result<Option<Arc<Changed>>, OutOfMemory>
+    fn room_for(
+        &mut self,
+        stamp: u64,
+        change: Change,
+        version: u64,
+    ) -> Result<Option<Arc<Changed>>, OutOfMemory>
         ensures { self.new ≡ self.old }
     {
         self.answers.reserve(STEP_ANSWERS)?;
@@ -117,7 +126,15 @@ impl Hands {
         };
         let by = Arc::try_clone(&work.hand)?;
         let name = work.name().copy(self.alloc)?;
-        let changed = Arc::new(self.alloc, Changed { by, name, version, change })?;
+        let changed = Arc::new(
+            self.alloc,
+            Changed {
+                by,
+                name,
+                version,
+                change,
+            },
+        )?;
         let Some(room) = self.watchers.len().checked_add(STEP_ANSWERS) else {
             return Err(OutOfMemory);
         };
@@ -131,7 +148,11 @@ impl Hands {
     {
         for (_, hand) in self.watchers.iter() {
             if let (Ok(hand), Ok(changed)) = (Arc::try_clone(hand), Arc::try_clone(changed)) {
-                let _told = self.answers.push(Answer { hand, tag: None, what: What::Changed(changed) });
+                let _told = self.answers.push(Answer {
+                    hand,
+                    tag: None,
+                    what: What::Changed(changed),
+                });
             }
         }
     }
@@ -228,7 +249,13 @@ impl Hands {
             return;
         };
         let (name, replies, tag) = work.into_end();
-        let ended = Ended { name, since, replies, outcome, version: self.version };
+        let ended = Ended {
+            name,
+            since,
+            replies,
+            outcome,
+            version: self.version,
+        };
         self.say(&hand, tag, What::Ended(ended));
     }
 

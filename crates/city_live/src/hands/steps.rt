@@ -126,7 +126,12 @@ impl Hands {
     }
 
     /// Lists a stamp behind another, and tells its hand. If memory runs out, nothing changes.
-    fn wait_behind(&mut self, stamp: u64, other: u64, way: Option<InTheWay>) -> Result<(), OutOfMemory>
+    fn wait_behind(
+        &mut self,
+        stamp: u64,
+        other: u64,
+        way: Option<InTheWay>,
+    ) -> Result<(), OutOfMemory>
         ensures { self.new ≡ self.old }
     {
         let told = self.waits_of(stamp, way.as_ref())?;
@@ -136,7 +141,11 @@ impl Hands {
     }
 
     /// What to tell of a request that waits: what is in its way, or what was when it died. `None` if its hand was told.
-    fn waits_of(&self, stamp: u64, way: Option<&InTheWay>) -> Result<Option<(Name, Tag, Blocked)>, OutOfMemory> {
+    fn waits_of(
+        &self,
+        stamp: u64,
+        way: Option<&InTheWay>,
+    ) -> Result<Option<(Name, Tag, Blocked)>, OutOfMemory> {
         let Some(work) = self.works.get(&stamp) else {
             return Ok(None);
         };
@@ -184,7 +193,11 @@ impl Hands {
         requires { is_open self.old.core stamp ≡ true }
         ensures { Continues self.old self.new }
     {
-        let done = if self.is_script(stamp) { self.hold_script(stamp, way) } else { self.end_dead(stamp, way) };
+        let done = if self.is_script(stamp) {
+            self.hold_script(stamp, way)
+        } else {
+            self.end_dead(stamp, way)
+        };
         if done.is_err() {
             self.not_done(stamp, Fault::NoMemory);
         }
