@@ -24,10 +24,10 @@ from commands import MOST_SCRIPTS, Refusal
 from json_tree import print_tree
 from live_engine import Engine
 from random_runs import HEAD
-from texts_in_pieces import groups
 
 SECONDS = 120
 MANY = 50  # the runs of one file of scenarios
+MOST_TRIES = 10_000  # what goes on behind one request goes on less often than this
 OBJECTS = {
     "b": {"type": "Building", "children": ["p", "q"], "attributes": {"n": 0}},
     "c": {"type": "Building", "children": ["q"]},
@@ -64,18 +64,25 @@ class Wrong(Exception):
 
 
 class WatchedEngine(Engine):
-    """A second engine that counts, and in which something can always go on."""
+    """A second engine that counts, and holds that something can always go on, and comes to an end."""
 
     def __init__(self, document):
         super().__init__(document)
-        self.counts = collections.Counter()
+        self.counts, self.tries = collections.Counter(), 0
 
     def handle(self, hand, tag, request):
+        self.tries = 0
         answers = super().handle(hand, tag, request)
         self.counts["requests"] += 1
         if self.open and all(work.waits_for is not None for work in self.open.values()):
             raise Wrong("all that is open waits")
         return answers
+
+    def go_on(self, work):
+        self.tries += 1
+        if self.tries > MOST_TRIES:
+            raise Wrong("what is open goes on without end")
+        return super().go_on(work)
 
     def wait(self, work, waits_for, name, hands):
         self.counts["waits"] += not work.is_told
@@ -230,8 +237,8 @@ def try_all(cityed, scenarios, seeds):
     """Tries the runs of these seeds, and returns what there was in them."""
     counts = collections.Counter()
     with tempfile.TemporaryDirectory(prefix="live-") as folder:
-        for group in groups(seeds, MANY):
-            runs = [Run(seed) for seed in group]
+        for start in range(0, len(seeds), MANY):
+            runs = [Run(seed) for seed in seeds[start : start + MANY]]
             play(scenarios, folder, runs)
             for run in runs:
                 counts.update(run.engine.counts)
