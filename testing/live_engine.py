@@ -179,8 +179,8 @@ class Engine:
         """The object and the hands that hold a first command back, or nothing."""
         if any(work.stamp in stamps for stamps in self.holders.values()):
             return None
-        if self.in_the_way(work):
-            return self.in_the_way(work)
+        if way := self.in_the_way(work):
+            return way
         for name, mode in self.locks_of(work, work.next_command()):
             for other in self.works():
                 if other.stamp < work.stamp and other.wants(name, mode):
@@ -192,8 +192,7 @@ class Engine:
         work.waits_for, work.is_due = None, False
         if work.attempt is None:
             self.begin_attempt(work)
-        held = self.held_back(work)
-        if held:
+        if held := self.held_back(work):
             return self.wait(work, HELD_BACK, *held)
         work.way = None
         while self.does_next(work):
@@ -212,8 +211,7 @@ class Engine:
             return self.commit(work)
         if command == "abort":
             return self.end(work, "aborted")
-        conflict = self.take_locks(work, command)
-        if conflict:
+        if conflict := self.take_locks(work, command):
             return self.hold_up(work, *conflict)
         try:
             reply = self.effect(work, command_of(command, []))

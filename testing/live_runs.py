@@ -180,7 +180,7 @@ def play(program, folder, runs):
         file.write("\n\n".join(["let the city\n" + DOCUMENT, *[run.scenario() for run in runs]]) + "\n")
     status, output, error = answer([program, path])
     if (status, output) != (0, f"{path}: {len(runs)} played\n".encode()):
-        raise Wrong(output.decode(errors="replace").removeprefix(f"{path}: "), error)
+        raise Wrong(output.decode(errors="replace").removeprefix(f"{path}: "), f"status {status}", error.decode())
 
 
 def answer(words):
@@ -222,7 +222,7 @@ def run_again(program, folder, run):
     status, output, error = answer([program, "--workers", "1", *paths])
     compare(run, output.decode().splitlines(), [*wanted, run.model])
     if (status, error) != (0, b""):
-        raise Wrong(f"seed {run.seed}: cityed ends with status {status}", error)
+        raise Wrong(f"seed {run.seed}: cityed ends with status {status}", error.decode())
     return len(scripts)
 
 

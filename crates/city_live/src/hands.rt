@@ -1,10 +1,12 @@
 //! The hands of one city.
-ghost use Rattle.std.specs.Prelude.{◌≡◌, []};
+ghost use Rattle.std.specs.Prelude.{◌≡◌, [], Some, All, IfOk};
 ghost use Rattle.city_model.specs.CityMap.{object_at};
 ghost use Rattle.city_model.specs.Relations.{IsLawful};
 ghost use Rattle.city_txn.specs.CoreState.{committed};
-ghost use Rattle.city_session.specs.Live.{IsLive};
+ghost use Rattle.city_session.specs.Grown.{Grown};
+ghost use Rattle.city_session.specs.Live.{grown_at, IsLive};
 ghost use Rattle.city_live.specs.Continuing.{Continues};
+ghost use Rattle.city_live.specs.Telling.{IsTrue, AreTrue};
 
 use crate::MAX_HANDS;
 use crate::answer::{Answer, Fault, Name, What};
@@ -68,6 +70,10 @@ impl Model for Hands {
     ghost coded = { Prim.hlevel (codes, coded_members, coded_objects) };
 
     ghost view = { λ h. h.session };
+
+    ghost use Rattle.city_live.specs.Telling.{AreTrue};
+
+    ghost invariant = { λ h. AreTrue h.session h.answers.items };
 }
 
 impl Hands {
@@ -108,6 +114,8 @@ impl Hands {
 
     /// Does what a hand asks for, and all that this allows others to go on with. The answers stand in their order.
     ///
+    /// Each end that is told is one of those that stand, and what is seen is the model after some of them.
+    ///
     /// If memory runs out before anything is done, nothing changes. If it runs out later, the hand is told so.
     #[tactic(auto, using(crate::proofs::Continued::then, crate::proofs::Continued::same))]
     pub fn handle(
@@ -116,7 +124,8 @@ impl Hands {
         tag: Tag,
         request: Request,
     ) -> Result<Vec<Answer>, OutOfMemory>
-        ensures { Continues self.old self.new }
+        ensures goes_on { Continues self.old self.new }
+        ensures told { IfOk result (λ answers. AreTrue self.new answers.items) }
     {
         self.answers.reserve(STEP_ANSWERS)?;
         let name = self.name_of(hand)?;
@@ -135,7 +144,9 @@ impl Hands {
     }
 
     /// Adds an answer. There is room for it, so it doesn't allocate.
+    #[tactic(auto, using(crate::proofs::Told::one_more))]
     fn say(&mut self, hand: &Name, tag: Tag, what: What)
+        requires { IsTrue self.old what }
         ensures { self.new ≡ self.old }
     {
         if let Ok(hand) = Arc::try_clone(hand) {
@@ -167,10 +178,7 @@ impl Hands {
             Request::Watch => self.watch(hand, tag),
             Request::Unwatch => self.unwatch(hand, tag),
             Request::Look(ids) => self.look(hand, tag, ids),
-            Request::Model => match self.session.committed_city() {
-                Ok(city) => self.say(hand, tag, What::Model(city, self.version)),
-                Err(OutOfMemory) => self.refuse(hand, tag, Fault::NoMemory),
-            },
+            Request::Model => self.show_model(hand, tag),
             Request::Bye => self.bye(hand, tag),
         }
     }
@@ -284,7 +292,7 @@ impl Hands {
     }
 
     /// Begins a transaction under a kept stamp, or a new one. If memory runs out, nothing changes.
-    #[tactic(auto, using(crate::proofs::Continued::begun, crate::proofs::Continued::unchanged))]
+    #[tactic(auto, using(crate::proofs::Continued::begun, crate::proofs::Continued::unchanged, crate::proofs::Told::true_begun, crate::proofs::Told::true_unchanged))]
     fn begin_under(&mut self, kept: Option<u64>) -> Result<u64, OutOfMemory>
         ensures { Continues self.old self.new }
     {
@@ -345,7 +353,9 @@ impl Hands {
     }
 
     /// How many had ended when what is open under the stamp began. Doesn't allocate.
-    fn since(&self, stamp: u64) -> u64 {
+    fn since(&self, stamp: u64) -> u64
+        ensures { (g : Grown) → grown_at self.now.growing stamp ≡ Some g → result ≡ g.since }
+    {
         match self.session.transaction(stamp) {
             Some(transaction) => transaction.since(),
             None => 0,
@@ -418,26 +428,50 @@ impl Hands {
         }
     }
 
+    /// Tells the committed city.
+    #[tactic(auto, using(crate::proofs::Told::city_seen))]
+    fn show_model(&mut self, hand: &Name, tag: Tag)
+        ensures { self.new ≡ self.old }
+    {
+        self.session.is_live();
+        match self.session.committed_city() {
+            Ok(city) => self.say(hand, tag, What::Model(city, self.version)),
+            Err(OutOfMemory) => self.refuse(hand, tag, Fault::NoMemory),
+        }
+    }
+
     /// Tells the committed objects of ids.
+    #[tactic(auto, using(crate::proofs::Told::objects_seen))]
     fn look(&mut self, hand: &Name, tag: Tag, ids: Sequence<Id>)
         ensures { self.new ≡ self.old }
     {
+        self.session.is_live();
         match self.committed(ids) {
             Ok(objects) => self.say(hand, tag, What::Look(objects, self.version)),
             Err(OutOfMemory) => self.refuse(hand, tag, Fault::NoMemory),
         }
     }
 
-    fn committed(&self, ids: Sequence<Id>) -> Result<Sequence<(Id, Option<Object>)>, OutOfMemory> {
+    /// The committed objects of ids.
+    fn committed(&self, ids: Sequence<Id>) -> Result<Sequence<(Id, Option<Object>)>, OutOfMemory>
+        ensures { IfOk result (λ objects. All (λ o. o.1 ≡ committed self.now.core o.0) objects) }
+    {
         let mut objects = Sequence::with_capacity(self.alloc, ids.len())?;
         for id in ids.into_vec() {
-            let object = match self.session.committed(&id) {
-                Some(object) => Some(object.copy(self.alloc)?),
-                None => None,
-            };
+            let object = self.committed_at(&id)?;
             objects.push((id, object))?;
         }
         Ok(objects)
+    }
+
+    /// A copy of the committed object of an id, if there is one.
+    fn committed_at(&self, id: &Id) -> Result<Option<Object>, OutOfMemory>
+        ensures { IfOk result (λ object. object ≡ committed self.now.core id.now) }
+    {
+        match self.session.committed(id) {
+            Some(object) => Ok(Some(object.copy(self.alloc)?)),
+            None => Ok(None),
+        }
     }
 
     /// Ends what the hand has open, and forgets the hand.

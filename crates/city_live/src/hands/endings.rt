@@ -1,6 +1,8 @@
 //! How scripts and transactions end.
-ghost use Rattle.std.specs.Prelude.{◌≡◌};
+ghost use Rattle.std.specs.Prelude.{◌≡◌, false};
+ghost use Rattle.city_session.specs.Live.{SessionState};
 ghost use Rattle.city_live.specs.Continuing.{Continues};
+ghost use Rattle.city_live.specs.Telling.{is_committed, AreTrue, IsPast};
 
 use super::{Hands, STEP_ANSWERS};
 use crate::answer::{Answer, Changed, Ended, Fault, Name, What};
@@ -9,11 +11,13 @@ use crate::in_the_way::InTheWay;
 use crate::request::Tag;
 use crate::work::Work;
 use city_members::copied::Copied;
+use city_members::text::Text;
 use city_model::OutOfMemory;
 use city_model::change::Change;
 use city_model::command::Cause;
 use city_model::end::Outcome;
 use city_txn::Prepared;
+use std::collections::BTreeMap;
 use std::mem::replace;
 use std::sync::Arc;
 
@@ -97,13 +101,11 @@ impl Hands {
         let Ok(changed) = self.room_for(stamp, change, version) else {
             return Committing::NoMemory;
         };
-        let since = self.since(stamp);
         self.release(stamp);
+        let since = self.since(stamp);
         self.session.commit(stamp);
         self.version = version;
-        if let Some(changed) = changed {
-            self.tell_watchers(&changed);
-        }
+        self.tell_watchers(changed);
         self.tell_end(stamp, since, Outcome::Committed);
         Committing::Done
     }
@@ -142,18 +144,12 @@ impl Hands {
         Ok(Some(changed))
     }
 
-    /// Tells each watcher of a change. There is room for it.
-    fn tell_watchers(&mut self, changed: &Arc<Changed>)
+    /// Tells each watcher of a change, if there is one. There is room for it.
+    fn tell_watchers(&mut self, changed: Option<Arc<Changed>>)
         ensures { self.new ≡ self.old }
     {
-        for (_, hand) in self.watchers.iter() {
-            if let (Ok(hand), Ok(changed)) = (Arc::try_clone(hand), Arc::try_clone(changed)) {
-                let _told = self.answers.push(Answer {
-                    hand,
-                    tag: None,
-                    what: What::Changed(changed),
-                });
-            }
+        if let Some(changed) = changed {
+            tell_each(&mut self.answers, &self.watchers, &changed);
         }
     }
 
@@ -230,19 +226,21 @@ impl Hands {
     /// Undoes what is open under the stamp, and tells its end.
     #[tactic(auto, using(crate::proofs::Continued::ended, crate::proofs::Continued::same))]
     fn end(&mut self, stamp: u64, outcome: Outcome)
+        requires { is_committed outcome ≡ false }
         ensures { Continues self.old self.new }
     {
         if !self.session.is_open(stamp) {
             return;
         }
-        let since = self.since(stamp);
         self.release(stamp);
+        let since = self.since(stamp);
         self.session.abort(stamp);
         self.tell_end(stamp, since, outcome);
     }
 
     /// Takes out what has ended, and tells its hand. Doesn't allocate.
     fn tell_end(&mut self, stamp: u64, since: u64, outcome: Outcome)
+        requires { IsPast self.old since (is_committed outcome) }
         ensures { self.new ≡ self.old }
     {
         let Some((work, hand)) = self.take_work(stamp) else {
@@ -279,5 +277,25 @@ impl Hands {
         if let Some(known) = self.hands.get_mut(&**hand) {
             known.at = At::Kept(stamp, way);
         }
+    }
+}
+
+/// Tells each watcher of a change. There is room for it.
+fn tell_each(answers: &mut Vec<Answer>, watchers: &BTreeMap<Text, Name>, changed: &Arc<Changed>)
+    ensures { (s : SessionState) → AreTrue s answers.old.items → AreTrue s answers.new.items }
+{
+    for (_, hand) in watchers.iter() {
+        tell_change(answers, hand, changed);
+    }
+}
+
+/// Tells a watcher of a change. There is room for it.
+#[tactic(auto, using(crate::proofs::Told::one_more))]
+fn tell_change(answers: &mut Vec<Answer>, hand: &Name, changed: &Arc<Changed>)
+    ensures { (s : SessionState) → AreTrue s answers.old.items → AreTrue s answers.new.items }
+{
+    if let (Ok(hand), Ok(changed)) = (Arc::try_clone(hand), Arc::try_clone(changed)) {
+        let what = What::Changed(changed);
+        let _told = answers.push(Answer { hand, tag: None, what });
     }
 }

@@ -17,7 +17,7 @@ use std::sync::Arc;
 
 impl Hands {
     /// Goes on with what is open under the stamp, and tells what came of it.
-    #[tactic(auto, using(crate::proofs::Continued::gone_on, crate::proofs::Continued::then, crate::proofs::Continued::same))]
+    #[tactic(auto, using(crate::proofs::Continued::gone_on, crate::proofs::Continued::then, crate::proofs::Continued::same, crate::proofs::Told::true_gone_on))]
     pub(super) fn go_on(&mut self, stamp: u64)
         ensures { Continues self.old self.new }
     {
@@ -205,7 +205,7 @@ impl Hands {
 
     /// Undoes a script's attempt, and holds the script back until those in its way have ended. If memory runs out, nothing
     /// changes.
-    #[tactic(auto, using(crate::proofs::Continued::forgotten, crate::proofs::Continued::same))]
+    #[tactic(auto, using(crate::proofs::Continued::forgotten, crate::proofs::Continued::same, crate::proofs::Told::true_forgotten))]
     fn hold_script(&mut self, stamp: u64, way: InTheWay) -> Result<(), OutOfMemory>
         requires { is_open self.old.core stamp ≡ true }
         ensures { Continues self.old self.new }

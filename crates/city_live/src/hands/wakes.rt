@@ -145,7 +145,7 @@ impl Hands {
     }
 
     /// Begins a script again whose attempt died. False if memory runs out.
-    #[tactic(auto, using(crate::proofs::Continued::begun, crate::proofs::Continued::unchanged, crate::proofs::Continued::same))]
+    #[tactic(auto, using(crate::proofs::Continued::begun, crate::proofs::Continued::unchanged, crate::proofs::Continued::same, crate::proofs::Told::true_begun, crate::proofs::Told::true_unchanged))]
     fn open_again(&mut self, stamp: u64) -> bool
         ensures { Continues self.old self.new }
     {
