@@ -1,5 +1,6 @@
 -- What was told stays true.
-use Rattle.std.specs.Prelude.{◌≡◌, ◌≤◌, ◌++◌, ◌∷◌, ℕ, List, [], Bool, false, Option, Some, All, length, slice_get, take, zero, suc, refl, get_or}
+use Rattle.std.specs.Prelude.{◌≡◌, ◌≤◌, ◌++◌, ◌∷◌, ℕ, List, [], Bool, false, Option, Some, All, length, slice_get}
+use Rattle.std.specs.Prelude.{take, zero, suc, refl, get_or}
 use Rattle.std.proofs.Common.{sym, ◌∙◌, ap, subst, arith}
 use Rattle.std.proofs.Math.Seq.{take-length}
 use Rattle.std.proofs.lemmas.List.{length-append, take-append-le}

@@ -12,7 +12,7 @@ use std::sync::Arc;
 /// The name of a hand, shared by all that names it.
 pub type Name = Arc<Text>;
 
-/// What a hand is told, with the tag of the request that it answers. What a watcher is told has none.
+/// An answer to a hand, with the tag of its request; a watcher's has none.
 #[derive(Drop)]
 pub struct Answer {
     pub hand: Name,
@@ -20,7 +20,7 @@ pub struct Answer {
     pub what: What,
 }
 
-/// What stands in the way of a command: the id whose lock isn't granted, and the hands that hold it.
+/// A lock in the way of a command: its id, and the hands with a hold on it.
 #[derive(Drop)]
 pub struct Blocked {
     pub on: Id,
@@ -34,21 +34,21 @@ pub struct Ended {
     pub name: Text,
     /// How many had ended when it began; of a script, when it began its last attempt.
     pub since: u64,
-    /// The replies to a script's commands before the one that ended it; `None` for a transaction.
+    /// The replies to a script's commands before its last; `None` for a transaction.
     pub replies: Option<Sequence<Reply>>,
     pub outcome: Outcome,
-    /// How many commits that wrote there are by now.
+    /// The number of commits with writes by now.
     pub version: u64,
 }
 
 /// A committed change.
 #[derive(Drop)]
 pub struct Changed {
-    /// The hand that committed it.
+    /// Its hand.
     pub by: Name,
     /// The name of its script or transaction.
     pub name: Text,
-    /// The version that it leads to, from the one before.
+    /// The version after it.
     pub version: u64,
     pub change: Change,
 }
@@ -78,7 +78,7 @@ pub enum What {
     /// The reply to a command.
     Reply(Reply),
     /// A command, or a commit, is refused, and the transaction goes on. The number is its place, from 0,
-    /// among the transaction's commands that were not refused.
+    /// among the transaction's commands without the refused ones.
     Refused(usize, Cause),
     /// The request waits. Its last answer follows.
     Waits(Blocked),
@@ -86,15 +86,15 @@ pub enum What {
     Died(Blocked),
     /// A script or a transaction has ended.
     Ended(Ended),
-    /// A request that waited won't be done, since its hand gave it up.
+    /// A waiting request was given up by its hand.
     Cancelled,
     /// Each change behind this version is told from now on.
     Watching(u64),
     /// No change is told any more.
     Unwatched,
-    /// A committed change, to a hand that watches.
+    /// A committed change, to a watcher.
     Changed(Arc<Changed>),
-    /// Objects as they are committed, all at this version; `None` where there is none.
+    /// Objects as they are committed, all at this version; `None` for a missing one.
     Look(Sequence<(Id, Option<Object>)>, u64),
     /// The model as it is committed, at this version.
     Model(City, u64),

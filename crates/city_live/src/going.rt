@@ -26,12 +26,12 @@ pub enum Gone {
     Nothing,
     /// A command of a script was refused.
     Refused(Cause),
-    /// A script came to its last command, which commits or aborts.
+    /// A script came to its last command, a commit or an abort.
     ToEnd(bool),
     /// Younger ones hold a lock of the next command.
     Waits(InTheWay),
-    /// The first command is held back behind a stamp: that of an older one which waits for this lock, or
-    /// of one that stood in the way when it died.
+    /// The first command is held back behind a stamp: an older one waiting for this lock, or one in its way
+    /// when it died.
     HeldBack(u64, Option<InTheWay>),
     /// An older one holds a lock of the next command.
     Dies(InTheWay),
@@ -39,7 +39,7 @@ pub enum Gone {
     NoMemory,
 }
 
-/// Goes on with what is open under the stamp: with its one command, or with its script to the end, or until it is held up.
+/// Goes on with a work: with its one command, or with its script to the end, or until it is held up.
 #[tactic(auto, using(crate::proofs::Continued::goes_same))]
 pub fn go_on(
     alloc: Global,
@@ -67,8 +67,8 @@ pub fn go_on(
     }
 }
 
-/// Behind whom the first command is held back, if it is: one that stood in its way when it died, or an older one that
-/// waits for a lock of it.
+/// Behind whom the first command is held back, if it is: one in its way when it died, or an older one waiting for a
+/// lock of it.
 fn held_back(
     alloc: Global,
     session: &Session,
@@ -102,7 +102,7 @@ fn held_back(
     Ok(None)
 }
 
-/// Does the first of these commands. `done` counts those that were not refused.
+/// Does the first of these commands. `done` counts commands without the refused ones.
 #[tactic(auto, using(crate::proofs::Continued::goes_same))]
 fn act_first(
     alloc: Global,
@@ -120,7 +120,7 @@ fn act_first(
     }
 }
 
-/// Does the one command of a transaction. `done` counts those that were not refused.
+/// Does the one command of a transaction. `done` counts commands without the refused ones.
 #[tactic(auto, using(crate::proofs::Continued::acted, crate::proofs::Continued::goes_same))]
 fn act(
     alloc: Global,
@@ -149,7 +149,7 @@ fn act(
     }
 }
 
-/// Runs a script's commands behind those that have replies.
+/// Runs a script's commands behind the replies so far.
 #[tactic(auto, using(crate::proofs::Continued::acted, crate::proofs::Continued::goes_same, crate::proofs::Continued::goes_then))]
 fn run(
     alloc: Global,
@@ -184,7 +184,7 @@ fn run(
     Gone::Nothing
 }
 
-/// What stands in the way of a command that waits, or dies.
+/// The lock in the way of a command.
 fn held_up(alloc: Global, session: &Session, stamp: u64, command: &Command, waits: bool) -> Gone {
     let Some(conflict) = session.conflict(stamp, command) else {
         return Gone::NoMemory;

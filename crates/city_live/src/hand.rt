@@ -2,18 +2,18 @@
 use crate::answer::Name;
 use crate::in_the_way::InTheWay;
 
-/// What a hand is at.
+/// The state of a hand.
 #[derive(Drop)]
 pub enum At {
     /// Nothing.
     Idle,
-    /// Its last transaction died: its stamp, kept for the next one, and those that stood in its way.
+    /// Its last transaction died: its stamp, kept for the next one, and the lock in its way.
     Kept(u64, InTheWay),
     /// A script or a transaction of this stamp.
     Works(u64),
 }
 
-/// A hand that has a transaction, a kept age or a watch.
+/// A hand with a work, a kept age or a watch.
 #[derive(Drop)]
 pub struct Hand {
     pub name: Name,
@@ -22,7 +22,7 @@ pub struct Hand {
 }
 
 impl Hand {
-    /// A hand that has nothing yet.
+    /// A hand with none of them yet.
     pub fn new(name: Name) -> Hand {
         Hand {
             name,
@@ -31,7 +31,7 @@ impl Hand {
         }
     }
 
-    /// Whether it has nothing, so that it need not be remembered. Doesn't allocate.
+    /// Whether it has none of them, and need not be remembered. Doesn't allocate.
     pub fn is_idle(&self) -> bool {
         matches!(self.at, At::Idle) && !self.watches
     }
@@ -44,7 +44,7 @@ impl Hand {
         }
     }
 
-    /// The stamp that is kept for its next transaction, if there is one. Doesn't allocate.
+    /// The stamp kept for its next transaction, if there is one. Doesn't allocate.
     pub fn kept(&self) -> Option<u64> {
         match &self.at {
             At::Kept(stamp, _) => Some(*stamp),

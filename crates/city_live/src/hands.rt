@@ -30,30 +30,31 @@ use std::mem::replace;
 use std::sync::Arc;
 
 mod endings;
+mod looks;
 mod steps;
 mod wakes;
 
-/// The answers that a step tells at most, but for those to watchers.
+/// The most answers of a step, but for the watchers'.
 const STEP_ANSWERS: usize = 4;
 
-/// One city, and the hands that edit it.
+/// One city, and hands on it.
 ///
-/// Contracts see the session. Each request is one event: it is answered, or waits and is answered later, and what waits for what it gave back is
-/// tried again. There is no clock and no thread.
+/// Contracts see the session. Each request is one event: it is answered, or waits and is answered later, and the works
+/// waiting for its locks are tried again. There is no clock and no thread.
 #[derive(Drop)]
 pub struct Hands {
     alloc: Global,
     session: Session,
-    /// How many commits that wrote there are.
+    /// The number of commits with writes.
     version: u64,
     hands: BTreeMap<Text, Hand>,
-    /// What the hands have open, by their stamps.
+    /// The hands' works, by their stamps.
     works: BTreeMap<u64, Work>,
     watchers: BTreeMap<Text, Name>,
     waiting: Waiting,
-    /// The stamps that are to be tried again.
+    /// The stamps due to be tried again.
     due: BTreeSet<u64>,
-    /// Memory ran out before one could be noted as due: all that waits is tried again.
+    /// Memory ran out before one could be noted as due: all waiting works are tried again.
     all_due: bool,
     answers: Vec<Answer>,
 }
@@ -98,23 +99,22 @@ impl Hands {
         }
     }
 
-    /// That what has ended, under whatever requests of whatever hands, is a serial history; that each transaction was told
-    /// what it would have been told there; that the committed city is what they leave, and lawful after each; and that what
-    /// is open stands on it.
+    /// The ended transactions, under any requests of any hands, are a serial history. Each was told the replies of its
+    /// place there, the committed city is theirs, and lawful after each, and the open ones stand on it.
     pub fn is_live(&self)
         ensures { IsLive self.now }
     {
         self.session.is_live();
     }
 
-    /// How many commits that wrote there are. Doesn't allocate.
+    /// The number of commits with writes. Doesn't allocate.
     pub fn version(&self) -> u64 {
         self.version
     }
 
-    /// Does what a hand asks for, and all that this allows others to go on with. The answers stand in their order.
+    /// Does a request of a hand, and goes on with all works it was in the way of. The answers stand in their order.
     ///
-    /// Each end that is told is one of those that stand, and what is seen is the model after some of them.
+    /// Each told end is one of the ends so far, and looks and models are of the model after some of these.
     ///
     /// If memory runs out before anything is done, nothing changes. If it runs out later, the hand is told so.
     #[tactic(auto, using(crate::proofs::Continued::then, crate::proofs::Continued::same))]
@@ -160,7 +160,7 @@ impl Hands {
         self.say(hand, tag, What::Fault(fault));
     }
 
-    /// Does what a hand asks for.
+    /// Does a request of a hand.
     #[tactic(auto, using(crate::proofs::Continued::then, crate::proofs::Continued::same))]
     fn answer(&mut self, hand: &Name, tag: Tag, request: Request)
         ensures { Continues self.old self.new }
@@ -273,7 +273,7 @@ impl Hands {
         }
     }
 
-    /// Opens a transaction of a hand that has none, under its kept age if it has one. If memory runs out, nothing changes.
+    /// Opens a work of a hand without one, under its kept age if it has one. If memory runs out, nothing changes.
     #[tactic(auto, using(crate::proofs::Continued::then, crate::proofs::Continued::same))]
     fn open(&mut self, hand: &Name, name: Text, task: Task) -> Result<u64, OutOfMemory>
         ensures { Continues self.old self.new }
@@ -286,7 +286,7 @@ impl Hands {
         Ok(stamp)
     }
 
-    /// The stamp that is kept for the hand's next transaction, if there is one. Doesn't allocate.
+    /// The stamp kept for the hand's next transaction, if there is one. Doesn't allocate.
     fn kept_by(&self, hand: &Name) -> Option<u64> {
         self.hands.get(&**hand)?.kept()
     }
@@ -306,7 +306,7 @@ impl Hands {
         Ok(begun)
     }
 
-    /// Adds what has begun under the stamp; if memory runs out, it is forgotten.
+    /// Adds a work just begun; if memory runs out, it is forgotten.
     #[tactic(auto, using(crate::proofs::Continued::forgotten, crate::proofs::Continued::same))]
     fn add_work(&mut self, stamp: u64, work: Work) -> Result<(), OutOfMemory>
         ensures { Continues self.old self.new }
@@ -320,7 +320,7 @@ impl Hands {
         Err(OutOfMemory)
     }
 
-    /// Moves the age that the hand has kept to what it has begun. Doesn't allocate.
+    /// Moves the lock in the way of the hand's last transaction to its new work. Doesn't allocate.
     fn take_age(&mut self, hand: &Name, stamp: u64)
         ensures { self.new ≡ self.old }
     {
@@ -335,7 +335,7 @@ impl Hands {
         }
     }
 
-    /// Tells that a transaction has begun, or runs a script that has.
+    /// Tells of a transaction's beginning, or runs a script.
     #[tactic(auto, using(crate::proofs::Continued::then, crate::proofs::Continued::same))]
     fn begun(&mut self, hand: &Name, tag: Tag, stamp: u64)
         ensures { Continues self.old self.new }
@@ -352,7 +352,7 @@ impl Hands {
         }
     }
 
-    /// How many had ended when what is open under the stamp began. Doesn't allocate.
+    /// How many had ended when the work of the stamp began. Doesn't allocate.
     fn since(&self, stamp: u64) -> u64
         ensures { (g : Grown) → grown_at self.now.growing stamp ≡ Some g → result ≡ g.since }
     {
@@ -380,101 +380,7 @@ impl Hands {
         self.go_on(stamp);
     }
 
-    /// Tells the hand of each change from now on.
-    fn watch(&mut self, hand: &Name, tag: Tag)
-        ensures { self.new ≡ self.old }
-    {
-        if let Err(fault) = self.remember(hand) {
-            return self.refuse(hand, tag, fault);
-        }
-        match self.add_watcher(hand) {
-            Ok(()) => {
-                if let Some(known) = self.hands.get_mut(&**hand) {
-                    known.watches = true;
-                }
-                self.say(hand, tag, What::Watching(self.version));
-            }
-            Err(OutOfMemory) => {
-                self.forget_idle(hand);
-                self.refuse(hand, tag, Fault::NoMemory);
-            }
-        }
-    }
-
-    fn add_watcher(&mut self, hand: &Name) -> Result<(), OutOfMemory>
-        ensures { self.new ≡ self.old }
-    {
-        let key = hand.copy(self.alloc)?;
-        let name = Arc::try_clone(hand)?;
-        self.watchers.insert(key, name)?;
-        Ok(())
-    }
-
-    /// Tells the hand of no change any more.
-    fn unwatch(&mut self, hand: &Name, tag: Tag)
-        ensures { self.new ≡ self.old }
-    {
-        self.stop_watching(hand);
-        self.forget_idle(hand);
-        self.say(hand, tag, What::Unwatched);
-    }
-
-    fn stop_watching(&mut self, hand: &Name)
-        ensures { self.new ≡ self.old }
-    {
-        self.watchers.remove(&**hand);
-        if let Some(known) = self.hands.get_mut(&**hand) {
-            known.watches = false;
-        }
-    }
-
-    /// Tells the committed city.
-    #[tactic(auto, using(crate::proofs::Told::city_seen))]
-    fn show_model(&mut self, hand: &Name, tag: Tag)
-        ensures { self.new ≡ self.old }
-    {
-        self.session.is_live();
-        match self.session.committed_city() {
-            Ok(city) => self.say(hand, tag, What::Model(city, self.version)),
-            Err(OutOfMemory) => self.refuse(hand, tag, Fault::NoMemory),
-        }
-    }
-
-    /// Tells the committed objects of ids.
-    #[tactic(auto, using(crate::proofs::Told::objects_seen))]
-    fn look(&mut self, hand: &Name, tag: Tag, ids: Sequence<Id>)
-        ensures { self.new ≡ self.old }
-    {
-        self.session.is_live();
-        match self.committed(ids) {
-            Ok(objects) => self.say(hand, tag, What::Look(objects, self.version)),
-            Err(OutOfMemory) => self.refuse(hand, tag, Fault::NoMemory),
-        }
-    }
-
-    /// The committed objects of ids.
-    fn committed(&self, ids: Sequence<Id>) -> Result<Sequence<(Id, Option<Object>)>, OutOfMemory>
-        ensures { IfOk result (λ objects. All (λ o. o.1 ≡ committed self.now.core o.0) objects) }
-    {
-        let mut objects = Sequence::with_capacity(self.alloc, ids.len())?;
-        for id in ids.into_vec() {
-            let object = self.committed_at(&id)?;
-            objects.push((id, object))?;
-        }
-        Ok(objects)
-    }
-
-    /// A copy of the committed object of an id, if there is one.
-    fn committed_at(&self, id: &Id) -> Result<Option<Object>, OutOfMemory>
-        ensures { IfOk result (λ object. object ≡ committed self.now.core id.now) }
-    {
-        match self.session.committed(id) {
-            Some(object) => Ok(Some(object.copy(self.alloc)?)),
-            None => Ok(None),
-        }
-    }
-
-    /// Ends what the hand has open, and forgets the hand.
+    /// Aborts the hand's work, and forgets the hand.
     #[tactic(auto, using(crate::proofs::Continued::then, crate::proofs::Continued::same))]
     fn bye(&mut self, hand: &Name, tag: Tag)
         ensures { Continues self.old self.new }

@@ -1,4 +1,4 @@
-//! What stands in the way of a command.
+//! A lock in the way of a command.
 use city_locks::Mode;
 use city_members::copied::Copied;
 use city_members::sequence::Sequence;
@@ -14,12 +14,12 @@ pub struct InTheWay {
     pub id: Id,
     pub mode: Mode,
     pub stamps: Sequence<u64>,
-    /// How many had ended then: what began later under one of these stamps is not in the way.
+    /// How many had ended then: a later work under one of these stamps is not in the way.
     pub ended: u64,
 }
 
 impl InTheWay {
-    /// The holders of an id that are in conflict with this stamp.
+    /// The holders of an id in conflict with this stamp.
     pub fn of(
         alloc: Global,
         ended: u64,
@@ -40,7 +40,7 @@ impl InTheWay {
         })
     }
 
-    /// One that waits for the id.
+    /// A waiting work for the id.
     pub fn one(
         alloc: Global,
         ended: u64,
@@ -66,7 +66,7 @@ impl InTheWay {
         }
     }
 
-    /// One of them that is still in the way, if there is one. Doesn't allocate.
+    /// One of them still in the way, if there is one. Doesn't allocate.
     pub fn still_open(&self, session: &Session) -> Option<u64> {
         for other in self.stamps.as_slice() {
             if self.is_open(session, *other) {

@@ -1,9 +1,9 @@
-//! Many hands on one city: what each asks for, and what each is told.
+//! Many hands on one city: requests, and answers to them.
 //!
-//! - `hands`: the hands, and what a request does
-//! - `request`, `answer`: what is asked for, and what is told
-//! - `work`, `going`: what a hand has open, and how it goes on
-//! - `in_the_way`, `waiting`: what stands in the way of a command, and what waits, by what it waits for
+//! - `hands`: the hands, and the effects of requests
+//! - `request`, `answer`: requests and answers
+//! - `work`, `going`: the work of a hand, and how it goes on
+//! - `in_the_way`, `waiting`: locks in the way of a command, and the waiting by their reasons
 #![tactic(auto)]
 
 mod answer;
@@ -19,5 +19,5 @@ pub use answer::{Answer, Blocked, Changed, Ended, Fault, Name, What};
 pub use hands::Hands;
 pub use request::{Request, Tag};
 
-/// The most hands that have a transaction, a kept age or a watch.
+/// The most hands with a transaction, a kept age or a watch.
 pub const MAX_HANDS: usize = 4_096;

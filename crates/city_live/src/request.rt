@@ -3,7 +3,7 @@ use city_members::sequence::Sequence;
 use city_members::text::{Id, Text};
 use city_model::script::Script;
 
-/// What comes back with each answer to a request: its id, as the hand wrote it, if it has one.
+/// The id of a request, as the hand wrote it, if it has one. It comes back with each answer.
 pub type Tag = Option<Text>;
 
 /// What a hand asks for.
@@ -11,13 +11,13 @@ pub type Tag = Option<Text>;
 pub enum Request {
     /// To run a whole script.
     Script(Script),
-    /// To begin a transaction of this name, whose commands follow one by one.
+    /// To begin a transaction of this name. Its commands follow one by one.
     Begin(Text),
-    /// To do the first command of this script in the open transaction; one that ends a script ends it.
+    /// To do the first command of this script in the open transaction; a `Commit` or an `Abort` ends it.
     Do(Script),
     /// To commit the open transaction.
     Commit,
-    /// To abort what is open, or waits.
+    /// To abort the hand's work.
     Abort,
     /// To be told each change from now on.
     Watch,
@@ -27,6 +27,6 @@ pub enum Request {
     Look(Sequence<Id>),
     /// To see the model as it is committed.
     Model,
-    /// To abort what is open, and to be forgotten.
+    /// To abort the hand's work, and to be forgotten.
     Bye,
 }

@@ -1,4 +1,4 @@
-//! What waits, by what it waits for.
+//! Waiting works, by their reasons.
 use city_locks::Mode;
 use city_members::copied::Copied;
 use city_members::text::Id;
@@ -6,8 +6,8 @@ use city_model::OutOfMemory;
 use std::alloc::Global;
 use std::collections::{BTreeMap, BTreeSet};
 
-/// The stamps of what waits, by the ids whose locks they want, with the mode; and by the stamps that they
-/// are held back by.
+/// The stamps of waiting works, by the ids of the locks they want, with the mode; and by the stamps in front
+/// of them.
 #[derive(Drop)]
 pub struct Waiting {
     alloc: Global,
@@ -25,7 +25,7 @@ impl Waiting {
         }
     }
 
-    /// Lists a stamp at the id that it wants in the mode. If memory runs out, it isn't listed.
+    /// Lists a stamp at an id, for a lock in the mode. If memory runs out, it isn't listed.
     pub fn add_at(&mut self, id: &Id, stamp: u64, mode: Mode) -> Result<(), OutOfMemory> {
         if let Some(waiters) = self.at_ids.get_mut(id) {
             waiters.insert(stamp, mode)?;
@@ -69,7 +69,7 @@ impl Waiting {
         }
     }
 
-    /// The oldest that waits for the id in a mode that goes not with this one, if it is older than the
+    /// The oldest waiting stamp at the id with a mode in conflict with this one, if it is older than the
     /// stamp. Doesn't allocate.
     pub fn older_at(&self, id: &Id, stamp: u64, mode: Mode) -> Option<u64> {
         for (other, wanted) in self.at_ids.get(id)?.iter() {

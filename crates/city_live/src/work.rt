@@ -1,4 +1,4 @@
-//! What a hand has open: a script, or a transaction whose commands come one by one.
+//! The work of a hand: a script, or a transaction with commands one by one.
 use crate::answer::Name;
 use crate::in_the_way::InTheWay;
 use crate::request::Tag;
@@ -9,13 +9,13 @@ use city_model::script::Script;
 use city_session::Session;
 use std::alloc::Global;
 
-/// What is to be done.
+/// The commands of a work.
 #[derive(Drop)]
 pub enum Task {
     /// A whole script, and the replies to its commands so far.
     Script(Script, Sequence<Reply>),
-    /// A transaction whose commands come one by one: the script whose first command is to be done, and how
-    /// many were done and not refused.
+    /// A transaction with commands one by one: a script for its next, the first of this; and the number
+    /// of its commands so far, without the refused ones.
     Single(Option<Script>, usize),
 }
 
@@ -29,14 +29,14 @@ impl Task {
     }
 }
 
-/// Where something that waits is listed.
+/// The list with a waiting work.
 #[derive(Drop)]
 pub enum Place {
     /// Nowhere: it doesn't wait.
     Nowhere,
-    /// At an id whose lock it wants.
+    /// At an id, for a lock.
     AtId(Id),
-    /// Behind another's stamp: it is tried again once that has ended, or waits no longer.
+    /// Behind another's stamp, until the other has ended or waits no longer.
     Behind(u64),
 }
 
@@ -47,17 +47,17 @@ pub struct Work {
     /// The name of the script or the transaction.
     pub name: Text,
     pub task: Task,
-    /// The tag of the request that is still to be answered.
+    /// The tag of the unanswered request.
     pub tag: Tag,
-    /// Whether the hand was told that this request waits.
+    /// Whether its hand knows already: this request waits.
     pub is_told: bool,
-    /// Those that stood in its way when it died: its first command is held back until all have ended.
+    /// The lock in its way when it died. Its first command is held back until all its holders then have ended.
     pub until: Option<InTheWay>,
     pub place: Place,
 }
 
 impl Work {
-    /// A script or a transaction that hasn't begun yet.
+    /// A work without commands done.
     pub fn new(hand: Name, name: Text, task: Task) -> Work {
         Work {
             hand,
@@ -70,7 +70,7 @@ impl Work {
         }
     }
 
-    /// Whether it waits for the id of that place. Doesn't allocate.
+    /// Whether it waits at the id of this place. Doesn't allocate.
     pub fn waits_as(&self, place: &Place) -> bool {
         match (&self.place, place) {
             (Place::AtId(id), Place::AtId(other)) => id == other,
@@ -93,7 +93,7 @@ impl Work {
         &self.name
     }
 
-    /// The place of the next command, from 0, among those that were not refused. Doesn't allocate.
+    /// The place of the next command, from 0, without the refused ones. Doesn't allocate.
     pub fn place_of_next(&self) -> usize {
         match &self.task {
             Task::Script(_, replies) => replies.len(),
@@ -109,7 +109,7 @@ impl Work {
         }
     }
 
-    /// Sets a script back to its first command, held back by what stood in its way. Doesn't allocate.
+    /// Sets a script back to its first command, held back by this lock. Doesn't allocate.
     pub fn begin_again(&mut self, alloc: Global, way: InTheWay) {
         if let Task::Script(_, replies) = &mut self.task {
             *replies = Sequence::new(alloc);
@@ -117,7 +117,7 @@ impl Work {
         self.until = Some(way);
     }
 
-    /// The name, the replies of a script, and the tag of the request that its end answers. Doesn't allocate.
+    /// The name, the replies of a script, and the tag of the unanswered request. Doesn't allocate.
     pub fn into_end(self) -> (Text, Option<Sequence<Reply>>, Tag) {
         let Work {
             name,
@@ -128,7 +128,7 @@ impl Work {
         (name, task.into_replies(), tag)
     }
 
-    /// Takes a script whose first command is to be done, and the tag of its request. Doesn't allocate.
+    /// Takes a script for its next command, the first of this, and the tag of the request. Doesn't allocate.
     pub fn ask(&mut self, script: Script, tag: Tag) {
         if let Task::Single(asked, _) = &mut self.task {
             *asked = Some(script);
@@ -146,12 +146,12 @@ impl Work {
         self.tag.take()
     }
 
-    /// One of those that stood in its way when it died and have not ended since, if there is one. Doesn't allocate.
+    /// A stamp still in its way since it died, if there is one. Doesn't allocate.
     pub fn still_open(&self, session: &Session) -> Option<u64> {
         self.until.as_ref()?.still_open(session)
     }
 
-    /// The command that is to be done next, if there is one. Doesn't allocate.
+    /// The next command, if there is one. Doesn't allocate.
     pub fn command(&self) -> Option<&Command> {
         match &self.task {
             Task::Script(script, replies) => script.commands().get(replies.len()),

@@ -21,7 +21,7 @@ use std::collections::BTreeMap;
 use std::mem::replace;
 use std::sync::Arc;
 
-/// What came of a commit.
+/// The outcome of a commit.
 #[derive(Drop)]
 enum Committing {
     Done,
@@ -67,7 +67,7 @@ impl Hands {
         }
     }
 
-    /// Commits a script that has come to its end.
+    /// Commits a script at its end.
     #[tactic(auto, using(crate::proofs::Continued::then, crate::proofs::Continued::same))]
     pub(super) fn commit_script(&mut self, stamp: u64)
         ensures { Continues self.old self.new }
@@ -79,8 +79,7 @@ impl Hands {
         }
     }
 
-    /// Commits what is open under the stamp, and tells the watchers of its change, and then its hand. If memory runs out,
-    /// nothing changes.
+    /// Commits a work, and tells the watchers of its change, and then its hand. If memory runs out, nothing changes.
     #[tactic(auto, using(crate::proofs::Continued::ended, crate::proofs::Continued::same))]
     fn commit(&mut self, stamp: u64) -> Committing
         ensures { Continues self.old self.new }
@@ -110,7 +109,7 @@ impl Hands {
         Committing::Done
     }
 
-    /// Makes room for all that a commit tells: its change for the watchers, if it has one and there are any.
+    /// Makes room for a commit's answers, and shares its change for the watchers, if it has one and there are any.
     fn room_for(
         &mut self,
         stamp: u64,
@@ -153,7 +152,7 @@ impl Hands {
         }
     }
 
-    /// Aborts what the hand has open, or has waiting.
+    /// Aborts the hand's work.
     #[tactic(auto, using(crate::proofs::Continued::then, crate::proofs::Continued::same))]
     pub(super) fn abort_by(&mut self, hand: &Name, tag: Tag)
         ensures { Continues self.old self.new }
@@ -169,13 +168,13 @@ impl Hands {
         }
     }
 
-    /// Aborts what is open under the stamp, and answers the request of it that waits. If memory runs out, nothing changes.
+    /// Aborts a work, and answers its waiting request. If memory runs out, nothing changes.
     #[tactic(auto, using(crate::proofs::Continued::then, crate::proofs::Continued::begun, crate::proofs::Continued::same))]
     pub(super) fn give_up(&mut self, hand: &Name, tag: Tag, stamp: u64) -> Result<(), OutOfMemory>
         ensures { Continues self.old self.new }
     {
         if !self.session.is_open(stamp) {
-            // (a script that died: it begins, so that its end is one of those that count)
+            // (a dead script begins, so its end counts)
             if !self.session.may_begin_as(stamp) {
                 return Err(OutOfMemory);
             }
@@ -195,7 +194,7 @@ impl Hands {
         Ok(())
     }
 
-    /// Ends what is open under the stamp by an abort.
+    /// Ends a work by an abort.
     #[tactic(auto, using(crate::proofs::Continued::then, crate::proofs::Continued::same))]
     pub(super) fn end_aborted(&mut self, stamp: u64)
         ensures { Continues self.old self.new }
@@ -203,7 +202,7 @@ impl Hands {
         self.end(stamp, Outcome::Aborted);
     }
 
-    /// Ends a script, one of whose commands, or whose commit, is refused.
+    /// Ends a script with a refused command or commit.
     #[tactic(auto, using(crate::proofs::Continued::then, crate::proofs::Continued::same))]
     pub(super) fn end_script(&mut self, stamp: u64, cause: Option<Cause>)
         ensures { Continues self.old self.new }
@@ -223,7 +222,7 @@ impl Hands {
         self.end_script(stamp, None);
     }
 
-    /// Undoes what is open under the stamp, and tells its end.
+    /// Undoes a work, and tells its end.
     #[tactic(auto, using(crate::proofs::Continued::ended, crate::proofs::Continued::same))]
     fn end(&mut self, stamp: u64, outcome: Outcome)
         requires { is_committed outcome ≡ false }
@@ -238,7 +237,7 @@ impl Hands {
         self.tell_end(stamp, since, outcome);
     }
 
-    /// Takes out what has ended, and tells its hand. Doesn't allocate.
+    /// Takes out an ended work, and tells its hand. Doesn't allocate.
     fn tell_end(&mut self, stamp: u64, since: u64, outcome: Outcome)
         requires { IsPast self.old since (is_committed outcome) }
         ensures { self.new ≡ self.old }
@@ -257,7 +256,7 @@ impl Hands {
         self.say(&hand, tag, What::Ended(ended));
     }
 
-    /// Takes out what has ended, so that its hand has nothing open. Doesn't allocate.
+    /// Takes out an ended work, so its hand has none. Doesn't allocate.
     pub(super) fn take_work(&mut self, stamp: u64) -> Option<(Work, Name)>
         ensures { self.new ≡ self.old }
     {
@@ -270,7 +269,7 @@ impl Hands {
         Some((work, hand))
     }
 
-    /// Keeps the age of a transaction that died for the next one of its hand.
+    /// Keeps the age of a dead transaction for the next one of its hand.
     pub(super) fn keep_age(&mut self, hand: &Name, stamp: u64, way: InTheWay)
         ensures { self.new ≡ self.old }
     {
@@ -296,6 +295,10 @@ fn tell_change(answers: &mut Vec<Answer>, hand: &Name, changed: &Arc<Changed>)
 {
     if let (Ok(hand), Ok(changed)) = (Arc::try_clone(hand), Arc::try_clone(changed)) {
         let what = What::Changed(changed);
-        let _told = answers.push(Answer { hand, tag: None, what });
+        let _told = answers.push(Answer {
+            hand,
+            tag: None,
+            what,
+        });
     }
 }

@@ -1,4 +1,4 @@
-//! How what a hand has open goes on.
+//! How a work goes on.
 ghost use Rattle.std.specs.Prelude.{◌≡◌, true};
 ghost use Rattle.city_txn.specs.CoreState.{is_open};
 ghost use Rattle.city_live.specs.Continuing.{Continues};
@@ -16,7 +16,7 @@ use city_model::command::Reply;
 use std::sync::Arc;
 
 impl Hands {
-    /// Goes on with what is open under the stamp, and tells what came of it.
+    /// Goes on with a work, and tells the outcome.
     #[tactic(auto, using(crate::proofs::Continued::gone_on, crate::proofs::Continued::then, crate::proofs::Continued::same, crate::proofs::Told::true_gone_on))]
     pub(super) fn go_on(&mut self, stamp: u64)
         ensures { Continues self.old self.new }
@@ -42,7 +42,7 @@ impl Hands {
         }
     }
 
-    /// Takes the hand and the tag of the request that is answered now, which waits no longer. Doesn't allocate.
+    /// Takes the hand and the tag of an answered request. Doesn't allocate.
     fn answered(&mut self, stamp: u64) -> Option<(Name, Tag)>
         ensures { self.new ≡ self.old }
     {
@@ -73,7 +73,7 @@ impl Hands {
         }
     }
 
-    /// A command that isn't done: its transaction is open as before, and a script ends.
+    /// Tells of an undone command: its transaction is open as before, and a script ends.
     #[tactic(auto, using(crate::proofs::Continued::then, crate::proofs::Continued::same))]
     fn not_done(&mut self, stamp: u64, fault: Fault)
         ensures { Continues self.old self.new }
@@ -86,7 +86,7 @@ impl Hands {
         }
     }
 
-    /// Whether what is open under the stamp is a script. Doesn't allocate.
+    /// Whether the work of the stamp is a script. Doesn't allocate.
     pub(super) fn is_script(&self, stamp: u64) -> bool {
         match self.works.get(&stamp) {
             Some(work) => work.is_script(),
@@ -104,7 +104,7 @@ impl Hands {
         }
     }
 
-    /// Lists a stamp at the id that it wants, and tells its hand. If memory runs out, nothing changes.
+    /// Lists a stamp at an id, and tells its hand. If memory runs out, nothing changes.
     fn wait_at(&mut self, stamp: u64, way: &InTheWay) -> Result<(), OutOfMemory>
         ensures { self.new ≡ self.old }
     {
@@ -140,7 +140,7 @@ impl Hands {
         Ok(())
     }
 
-    /// What to tell of a request that waits: what is in its way, or what was when it died. `None` if its hand was told.
+    /// The answer to a waiting request: the lock in its way now, or when it died. `None` if its hand was told.
     fn waits_of(
         &self,
         stamp: u64,
@@ -160,7 +160,7 @@ impl Hands {
         Ok(Some((hand, tag, self.blocked(way)?)))
     }
 
-    /// What still stands in the way, by the hands.
+    /// A lock, and the hands still in its way.
     fn blocked(&self, way: &InTheWay) -> Result<Blocked, OutOfMemory> {
         let mut by = Sequence::new(self.alloc);
         for stamp in way.stamps.as_slice() {
@@ -174,7 +174,7 @@ impl Hands {
         Ok(Blocked { on, by })
     }
 
-    /// Notes where something waits, and tells its hand, once a request. Doesn't allocate.
+    /// Notes the place of a waiting work, and tells its hand, once a request. Doesn't allocate.
     fn wait(&mut self, stamp: u64, place: Place, told: Option<(Name, Tag, Blocked)>)
         ensures { self.new ≡ self.old }
     {
@@ -203,8 +203,8 @@ impl Hands {
         }
     }
 
-    /// Undoes a script's attempt, and holds the script back until those in its way have ended. If memory runs out, nothing
-    /// changes.
+    /// Undoes a script's attempt, and holds the script back until the holders in its way have ended. If memory runs
+    /// out, nothing changes.
     #[tactic(auto, using(crate::proofs::Continued::forgotten, crate::proofs::Continued::same, crate::proofs::Told::true_forgotten))]
     fn hold_script(&mut self, stamp: u64, way: InTheWay) -> Result<(), OutOfMemory>
         requires { is_open self.old.core stamp ≡ true }

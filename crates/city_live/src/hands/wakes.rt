@@ -1,4 +1,4 @@
-//! What is tried again.
+//! Waiting works, tried again.
 ghost use Rattle.std.specs.Prelude.{◌≡◌};
 ghost use Rattle.city_live.specs.Continuing.{Continues};
 
@@ -10,8 +10,8 @@ use std::collections::BTreeSet;
 use std::mem::replace;
 
 impl Hands {
-    /// Notes as due all that wait for what the stamp holds, or behind it, before its locks are given back. If memory runs
-    /// out, all that wait are due.
+    /// Notes as due all works waiting for the stamp's locks or behind it, before it gives them back. If memory runs
+    /// out, all waiting works are due.
     pub(super) fn release(&mut self, stamp: u64)
         ensures { self.new ≡ self.old }
     {
@@ -22,7 +22,7 @@ impl Hands {
         self.wake_behind(stamp);
     }
 
-    /// Notes as due all that are held back behind the stamp, which has ended or waits no longer.
+    /// Notes as due all works held back behind a stamp.
     pub(super) fn wake_behind(&mut self, stamp: u64)
         ensures { self.new ≡ self.old }
     {
@@ -33,7 +33,7 @@ impl Hands {
         }
     }
 
-    /// Takes the stamp off the list that it waits in, and returns which that was. Doesn't allocate.
+    /// Takes the stamp off its list, and returns the list's place. Doesn't allocate.
     pub(super) fn unlist(&mut self, stamp: u64) -> Place
         ensures { self.new ≡ self.old }
     {
@@ -49,7 +49,7 @@ impl Hands {
         place
     }
 
-    /// Tries again what is due, the oldest first, until nothing more is. If memory runs out, the rest is tried at the next
+    /// Tries due works again, the oldest first, until none is due. If memory runs out, the rest is tried at the next
     /// request.
     #[tactic(auto, using(crate::proofs::Continued::then, crate::proofs::Continued::same))]
     pub(super) fn wake(&mut self)
@@ -58,7 +58,7 @@ impl Hands {
         if self.all_due {
             self.note_all();
         }
-        // (more tries than any run needs: each script that dies waits until those in its way have ended)
+        // (more tries than any run needs: a dead script waits for an end before each new attempt)
         for _tries in 0..u64::MAX {
             if !self.wake_oldest() {
                 return;
@@ -66,7 +66,7 @@ impl Hands {
         }
     }
 
-    /// Tries again the oldest that is due. False if there is none, or memory runs out.
+    /// Tries the oldest due work again. False if none is due, or memory runs out.
     #[tactic(auto, using(crate::proofs::Continued::then, crate::proofs::Continued::same))]
     fn wake_oldest(&mut self) -> bool
         ensures { Continues self.old self.new }
@@ -80,7 +80,7 @@ impl Hands {
         !self.is_busy(stamp) || self.try_again(stamp)
     }
 
-    /// Notes as due all that wait.
+    /// Notes as due all waiting works.
     fn note_all(&mut self)
         ensures { self.new ≡ self.old }
     {
@@ -92,8 +92,8 @@ impl Hands {
         self.all_due = false;
     }
 
-    /// Tries again what waits under the stamp. A script that died begins again, once none of those in its way is open. False
-    /// if memory runs out.
+    /// Tries a waiting work again. A dead script begins again, once nothing in its way is open. False if memory
+    /// runs out.
     #[tactic(auto, using(crate::proofs::Continued::then, crate::proofs::Continued::same))]
     fn try_again(&mut self, stamp: u64) -> bool
         ensures { Continues self.old self.new }
@@ -113,7 +113,7 @@ impl Hands {
         true
     }
 
-    /// One that a dead script is held back by, if there is one. Doesn't allocate.
+    /// A stamp still in the way of a dead script, if there is one. Doesn't allocate.
     fn held_by(&self, stamp: u64) -> Option<u64> {
         if self.session.is_open(stamp) {
             return None;
@@ -121,7 +121,7 @@ impl Hands {
         self.works.get(&stamp)?.still_open(&self.session)
     }
 
-    /// Whether what waits under the stamp waits for the id of this place. Doesn't allocate.
+    /// Whether the work of the stamp waits at the id of this place. Doesn't allocate.
     fn waits_as(&self, stamp: u64, place: &Place) -> bool {
         match self.works.get(&stamp) {
             Some(work) => work.waits_as(place),
@@ -129,7 +129,7 @@ impl Hands {
         }
     }
 
-    /// Lists what waits under the stamp behind another. False if memory runs out.
+    /// Lists a work behind another. False if memory runs out.
     fn stay_behind(&mut self, stamp: u64, other: u64) -> bool
         ensures { self.new ≡ self.old }
     {
@@ -144,7 +144,7 @@ impl Hands {
         true
     }
 
-    /// Begins a script again whose attempt died. False if memory runs out.
+    /// Begins a dead script again. False if memory runs out.
     #[tactic(auto, using(crate::proofs::Continued::begun, crate::proofs::Continued::unchanged, crate::proofs::Continued::same, crate::proofs::Told::true_begun, crate::proofs::Told::true_unchanged))]
     fn open_again(&mut self, stamp: u64) -> bool
         ensures { Continues self.old self.new }
@@ -156,7 +156,7 @@ impl Hands {
     }
 }
 
-/// Notes as due all that wait for these ids. False if memory runs out for one.
+/// Notes as due all works waiting at these ids. False if memory runs out for one.
 fn note_at(due: &mut BTreeSet<u64>, waiting: &mut Waiting, ids: &[Id]) -> bool {
     let mut all = true;
     for id in ids {

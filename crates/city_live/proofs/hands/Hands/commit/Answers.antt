@@ -14,5 +14,6 @@ pub tell_end-requires : goal.tell_end-requires
 tell_end-requires c =
     subst (λ (v : SessionState). IsPast v c.since-since.result true) (sym c.tell_watchers.ensures)
     (past c.args.stamp c.since-since.result true c.commit.ensures.ended
-    (subst (λ (v : SessionState). (g : Grown) → grown_at v.growing c.args.stamp ≡ Some g → c.since-since.result ≡ g.since)
+    (subst (λ (v : SessionState). (g : Grown) → grown_at v.growing c.args.stamp ≡ Some g
+    → c.since-since.result ≡ g.since)
     (sym c.self-2.view_is) c.since-since.ensures))

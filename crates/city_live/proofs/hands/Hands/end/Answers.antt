@@ -12,5 +12,6 @@ invariant_of-self c =
 pub tell_end-requires : goal.tell_end-requires
 tell_end-requires c =
     past_undone c.args.stamp c.since-since.result c.args.outcome c.abort.ensures.ended
-    (subst (λ (v : SessionState). (g : Grown) → grown_at v.growing c.args.stamp ≡ Some g → c.since-since.result ≡ g.since)
+    (subst (λ (v : SessionState). (g : Grown) → grown_at v.growing c.args.stamp ≡ Some g
+    → c.since-since.result ≡ g.since)
     (sym c.self-2.view_is) c.since-since.ensures) c.requires

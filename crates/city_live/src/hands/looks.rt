@@ -1,0 +1,109 @@
+//! Watches, looks and models: committed things alone.
+ghost use Rattle.std.specs.Prelude.{◌≡◌, All, IfOk};
+ghost use Rattle.city_txn.specs.CoreState.{committed};
+
+use super::Hands;
+use crate::answer::{Fault, Name, What};
+use crate::request::Tag;
+use city_members::copied::Copied;
+use city_members::sequence::Sequence;
+use city_members::text::Id;
+use city_model::OutOfMemory;
+use city_model::object::Object;
+use std::sync::Arc;
+
+impl Hands {
+    /// Tells the hand of each change from now on.
+    pub(super) fn watch(&mut self, hand: &Name, tag: Tag)
+        ensures { self.new ≡ self.old }
+    {
+        if let Err(fault) = self.remember(hand) {
+            return self.refuse(hand, tag, fault);
+        }
+        match self.add_watcher(hand) {
+            Ok(()) => {
+                if let Some(known) = self.hands.get_mut(&**hand) {
+                    known.watches = true;
+                }
+                self.say(hand, tag, What::Watching(self.version));
+            }
+            Err(OutOfMemory) => {
+                self.forget_idle(hand);
+                self.refuse(hand, tag, Fault::NoMemory);
+            }
+        }
+    }
+
+    fn add_watcher(&mut self, hand: &Name) -> Result<(), OutOfMemory>
+        ensures { self.new ≡ self.old }
+    {
+        let key = hand.copy(self.alloc)?;
+        let name = Arc::try_clone(hand)?;
+        self.watchers.insert(key, name)?;
+        Ok(())
+    }
+
+    /// Tells the hand of no change any more.
+    pub(super) fn unwatch(&mut self, hand: &Name, tag: Tag)
+        ensures { self.new ≡ self.old }
+    {
+        self.stop_watching(hand);
+        self.forget_idle(hand);
+        self.say(hand, tag, What::Unwatched);
+    }
+
+    pub(super) fn stop_watching(&mut self, hand: &Name)
+        ensures { self.new ≡ self.old }
+    {
+        self.watchers.remove(&**hand);
+        if let Some(known) = self.hands.get_mut(&**hand) {
+            known.watches = false;
+        }
+    }
+
+    /// Tells the committed city.
+    #[tactic(auto, using(crate::proofs::Told::city_seen))]
+    pub(super) fn show_model(&mut self, hand: &Name, tag: Tag)
+        ensures { self.new ≡ self.old }
+    {
+        self.session.is_live();
+        match self.session.committed_city() {
+            Ok(city) => self.say(hand, tag, What::Model(city, self.version)),
+            Err(OutOfMemory) => self.refuse(hand, tag, Fault::NoMemory),
+        }
+    }
+
+    /// Tells the committed objects of ids.
+    #[tactic(auto, using(crate::proofs::Told::objects_seen))]
+    pub(super) fn look(&mut self, hand: &Name, tag: Tag, ids: Sequence<Id>)
+        ensures { self.new ≡ self.old }
+    {
+        self.session.is_live();
+        match self.committed(ids) {
+            Ok(objects) => self.say(hand, tag, What::Look(objects, self.version)),
+            Err(OutOfMemory) => self.refuse(hand, tag, Fault::NoMemory),
+        }
+    }
+
+    /// The committed objects of ids.
+    fn committed(&self, ids: Sequence<Id>) -> Result<Sequence<(Id, Option<Object>)>, OutOfMemory>
+        ensures { IfOk result (λ objects. All (λ o. o.1 ≡ committed self.now.core o.0) objects) }
+    {
+        let mut objects = Sequence::with_capacity(self.alloc, ids.len())?;
+        for id in ids.into_vec() {
+            let object = self.committed_at(&id)?;
+            objects.push((id, object))?;
+        }
+        Ok(objects)
+    }
+
+    /// A copy of the committed object of an id, if there is one.
+    fn committed_at(&self, id: &Id) -> Result<Option<Object>, OutOfMemory>
+        ensures { IfOk result (λ object. object ≡ committed self.now.core id.now) }
+    {
+        match self.session.committed(id) {
+            Some(object) => Ok(Some(object.copy(self.alloc)?)),
+            None => Ok(None),
+        }
+    }
+}
