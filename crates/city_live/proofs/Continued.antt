@@ -1,9 +1,9 @@
 -- A session goes on, step by step.
-use Rattle.std.specs.Prelude.{◌≡◌, ◌≤◌, ◌++◌, ◌∷◌, ℕ, List, [], Bool, Option, None, Some, true, refl}
+use Rattle.std.specs.Prelude.{◌≡◌, ◌≤◌, ◌++◌, ◌∷◌, ℕ, [], Bool, Option, None, Some, true, refl}
 use Rattle.std.proofs.Common.{sym, ◌∙◌, ap, arith}
 use Rattle.std.proofs.lemmas.List.{append-nil, append_assoc}
 use Rattle.city_model.specs.declared.command.Command.{Command}
-use Rattle.city_txn.specs.CoreState.{committed, is_open}
+use Rattle.city_txn.specs.CoreState.{is_open}
 use Rattle.city_session.specs.Live.{SessionState}
 use Rattle.city_session.specs.Acting.{IsActed, IsBegun, HasEnded, IsForgotten, IsUnchanged, stamps_after}
 use Rattle.city_session.specs.declared.acted.Acted.{Acted}
@@ -22,7 +22,7 @@ then {s} {t} {u} a b = record {
 }
 
 -- with nothing ended
-still : {s u : SessionState} → u.start ≡ s.start → u.closed ≡ s.closed → s.stamps ≤ u.stamps → Continues s u
+pub still : {s u : SessionState} → u.start ≡ s.start → u.closed ≡ s.closed → s.stamps ≤ u.stamps → Continues s u
 still {s} {u} start closed given =
     record { start = start; more = []; closed = closed ∙ sym (append-nil s.closed); given = given }
 

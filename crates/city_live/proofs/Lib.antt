@@ -1,2 +1,6 @@
 pub mod Continued
-pub mod Told
+pub mod Finished
+pub mod Followed
+pub mod Hearing
+pub mod Saying
+pub mod Worked

@@ -1,2 +1,6 @@
 pub mod Continuing
-pub mod Telling
+pub mod Ending
+pub mod Heard
+pub mod Running
+pub mod Serving
+pub mod Works

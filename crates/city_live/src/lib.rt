@@ -2,16 +2,24 @@
 //!
 //! - `hands`: the hands, and the effects of requests
 //! - `request`, `answer`: requests and answers
-//! - `work`, `going`: the work of a hand, and how it goes on
+//! - `talks`: the works on a session, and what is said of each
+//! - `table`, `work`, `task`: the works by their stamps; `log`: what is said
+//! - `going`, `gone`: who holds a work back, and how far it came
 //! - `in_the_way`, `waiting`: locks in the way of a command, and the waiting by their reasons
 #![tactic(auto)]
 
 mod answer;
+mod ghosts;
 mod going;
+mod gone;
 mod hand;
 mod hands;
 mod in_the_way;
+mod log;
 mod request;
+mod table;
+mod talks;
+mod task;
 mod waiting;
 mod work;
 

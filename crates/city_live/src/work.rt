@@ -1,33 +1,23 @@
 //! The work of a hand: a script, or a transaction with commands one by one.
+ghost use Rattle.std.specs.Prelude.{◌≡◌, None, Some, MatchOption, IfSome, IsTrue, length};
+ghost use Rattle.std.specs.Arc.{arc_value};
+ghost use Rattle.city_live.specs.declared.task.Task.TheVariants as task;
+ghost use Rattle.city_live.specs.Works.{next_of, asking, requested, answered, again, is_whole, replies_so_far};
+ghost use Rattle.city_live.specs.Works.{after_taking, with_script, IsAtCommit};
+
 use crate::answer::Name;
 use crate::in_the_way::InTheWay;
 use crate::request::Tag;
+use crate::task::Task;
 use city_members::sequence::Sequence;
 use city_members::text::{Id, Text};
-use city_model::command::{Command, Reply};
+use city_model::OutOfMemory;
+use city_model::command::{Cause, Command, Reply};
 use city_model::script::Script;
 use city_session::Session;
 use std::alloc::Global;
-
-/// The commands of a work.
-#[derive(Drop)]
-pub enum Task {
-    /// A whole script, and the replies to its commands so far.
-    Script(Script, Sequence<Reply>),
-    /// A transaction with commands one by one: a script for its next, the first of this; and the number
-    /// of its commands so far, without the refused ones.
-    Single(Option<Script>, usize),
-}
-
-impl Task {
-    /// The replies of a script; `None` for a transaction. Doesn't allocate.
-    fn into_replies(self) -> Option<Sequence<Reply>> {
-        match self {
-            Task::Script(_script, replies) => Some(replies),
-            Task::Single(_asked, _) => None,
-        }
-    }
-}
+use std::marker::Model;
+use std::mem::replace;
 
 /// The list with a waiting work.
 #[derive(Drop)]
@@ -41,24 +31,43 @@ pub enum Place {
 }
 
 /// A script or a transaction of a hand.
+///
+/// Contracts see its hand, its name, its commands, and the tag of the unanswered request.
 #[derive(Drop)]
 pub struct Work {
-    pub hand: Name,
-    /// The name of the script or the transaction.
-    pub name: Text,
-    pub task: Task,
+    hand: Name,
+    name: Text,
+    task: Task,
     /// The tag of the unanswered request.
-    pub tag: Tag,
+    tag: Tag,
     /// Whether its hand knows already: this request waits.
-    pub is_told: bool,
+    is_told: bool,
     /// The lock in its way when it died. Its first command is held back until all its holders then have ended.
-    pub until: Option<InTheWay>,
-    pub place: Place,
+    until: Option<InTheWay>,
+    place: Place,
+}
+
+impl Model for Work {
+    ghost use Rattle.city_live.specs.Works.{Working};
+
+    ghost Value = { Working };
+
+    ghost use Rattle.std.specs.Coded.{codes};
+    ghost use Rattle.city_members.specs.internal.DataCode.{coded_members};
+    ghost use Rattle.city_txn.specs.internal.Codes.{coded_objects};
+
+    ghost coded = { Prim.hlevel (codes, coded_members, coded_objects) };
+
+    ghost use Rattle.std.specs.Arc.{arc_value};
+
+    ghost view = { λ w. record { by = arc_value w.hand; name = w.name; task = w.task; tag = w.tag } };
 }
 
 impl Work {
     /// A work without commands done.
-    pub fn new(hand: Name, name: Text, task: Task) -> Work {
+    pub fn new(hand: Name, name: Text, task: Task) -> Work
+        ensures { result ≡ record { by = arc_value hand; name = name; task = task; tag = None } }
+    {
         Work {
             hand,
             name,
@@ -68,6 +77,44 @@ impl Work {
             until: None,
             place: Place::Nowhere,
         }
+    }
+
+    /// Its hand. Doesn't allocate.
+    pub fn hand(&self) -> &Name
+        ensures { arc_value result.now ≡ self.now.by }
+    {
+        &self.hand
+    }
+
+    /// Its commands. Doesn't allocate.
+    pub fn task(&self) -> &Task
+        ensures { result.now ≡ self.now.task }
+    {
+        &self.task
+    }
+
+    /// The name of the script or the transaction. Doesn't allocate.
+    pub fn name(&self) -> &Text
+        ensures { result.now ≡ self.now.name }
+    {
+        &self.name
+    }
+
+    /// The tag of the unanswered request, if it has one. Doesn't allocate.
+    pub fn tag(&self) -> &Tag
+        ensures { result.now ≡ self.now.tag }
+    {
+        &self.tag
+    }
+
+    /// Whether its hand knows that this request waits. Doesn't allocate.
+    pub fn is_told(&self) -> bool {
+        self.is_told
+    }
+
+    /// The lock in its way when it died, if it died. Doesn't allocate.
+    pub fn until(&self) -> Option<&InTheWay> {
+        self.until.as_ref()
     }
 
     /// Whether it waits at the id of this place. Doesn't allocate.
@@ -84,66 +131,58 @@ impl Work {
     }
 
     /// Whether it is a whole script. Doesn't allocate.
-    pub fn is_script(&self) -> bool {
-        matches!(self.task, Task::Script(_, _))
+    pub fn is_script(&self) -> bool
+        ensures { result ≡ is_whole self.now.task }
+    {
+        matches!(self.task, Task::Script(_, _, _))
     }
 
-    /// The name of the script or the transaction. Doesn't allocate.
-    pub fn name(&self) -> &Text {
-        &self.name
-    }
-
-    /// The place of the next command, from 0, without the refused ones. Doesn't allocate.
-    pub fn place_of_next(&self) -> usize {
+    /// How many commands of a whole script were answered. Doesn't allocate.
+    pub fn replies(&self) -> usize
+        ensures { result ≡ length (replies_so_far self.now.task) }
+    {
         match &self.task {
-            Task::Script(_, replies) => replies.len(),
-            Task::Single(_, done) => *done,
+            Task::Script(_, replies, _) => replies.len(),
+            Task::Single(_) => 0,
         }
     }
 
     /// Whether a request is still to be answered. Doesn't allocate.
     pub fn is_waited_for(&self) -> bool {
         match &self.task {
-            Task::Script(_, _) => true,
-            Task::Single(asked, _) => asked.is_some(),
+            Task::Script(_, _, _) => true,
+            Task::Single(asked) => asked.is_some(),
         }
     }
 
-    /// Sets a script back to its first command, held back by this lock. Doesn't allocate.
-    pub fn begin_again(&mut self, alloc: Global, way: InTheWay) {
-        if let Task::Script(_, replies) = &mut self.task {
-            *replies = Sequence::new(alloc);
-        }
-        self.until = Some(way);
+    /// Whether it is a transaction that is asked for nothing. Doesn't allocate.
+    pub fn is_idle(&self) -> bool
+        ensures { IsTrue result → self.now.task ≡ task.Single None }
+    {
+        matches!(self.task, Task::Single(None))
     }
 
-    /// The name, the replies of a script, and the tag of the unanswered request. Doesn't allocate.
-    pub fn into_end(self) -> (Text, Option<Sequence<Reply>>, Tag) {
-        let Work {
-            name,
-            task,
-            tag,
-            ..
-        } = self;
-        (name, task.into_replies(), tag)
+    /// Whether it may be committed: it is a transaction, or a script at its commit. Doesn't allocate.
+    pub fn may_commit(&self) -> bool
+        ensures { IsTrue result → IsAtCommit self.now.task }
+    {
+        match &self.task {
+            Task::Script(script, replies, None) => {
+                matches!(script.commands().get(replies.len()), Some(Command::Commit))
+            }
+            Task::Script(_, _, Some(_)) => false,
+            Task::Single(_) => true,
+        }
     }
 
-    /// Takes a script for its next command, the first of this, and the tag of the request. Doesn't allocate.
-    pub fn ask(&mut self, script: Script, tag: Tag) {
-        if let Task::Single(asked, _) = &mut self.task {
-            *asked = Some(script);
+    /// The next command, if there is one. Doesn't allocate.
+    pub fn command(&self) -> Option<&Command>
+        ensures { MatchOption result (next_of self.now.task ≡ None) (λ c. next_of self.now.task ≡ Some c.now) }
+    {
+        match &self.task {
+            Task::Script(script, replies, _) => script.commands().get(replies.len()),
+            Task::Single(asked) => asked.as_ref()?.commands().first(),
         }
-        self.tag = tag;
-        self.is_told = false;
-    }
-
-    /// Takes back the one command, and the tag of its request. Doesn't allocate.
-    pub fn answered(&mut self) -> Tag {
-        if let Task::Single(asked, _) = &mut self.task {
-            *asked = None;
-        }
-        self.is_told = false;
-        self.tag.take()
     }
 
     /// A stamp still in its way since it died, if there is one. Doesn't allocate.
@@ -151,11 +190,102 @@ impl Work {
         self.until.as_ref()?.still_open(session)
     }
 
-    /// The next command, if there is one. Doesn't allocate.
-    pub fn command(&self) -> Option<&Command> {
-        match &self.task {
-            Task::Script(script, replies) => script.commands().get(replies.len()),
-            Task::Single(asked, _) => asked.as_ref()?.commands().first(),
+    /// Takes a script for its next command, the first of this, and the tag of the request. Doesn't allocate.
+    pub fn ask(&mut self, script: Script, tag: Tag)
+        ensures { self.new ≡ asking script tag self.old }
+    {
+        if let Task::Single(asked) = &mut self.task {
+            *asked = Some(script);
         }
+        self.tag = tag;
+        self.is_told = false;
+    }
+
+    /// Takes the tag of a request for all of it. Doesn't allocate.
+    pub fn request(&mut self, tag: Tag)
+        ensures { self.new ≡ requested tag self.old }
+    {
+        self.tag = tag;
+    }
+
+    /// Takes back the one command, and the tag of its request. Doesn't allocate.
+    pub fn answer(&mut self) -> Tag
+        ensures tag { result ≡ self.old.tag }
+        ensures work { self.new ≡ answered self.old }
+    {
+        if let Task::Single(asked) = &mut self.task {
+            *asked = None;
+        }
+        self.is_told = false;
+        self.tag.take()
+    }
+
+    /// Takes out a script that goes on, and the replies to its commands so far. Doesn't allocate.
+    pub fn take_script(&mut self) -> Option<(Script, Vec<Reply>)>
+        ensures script { IfSome result (λ r. self.old.task ≡ task.Script r.0 r.1.items None) }
+        ensures left { self.new ≡ after_taking result self.old }
+    {
+        match replace(&mut self.task, Task::Single(None)) {
+            Task::Script(script, replies, None) => Some((script, replies.into_vec())),
+            other => {
+                self.task = other;
+                None
+            }
+        }
+    }
+
+    /// Puts a script back, with its replies, and why its next command was refused, if it was. Doesn't allocate.
+    pub fn put_script(&mut self, script: Script, replies: Vec<Reply>, refused: Option<Cause>)
+        ensures { self.new ≡ with_script script replies.items refused self.old }
+    {
+        self.task = Task::Script(script, Sequence::from_vec(replies), refused);
+    }
+
+    /// Sets a script back to its first command. Doesn't allocate.
+    pub fn begin_again(&mut self, alloc: Global)
+        ensures { self.new ≡ again self.old }
+    {
+        if let Task::Script(_, replies, refused) = &mut self.task {
+            *replies = Sequence::new(alloc);
+            *refused = None;
+        }
+    }
+
+    /// Notes its place, and returns the one before. Doesn't allocate.
+    pub fn put_at(&mut self, place: Place) -> Place
+        ensures { self.new ≡ self.old }
+    {
+        replace(&mut self.place, place)
+    }
+
+    /// Notes that its hand knows that this request waits. Doesn't allocate.
+    pub fn tell(&mut self)
+        ensures { self.new ≡ self.old }
+    {
+        self.is_told = true;
+    }
+
+    /// Notes the lock that holds it back, or that none does any more. Doesn't allocate.
+    pub fn hold(&mut self, until: Option<InTheWay>)
+        ensures { self.new ≡ self.old }
+    {
+        self.until = until;
+    }
+
+    /// Its parts. Doesn't allocate.
+    pub fn into_parts(self) -> (Name, Text, Task, Tag)
+        ensures hand { arc_value result.0 ≡ self.by }
+        ensures name { result.1 ≡ self.name }
+        ensures task { result.2 ≡ self.task }
+        ensures tag { result.3 ≡ self.tag }
+    {
+        let Work {
+            hand,
+            name,
+            task,
+            tag,
+            ..
+        } = self;
+        (hand, name, task, tag)
     }
 }

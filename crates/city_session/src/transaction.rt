@@ -65,6 +65,13 @@ impl Transaction {
         self.since
     }
 
+    /// How many of its commands were not refused. Doesn't allocate.
+    pub fn commands(&self) -> usize
+        ensures { result ≡ length (unrefused self.now.told) }
+    {
+        self.commands
+    }
+
     /// Whether only a commit or an abort has room left: a refused command takes none. Doesn't allocate.
     pub fn is_full(&self) -> bool
         ensures { result ≡ is_full self.now }

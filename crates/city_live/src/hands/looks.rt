@@ -1,6 +1,7 @@
 //! Watches, looks and models: committed things alone.
 ghost use Rattle.std.specs.Prelude.{◌≡◌, All, IfOk};
 ghost use Rattle.city_txn.specs.CoreState.{committed};
+ghost use Rattle.city_live.specs.Serving.{Follows};
 
 use super::Hands;
 use crate::answer::{Fault, Name, What};
@@ -14,8 +15,9 @@ use std::sync::Arc;
 
 impl Hands {
     /// Tells the hand of each change from now on.
+    #[tactic(auto, using(crate::proofs::Followed::then, crate::proofs::Followed::same))]
     pub(super) fn watch(&mut self, hand: &Name, tag: Tag)
-        ensures { self.new ≡ self.old }
+        ensures { Follows self.old self.new }
     {
         if let Err(fault) = self.remember(hand) {
             return self.refuse(hand, tag, fault);
@@ -25,7 +27,7 @@ impl Hands {
                 if let Some(known) = self.hands.get_mut(&**hand) {
                     known.watches = true;
                 }
-                self.say(hand, tag, What::Watching(self.version));
+                self.talks.say(hand, tag, What::Watching(self.version));
             }
             Err(OutOfMemory) => {
                 self.forget_idle(hand);
@@ -44,12 +46,20 @@ impl Hands {
     }
 
     /// Tells the hand of no change any more.
+    #[tactic(auto, using(crate::proofs::Followed::then, crate::proofs::Followed::same))]
     pub(super) fn unwatch(&mut self, hand: &Name, tag: Tag)
-        ensures { self.new ≡ self.old }
+        ensures { Follows self.old self.new }
     {
         self.stop_watching(hand);
         self.forget_idle(hand);
-        self.say(hand, tag, What::Unwatched);
+        self.talks.say(hand, tag, What::Unwatched);
+    }
+
+    /// Tells the hand that it is forgotten.
+    pub(super) fn say_bye(&mut self, hand: &Name, tag: Tag)
+        ensures { Follows self.old self.new }
+    {
+        self.talks.say(hand, tag, What::Bye);
     }
 
     pub(super) fn stop_watching(&mut self, hand: &Name)
@@ -62,32 +72,32 @@ impl Hands {
     }
 
     /// Tells the committed city.
-    #[tactic(auto, using(crate::proofs::Told::city_seen))]
+    #[tactic(auto, using(crate::proofs::Followed::city_seen))]
     pub(super) fn show_model(&mut self, hand: &Name, tag: Tag)
-        ensures { self.new ≡ self.old }
+        ensures { Follows self.old self.new }
     {
-        self.session.is_live();
-        match self.session.committed_city() {
-            Ok(city) => self.say(hand, tag, What::Model(city, self.version)),
+        self.talks.session().is_live();
+        match self.talks.session().committed_city() {
+            Ok(city) => self.talks.say(hand, tag, What::Model(city, self.version)),
             Err(OutOfMemory) => self.refuse(hand, tag, Fault::NoMemory),
         }
     }
 
     /// Tells the committed objects of ids.
-    #[tactic(auto, using(crate::proofs::Told::objects_seen))]
+    #[tactic(auto, using(crate::proofs::Followed::objects_seen))]
     pub(super) fn look(&mut self, hand: &Name, tag: Tag, ids: Sequence<Id>)
-        ensures { self.new ≡ self.old }
+        ensures { Follows self.old self.new }
     {
-        self.session.is_live();
+        self.talks.session().is_live();
         match self.committed(ids) {
-            Ok(objects) => self.say(hand, tag, What::Look(objects, self.version)),
+            Ok(objects) => self.talks.say(hand, tag, What::Look(objects, self.version)),
             Err(OutOfMemory) => self.refuse(hand, tag, Fault::NoMemory),
         }
     }
 
     /// The committed objects of ids.
     fn committed(&self, ids: Sequence<Id>) -> Result<Sequence<(Id, Option<Object>)>, OutOfMemory>
-        ensures { IfOk result (λ objects. All (λ o. o.1 ≡ committed self.now.core o.0) objects) }
+        ensures { IfOk result (λ objects. All (λ o. o.1 ≡ committed self.now.session.core o.0) objects) }
     {
         let mut objects = Sequence::with_capacity(self.alloc, ids.len())?;
         for id in ids.into_vec() {
@@ -99,9 +109,9 @@ impl Hands {
 
     /// A copy of the committed object of an id, if there is one.
     fn committed_at(&self, id: &Id) -> Result<Option<Object>, OutOfMemory>
-        ensures { IfOk result (λ object. object ≡ committed self.now.core id.now) }
+        ensures { IfOk result (λ object. object ≡ committed self.now.session.core id.now) }
     {
-        match self.session.committed(id) {
+        match self.talks.session().committed(id) {
             Some(object) => Ok(Some(object.copy(self.alloc)?)),
             None => Ok(None),
         }

@@ -1,13 +1,12 @@
 //! Waiting works, tried again.
 ghost use Rattle.std.specs.Prelude.{◌≡◌};
-ghost use Rattle.city_live.specs.Continuing.{Continues};
+ghost use Rattle.city_live.specs.Serving.{Follows};
 
 use super::{Hands, STEP_ANSWERS};
 use crate::waiting::Waiting;
 use crate::work::Place;
 use city_members::text::Id;
 use std::collections::BTreeSet;
-use std::mem::replace;
 
 impl Hands {
     /// Notes as due all works waiting for the stamp's locks or behind it, before it gives them back. If memory runs
@@ -15,7 +14,7 @@ impl Hands {
     pub(super) fn release(&mut self, stamp: u64)
         ensures { self.new ≡ self.old }
     {
-        let ids = self.session.locked(stamp);
+        let ids = self.talks.session().locked(stamp);
         if !note_at(&mut self.due, &mut self.waiting, ids) {
             self.all_due = true;
         }
@@ -37,10 +36,7 @@ impl Hands {
     pub(super) fn unlist(&mut self, stamp: u64) -> Place
         ensures { self.new ≡ self.old }
     {
-        let place = match self.works.get_mut(&stamp) {
-            Some(work) => replace(&mut work.place, Place::Nowhere),
-            None => Place::Nowhere,
-        };
+        let place = self.talks.put_at(stamp, Place::Nowhere);
         match &place {
             Place::Nowhere => {}
             Place::AtId(id) => self.waiting.remove_at(id, stamp),
@@ -51,9 +47,9 @@ impl Hands {
 
     /// Tries due works again, the oldest first, until none is due. If memory runs out, the rest is tried at the next
     /// request.
-    #[tactic(auto, using(crate::proofs::Continued::then, crate::proofs::Continued::same))]
+    #[tactic(auto, using(crate::proofs::Followed::then, crate::proofs::Followed::same))]
     pub(super) fn wake(&mut self)
-        ensures { Continues self.old self.new }
+        ensures { Follows self.old self.new }
     {
         if self.all_due {
             self.note_all();
@@ -67,11 +63,11 @@ impl Hands {
     }
 
     /// Tries the oldest due work again. False if none is due, or memory runs out.
-    #[tactic(auto, using(crate::proofs::Continued::then, crate::proofs::Continued::same))]
+    #[tactic(auto, using(crate::proofs::Followed::then, crate::proofs::Followed::same))]
     fn wake_oldest(&mut self) -> bool
-        ensures { Continues self.old self.new }
+        ensures { Follows self.old self.new }
     {
-        if self.answers.reserve(STEP_ANSWERS).is_err() {
+        if self.talks.reserve(STEP_ANSWERS).is_err() {
             return false;
         }
         let Some(stamp) = self.due.pop_first() else {
@@ -84,7 +80,7 @@ impl Hands {
     fn note_all(&mut self)
         ensures { self.new ≡ self.old }
     {
-        for (stamp, work) in self.works.iter() {
+        for (stamp, work) in self.talks.table().iter() {
             if work.waits() && self.due.insert(*stamp).is_err() {
                 return;
             }
@@ -94,14 +90,14 @@ impl Hands {
 
     /// Tries a waiting work again. A dead script begins again, once nothing in its way is open. False if memory
     /// runs out.
-    #[tactic(auto, using(crate::proofs::Continued::then, crate::proofs::Continued::same))]
+    #[tactic(auto, using(crate::proofs::Followed::then, crate::proofs::Followed::same))]
     fn try_again(&mut self, stamp: u64) -> bool
-        ensures { Continues self.old self.new }
+        ensures { Follows self.old self.new }
     {
         if let Some(other) = self.held_by(stamp) {
             return self.stay_behind(stamp, other);
         }
-        if !self.open_again(stamp) {
+        if self.talks.reopen(stamp).is_err() {
             self.all_due = true;
             return false;
         }
@@ -115,15 +111,15 @@ impl Hands {
 
     /// A stamp still in the way of a dead script, if there is one. Doesn't allocate.
     fn held_by(&self, stamp: u64) -> Option<u64> {
-        if self.session.is_open(stamp) {
+        if self.is_open(stamp) {
             return None;
         }
-        self.works.get(&stamp)?.still_open(&self.session)
+        self.talks.work(stamp)?.still_open(self.talks.session())
     }
 
     /// Whether the work of the stamp waits at the id of this place. Doesn't allocate.
     fn waits_as(&self, stamp: u64, place: &Place) -> bool {
-        match self.works.get(&stamp) {
+        match self.talks.work(stamp) {
             Some(work) => work.waits_as(place),
             None => false,
         }
@@ -134,25 +130,12 @@ impl Hands {
         ensures { self.new ≡ self.old }
     {
         let _place = self.unlist(stamp);
-        if let Some(work) = self.works.get_mut(&stamp) {
-            work.place = Place::Behind(other);
-        }
+        let _nowhere = self.talks.put_at(stamp, Place::Behind(other));
         if self.waiting.add_behind(other, stamp).is_err() {
             self.all_due = true;
             return false;
         }
         true
-    }
-
-    /// Begins a dead script again. False if memory runs out.
-    #[tactic(auto, using(crate::proofs::Continued::begun, crate::proofs::Continued::unchanged, crate::proofs::Continued::same, crate::proofs::Told::true_begun, crate::proofs::Told::true_unchanged))]
-    fn open_again(&mut self, stamp: u64) -> bool
-        ensures { Continues self.old self.new }
-    {
-        if self.session.is_open(stamp) {
-            return true;
-        }
-        self.session.may_begin_as(stamp) && self.session.begin(Some(stamp)).is_ok()
     }
 }
 

@@ -1,0 +1,429 @@
+-- What is said where works begin, go on and end.
+use Rattle.std.specs.Prelude.{◌≡◌, ◌==◌, ◌<◌, ◌≤◌, ◌++◌, ◌∷◌, ℕ, List, [], Bool, true, false, Option, None, Some}
+use Rattle.std.specs.Prelude.{All}
+use Rattle.std.specs.Prelude.{Result, Ok, Err, OnOk, is_err, suc, option_map, is_some, refl, if◌then◌else◌, slice_get}
+use Rattle.std.specs.Prelude.{length}
+use Rattle.std.proofs.Common.{sym, ◌∙◌, ap, subst, arith, inl, inr}
+use Rattle.std.proofs.lemmas.Bool.{false≢true, cases_eq, ne_eqb, eq-eqb}
+use Rattle.std.proofs.lemmas.List.{append-nil, append_assoc}
+use Rattle.std.proofs.lemmas.List.Elements.{All-append}
+use Rattle.std.specs.Arc.{arc_value}
+use Rattle.std.specs.declared.sync.Arc.{Arc}
+use Rattle.std.specs.declared.alloc.Global.{Global}
+use Rattle.city_model.specs.declared.command.Cause.{Cause}
+use Rattle.city_model.specs.declared.command.Command.{Command}
+use Rattle.city_model.specs.declared.command.Reply.{Reply}
+use Rattle.city_model.specs.declared.command.Reply.TheVariants as replies
+use Rattle.city_model.specs.Scripts.{is_end}
+use Rattle.city_model.specs.declared.end.Outcome.TheVariants as outcomes
+use Rattle.city_model.specs.Runs.{Scripted, after_change}
+use Rattle.city_txn.specs.CoreState.{committed, view}
+use Rattle.city_session.specs.Acting.{GrowsTo, IsActed, IsBegun, HasEnded, stamps_after, stamp_for, told_after}
+use Rattle.city_session.specs.declared.acted.Acted.TheVariants as acts
+use Rattle.city_session.specs.Grown.{Grown, Closed, with_reply}
+use Rattle.city_session.specs.Live.{SessionState, grown_at, IsLive}
+use Rattle.city_session.proofs.Recorded.{grows_same, at_own, at_other}
+use Rattle.city_live.specs.declared.answer.Answer.{Answer}
+use Rattle.city_live.specs.declared.answer.Blocked.{Blocked}
+use Rattle.city_live.specs.declared.answer.Changed.{Changed}
+use Rattle.city_live.specs.declared.answer.Ended.{Ended}
+use Rattle.city_live.specs.declared.answer.What.{What}
+use Rattle.city_live.specs.declared.answer.What.TheVariants as told
+use Rattle.city_live.specs.declared.ghosts.event.Event.{Event}
+use Rattle.city_live.specs.declared.ghosts.event.Event.TheVariants as events
+use Rattle.city_live.specs.declared.task.Task.{Task}
+use Rattle.city_live.specs.declared.task.Task.TheVariants as task
+use Rattle.city_model.specs.CityMap.{CityValue}
+use Rattle.city_live.specs.Continuing.{Continues, GoesOn}
+use Rattle.city_live.specs.Ending.{EndsAs, IsTelling, IsTellingOf, AreTold, Leads, told_replies}
+use Rattle.city_live.specs.Heard.{talk_of, begun_talk, AreSoFar, IsSoFar, AreHeard, IsFresh}
+use Rattle.city_live.specs.Heard.{script_told}
+use Rattle.city_live.specs.Heard.{answered_by, refused_at, is_committed, closed_of, IsEndOf, IsStep, model_of}
+use Rattle.city_live.specs.Heard.{script_in}
+use Rattle.city_live.specs.Heard.{since_so_far, told_so_far, IsFitWhat, after_what, closed_by_what, or_none, cause_of}
+use Rattle.city_live.specs.Heard.{IsOutcome, IsSeenAt, IsSeenIn, what_said, stamp_of}
+use Rattle.city_live.specs.Running.{Begins, RunsTo}
+use Rattle.city_live.specs.Serving.{Logged, IsSaid, told_in}
+use Rattle.city_live.specs.Works.{Working, work_at, WorksTo, SameWorks, is_whole, is_whole_at, IsScriptAt}
+use Rattle.city_live.specs.Works.{without_script, with_script, IsAtCommit, MayCommit, first_of}
+use Rattle.city_live.proofs.Continued.{begun, acted, goes_then}
+use Rattle.city_live.proofs.Worked.{one_reply, told_plainly}
+use Rattle.city_live.proofs.Followed.{told_both}
+use Rattle.city_live.proofs.Hearing.{work_own, work_other, heard_event, heard_silently, heard_unlabelled}
+
+some_same : {A : Type 0} (a b : A) → Some a ≡ Some b → a ≡ b
+some_same a b e = cc
+
+-- the same works, with the one of the stamp named
+pub works_same : (stamp : ℕ) (w : Working) (works others : List (ℕ × Working)) → work_at works stamp ≡ Some w
+    → SameWorks works others → WorksTo stamp (Some w) works others
+works_same stamp w works others there same t = elim (cases_eq stamp t) [
+  | inl e ↦ rw (eq-eqb stamp t e) (same t ∙ (ap (work_at works) (sym e) ∙ there))
+  | inr ne ↦ rw (ne_eqb stamp t ne) (same t)
+]
+
+-- ---- it waits
+
+pub heard_waits : {s : SessionState} {works others : List (ℕ × Working)} {log logged : Logged}
+    → AreHeard s works log.events → (stamp : ℕ) (w : Working) → work_at works stamp ≡ Some w
+    → (a : Answer) (b : Blocked)
+    → arc_value a.hand ≡ w.by → a.tag ≡ w.tag → a.what ≡ told.Waits b → SameWorks works others
+    → IsSaid (Some stamp) a log logged → AreHeard s others logged.events
+heard_waits {s} {works} {others} {log} r stamp w there a b hand tag what same said =
+    let og = grown_at s.growing stamp in
+    let k = talk_of og w in
+    subst (λ es. AreHeard s others es) (sym said.events)
+    (heard_event r s others stamp (Some w) og refl (omega arith) (λ h. r.given stamp (ap is_some there))
+    (works_same stamp w works others there same) (grows_same stamp og s.growing refl)
+    (subst (λ o. AreSoFar o og) there (r.so_far stamp))
+    (Some k) (ap (option_map (talk_of og)) there)
+    (events.Says (Some stamp) a said.is_told) refl
+    (record { hand = hand; tag = tag; what = subst (λ x. IsFitWhat x k) (sym what) tt })
+    (sym (append-nil s.closed) ∙ ap (λ x. s.closed ++ closed_by_what x k) (sym what))
+    (ap (λ x. after_what x k) what))
+
+-- ---- it is begun
+
+fresh_told : (cs : List Command) → [] ≡ script_told cs [] None
+fresh_told [] = refl
+fresh_told (c ∷ cs) = refl
+
+fresh_far : (t : Task) (since : ℕ) → IsFresh t → IsSoFar t (Some (record { since = since; told = [] }))
+fresh_far (task.Script s rs cause) since f =
+    subst (λ x. [] ≡ script_told s.1 x cause) (sym f.0) (subst (λ x. [] ≡ script_told s.1 [] x) (sym f.1)
+    (fresh_told s.1))
+fresh_far (task.Single asked) since f = tt
+
+fresh_talk : (by name : List ℕ) (t : Task) (tag : Option (List ℕ)) (n : ℕ) → IsFresh t
+    → begun_talk (record { by = by; name = name; task = t; tag = tag }) n
+    ≡ talk_of (Some (record { since = n; told = [] })) (record { by = by; name = name; task = t; tag = tag })
+fresh_talk by name (task.Script s rs cause) tag n f = refl
+fresh_talk by name (task.Single asked) tag n f =
+    ap (λ o. record { by = by; tag = tag; name = name; script = None; since = n; told = []; asked = first_of o })
+    (sym f)
+
+-- no work has a new stamp
+unused : {s : SessionState} {works : List (ℕ × Working)} {es : List Event} → AreHeard s works es
+    → (o : Option Working) → work_at works s.stamps ≡ o → o ≡ None
+unused r None e = refl
+unused {s} r (Some w) e =
+    let below : s.stamps < s.stamps = r.given s.stamps (ap is_some e) in absurd (omega (arith, below))
+
+free_at : {s : SessionState} {works : List (ℕ × Working)} {es : List Event} → AreHeard s works es → (stamp : ℕ)
+    → (taken : Option ℕ) → stamp ≡ stamp_for taken s.stamps
+    → ((t : ℕ) → taken ≡ Some t → work_at works t ≡ None) → work_at works stamp ≡ None
+free_at {s} {works = works} r stamp None is free = ap (work_at works) is ∙ unused r (work_at works s.stamps) refl
+free_at {works = works} r stamp (Some t) is free = ap (work_at works) is ∙ free t refl
+
+below_given : (stamp stamps : ℕ) (taken : Option ℕ) → stamp ≡ stamp_for taken stamps
+    → ((t : ℕ) → taken ≡ Some t → t < stamps) → (stamp < stamps_after taken stamps) ×
+    (stamps ≤ stamps_after taken stamps)
+below_given stamp stamps None is below = (omega (arith, is), omega arith)
+below_given stamp stamps (Some t) is below = (omega (arith, is, below t refl), omega arith)
+
+pub heard_begins : {s u : SessionState} {works others : List (ℕ × Working)} {es next : List Event}
+    → AreHeard s works es → (stamp : ℕ) (kept : Option ℕ) → Begins stamp kept s u
+    → ((t : ℕ) → kept ≡ Some t → work_at works t ≡ None) → (new found : Working) → IsFresh new.task
+    → WorksTo stamp (Some new) works others → work_at others stamp ≡ Some found
+    → next ≡ es ++ events.Begins stamp found ∷ [] → AreHeard u others next
+heard_begins {s} {u} {works} {others} {es} r stamp kept b free new found fresh to there noted =
+    let w = some_same new found (sym (work_own stamp (Some new) works others to) ∙ there) in
+    let g : Grown = record { since = length s.closed; told = [] } in
+    let none = free_at r stamp b.taken b.stamp_is (λ t e. free t (b.kept_is t e).0) in
+    let given = below_given stamp s.stamps b.taken b.stamp_is (λ t e. (b.kept_is t e).1) in
+    subst (λ l. AreHeard u others l) (sym noted)
+    (subst (λ x. AreHeard u others (es ++ events.Begins stamp x ∷ [])) w
+    (heard_event r u others stamp (Some new) (Some g) b.begun.start (omega (arith, given.1, b.begun.given))
+    (λ h. omega (arith, given.0, b.begun.given)) to b.begun.growing (fresh_far new.task (length s.closed) fresh)
+    None (ap (option_map (talk_of (grown_at s.growing stamp))) none)
+    (events.Begins stamp new) refl (refl, fresh) (b.begun.closed ∙ sym (append-nil s.closed))
+    (ap Some (fresh_talk new.by new.name new.task new.tag (length s.closed) fresh))))
+
+-- ---- a script is tried again
+
+talk_whole : (og other : Option Grown) (by name : List ℕ) (t : Task) (tag : Option (List ℕ)) → is_whole t ≡ true
+    → talk_of og (record { by = by; name = name; task = t; tag = tag })
+    ≡ talk_of other (record { by = by; name = name; task = t; tag = tag })
+talk_whole og other by name (task.Script s rs cause) tag h = refl
+talk_whole og other by name (task.Single asked) tag h = absurd (false≢true h)
+
+far_whole : (t : Task) (since : ℕ) → is_whole t ≡ true → IsSoFar t None
+    → IsSoFar t (Some (record { since = since; told = [] }))
+far_whole (task.Script s rs cause) since h f = fresh_far (task.Script s rs cause) since f
+far_whole (task.Single asked) since h f = absurd f
+
+whole_at : (o : Option Working) → is_whole_at o ≡ true → (w : Working) × (o ≡ Some w) × (is_whole w.task ≡ true)
+whole_at None h = absurd (false≢true h)
+whole_at (Some w) h = (w, refl, h)
+
+not_open : (o : Option Grown) → is_some o ≡ false → o ≡ None
+not_open None h = refl
+not_open (Some g) h = absurd (false≢true (sym h))
+
+pub heard_reopened : {s u : SessionState} {works : List (ℕ × Working)} {es : List Event} → AreHeard s works es
+    → IsLive s
+    → (stamp : ℕ) → is_whole_at (work_at works stamp) ≡ true → IsBegun stamp s.stamps s u → AreHeard u works es
+heard_reopened {s} {u} {works} r l stamp whole b =
+    let found = whole_at (work_at works stamp) whole in
+    let w = found.0 in
+    let closed : grown_at s.growing stamp ≡ None = not_open (grown_at s.growing stamp)
+    (sym (l.opened stamp) ∙ b.fresh) in
+    let g : Grown = record { since = length s.closed; told = [] } in
+    let far : IsSoFar w.task None = subst (IsSoFar w.task) closed
+    (subst (λ o. AreSoFar o (grown_at s.growing stamp)) found.1 (r.so_far stamp)) in
+    heard_silently r u works stamp (Some w) (Some g) b.start (omega (arith, b.given))
+    (λ h. omega (arith, r.given stamp (ap is_some found.1), b.given))
+    (works_same stamp w works works found.1 (λ t. refl)) b.growing (far_whole w.task (length s.closed) found.2 far)
+    b.closed
+    (ap Some (talk_whole (Some g) (grown_at s.growing stamp) w.by w.name w.task w.tag found.2)
+    ∙ ap (option_map (talk_of (grown_at s.growing stamp))) (sym found.1))
+
+-- ---- a script goes on
+
+pub heard_ran : {s u : SessionState} {works others : List (ℕ × Working)} {es : List Event} → AreHeard s works es
+    → IsLive u → (mid : List (ℕ × Working)) (stamp : ℕ) (script : Scripted) (before replies : List Reply)
+    (cause : Option Cause)
+    → IsScriptAt works stamp script before → WorksTo stamp (option_map without_script (work_at works stamp)) works mid
+    → WorksTo stamp (option_map (with_script script replies cause) (work_at mid stamp)) mid others
+    → RunsTo stamp script.1 replies cause s u → AreHeard u others es
+heard_ran {s} {u} {works} {others} r l mid stamp script before replies cause at out back run =
+    let w = at.work in
+    let new = with_script script replies cause w in
+    let og = grown_at u.growing stamp in
+    let to : WorksTo stamp (Some new) works others = λ t. elim (cases_eq stamp t) [
+      | inl e ↦ rw (eq-eqb stamp t e) (ap (work_at others) (sym e) ∙ (work_own stamp _ mid others back
+          ∙ ap (option_map (with_script script replies cause)) (work_own stamp _ works mid out
+          ∙ ap (option_map without_script) at.there)))
+      | inr ne ↦ rw (ne_eqb stamp t ne) (work_other stamp t _ mid others back (ne_eqb stamp t ne)
+          ∙ work_other stamp t _ works mid out (ne_eqb stamp t ne))
+    ] in
+    let grows : GrowsTo stamp og s.growing u.growing = λ t. elim (cases_eq stamp t) [
+      | inl e ↦ rw (eq-eqb stamp t e) (ap (grown_at u.growing) (sym e))
+      | inr ne ↦ rw (ne_eqb stamp t ne) (run.others t (ne_eqb stamp t ne))
+    ] in
+    heard_silently r u others stamp (Some new) og run.goes.start (omega (arith, run.goes.given))
+    (λ h. omega (arith, r.given stamp (ap is_some at.there), run.goes.given)) to grows
+    (ran_far script replies cause og run.told (sym (l.opened stamp) ∙ run.goes.opened)) run.goes.closed
+    (ap Some (same_script og (grown_at s.growing stamp) w script before replies cause at.task)
+    ∙ ap (option_map (talk_of (grown_at s.growing stamp))) (sym at.there))
+  where
+    ran_far : (script : Scripted) (replies : List Reply) (cause : Option Cause) (o : Option Grown)
+        → ((g : Grown) → o ≡ Some g → g.told ≡ script_told script.1 replies cause) → is_some o ≡ true
+        → IsSoFar (task.Script script replies cause) o
+    ran_far script replies cause None told open_there = absurd (false≢true open_there)
+    ran_far script replies cause (Some g) told open_there = told g refl
+
+    same_script : (og other : Option Grown) (w : Working) (script : Scripted) (before replies : List Reply)
+        (cause : Option Cause) → w.task ≡ task.Script script before None
+        → talk_of og (with_script script replies cause w) ≡ talk_of other w
+    same_script og other w script before replies cause e =
+        subst (λ t. talk_of og (with_script script replies cause w)
+        ≡ talk_of other (record { by = w.by; name = w.name; task = t; tag = w.tag })) (sym e) refl
+
+-- ---- it dies
+
+died_as : (g : Grown) (t : Task) → is_whole t ≡ false
+    → record { since = since_so_far t g.since; told = told_so_far t g.told } ≡ g
+died_as g (task.Script s rs cause) h = absurd (false≢true (sym h))
+died_as g (task.Single asked) h = refl
+
+none_whole : (t : Task) → is_whole t ≡ false → script_in t ≡ None
+none_whole (task.Script s rs cause) h = absurd (false≢true (sym h))
+none_whole (task.Single asked) h = refl
+
+-- ---- it ends
+
+-- of its talk, such an end tells all that its transaction was told
+ended_as : (g : Grown) (by name : List ℕ) (t : Task) (tag : Option (List ℕ)) (is_kept : Bool) (e : Ended)
+    → IsSoFar t (Some g) → e.name ≡ name → e.since ≡ g.since → EndsAs t e.replies e.outcome is_kept
+    → IsEndOf (script_in t) (talk_of (Some g) (record { by = by; name = name; task = t; tag = tag })) e
+    × (closed_of (talk_of (Some g) (record { by = by; name = name; task = t; tag = tag })) e ≡ (g, is_kept))
+ended_as g by name (task.Script s rs cause) tag is_kept e far named since ends = (
+  (named, ap is_some ends.0, subst (λ x. IsOutcome s.1 (or_none x) e.outcome) (sym ends.0) ends.1),
+  ap (λ x. (
+    record { since = e.since; told = script_told s.1 (or_none x) (cause_of e.outcome) },
+    is_committed e.outcome,
+  )) ends.0
+      ∙ (ap (λ x. (record { since = e.since; told = answered_by s.1 rs ++ x }, is_committed e.outcome)) ends.2
+      ∙ (ap (λ x. (record { since = x; told = script_told s.1 rs cause }, is_committed e.outcome)) since
+      ∙ (ap (λ x. (record { since = g.since; told = x }, is_committed e.outcome)) (sym far)
+      ∙ ap (λ x. (g, x)) ends.3))),
+)
+ended_as g by name (task.Single asked) tag is_kept e far named since ends =
+    ((named, ends.0, since), ap (λ x. (g, x)) ends.1)
+
+far_there : {s : SessionState} {works : List (ℕ × Working)} {es : List Event} → AreHeard s works es → (stamp : ℕ)
+    (w : Working) → work_at works stamp ≡ Some w → (g : Grown) → grown_at s.growing stamp ≡ Some g
+    → IsSoFar w.task (Some g)
+far_there {s} r stamp w there g is =
+    subst (IsSoFar w.task) is (subst (λ o. AreSoFar o (grown_at s.growing stamp)) there (r.so_far stamp))
+
+module _ {s u : SessionState} {works others : List (ℕ × Working)} {log logged : Logged}
+    (r : AreHeard s works log.events)
+    (stamp : ℕ) (w : Working) (there : work_at works stamp ≡ Some w) (left : WorksTo stamp None works others)
+    (is_kept : Bool) (h : HasEnded stamp is_kept s u) (a : Answer) (hand : arc_value a.hand ≡ w.by)
+    (tag : a.tag ≡ w.tag)
+    (said : IsSaid (Some stamp) a log logged) where
+  over : (what : What) → a.what ≡ what → IsFitWhat what (talk_of (Some h.ended) w)
+      → closed_by_what what (talk_of (Some h.ended) w) ≡ (h.ended, is_kept) ∷ []
+      → after_what what (talk_of (Some h.ended) w) ≡ None → AreHeard u others logged.events
+  over what is fit closed gone =
+      let og = grown_at s.growing stamp in
+      let k = talk_of (Some h.ended) w in
+      subst (λ es. AreHeard u others es) (sym said.events)
+      (heard_event r u others stamp None None h.start (omega (arith, h.given)) (λ e. absurd (false≢true e)) left
+      h.growing tt
+      (Some k) (ap (option_map (talk_of og)) there ∙ ap (λ o. Some (talk_of o w)) h.is_there)
+      (events.Says (Some stamp) a said.is_told) refl
+      (record { hand = hand; tag = tag; what = subst (λ x. IsFitWhat x k) (sym is) fit })
+      (h.closed ∙ ap (λ l. s.closed ++ l) (sym closed) ∙ ap (λ x. s.closed ++ closed_by_what x k) (sym is))
+      (ap (λ x. after_what x k) is ∙ gone))
+
+  pub heard_died : (b : Blocked) → a.what ≡ told.Died b → is_whole w.task ≡ false → is_kept ≡ false
+      → AreHeard u others logged.events
+  heard_died b what single undone =
+      over (told.Died b) what (none_whole w.task single)
+      (ap (λ g. (g, false) ∷ []) (died_as h.ended w.task single) ∙ ap (λ x. (h.ended, x) ∷ []) (sym undone)) refl
+
+  pub heard_ended : (e : Ended) → a.what ≡ told.Ended e → e.name ≡ w.name
+      → ((g : Grown) → grown_at s.growing stamp ≡ Some g → e.since ≡ g.since)
+      → EndsAs w.task e.replies e.outcome is_kept → AreHeard u others logged.events
+  heard_ended e what name since ends =
+      let parts = ended_as h.ended w.by w.name w.task w.tag is_kept e (far_there r stamp w there h.ended h.is_there)
+      name (since h.ended h.is_there) ends in
+      over (told.Ended e) what parts.0 (ap (λ c. c ∷ []) parts.1) refl
+
+at_commit : (t : Task) → IsAtCommit t → EndsAs t (told_replies t) outcomes.Committed true
+at_commit (task.Script s rs None) h = (refl, h, refl, refl)
+at_commit (task.Script s rs (Some cause)) h = absurd h
+at_commit (task.Single asked) h = (refl, refl)
+
+pub committing : (o : Option Working) (w : Working) → MayCommit o → o ≡ Some w
+    → EndsAs w.task (told_replies w.task) outcomes.Committed true
+committing o w may e = at_commit w.task (subst MayCommit e may)
+
+-- ---- the watchers
+
+telling_seen : (start : CityValue) (ended : List Closed) (c : Changed) (e : Event) → IsTelling c e
+    → IsStep start ended c
+    → (stamp_of e ≡ None) × IsSeenIn start ended (what_said e)
+telling_seen start ended c (events.Says None a is_told) t step =
+    (refl, subst (IsSeenAt start ended) (sym t.what) (subst (IsStep start ended) (sym t.same) step))
+telling_seen start ended c (events.Says (Some n) a is_told) t step = absurd t
+telling_seen start ended c (events.Begins n w) t step = absurd t
+telling_seen start ended c (events.Asks n hand tag s) t step = absurd t
+telling_seen start ended c (events.Requests n hand tag) t step = absurd t
+
+abbrev pub IsStepIf : CityValue → List Closed → Option (Arc Changed Global) → Type 0
+IsStepIf start ended None = Unit {0}
+IsStepIf start ended (Some c) = IsStep start ended (arc_value c)
+
+tellings_seen : (start : CityValue) (ended : List Closed) (o : Option (Arc Changed Global)) → IsStepIf start ended o
+    → (e : Event) → IsTellingOf o e → (stamp_of e ≡ None) × IsSeenIn start ended (what_said e)
+tellings_seen start ended None step e t = absurd t
+tellings_seen start ended (Some c) step e t = telling_seen start ended (arc_value c) e t step
+
+pub heard_tellings : {s : SessionState} {works : List (ℕ × Working)} (es : List Event) → AreHeard s works es
+    → (o : Option (Arc Changed Global)) → IsStepIf s.start s.closed o → (more : List Event) → All (IsTellingOf o) more
+    → AreHeard s works (es ++ more)
+heard_tellings {s} {works} es r o step [] all = subst (AreHeard s works) (sym (append-nil es)) r
+heard_tellings {s} {works} es r o step (e ∷ more) all =
+    let seen = tellings_seen s.start s.closed o step e (all 0 e (omega arith)) in
+    subst (AreHeard s works) (append_assoc es (e ∷ []) more)
+    (heard_tellings (es ++ e ∷ []) (heard_unlabelled r e seen.0 seen.1) o step more
+    (λ k d l. all (suc k) d (omega (arith, l))))
+
+steps : {s u : SessionState} (stamp : ℕ) (c : Changed) → IsLive s → IsLive u
+    → after_change (committed s.core) c.change ≡ view s.core stamp → committed u.core ≡ view s.core stamp
+    → (h : HasEnded stamp true s u) → IsStep s.start s.closed c
+steps {s} {u} stamp c l m leads makes h = record {
+  next = h.ended;
+  leads = ap (λ x. after_change x c.change) (sym l.city) ∙ (leads ∙ (sym makes ∙ (m.city
+      ∙ (ap (λ cs. model_of u.start cs) h.closed ∙ ap (λ (st : CityValue). model_of st
+      (s.closed ++ (h.ended, true) ∷ [])) h.start))));
+}
+
+pub steps_if : {s u : SessionState} (stamp : ℕ) (o : Option (Arc Changed Global)) → IsLive s → IsLive u
+    → Leads s stamp o
+    → committed u.core ≡ view s.core stamp → HasEnded stamp true s u → IsStepIf s.start s.closed o
+steps_if stamp None l m leads makes h = tt
+steps_if stamp (Some c) l m leads makes h = steps stamp (arc_value c) l m leads makes h
+
+pub told_none : (P : Event → Type 0) (l : Logged) → AreTold P l l
+told_none P l = record {
+  more = [];
+  events = sym (append-nil l.events);
+  answers = sym (append-nil l.answers);
+  all = λ k d h. absurd (omega (arith, h));
+}
+
+pub told_more : {P : Event → Type 0} {l m n : Logged} → AreTold P l m → AreTold P m n → AreTold P l n
+told_more {P} {l} {m} {n} a b = record {
+  more = a.more ++ b.more;
+  events = b.events ∙ (ap (λ x. x ++ b.more) a.events ∙ append_assoc l.events a.more b.more);
+  answers = b.answers ∙ (ap (λ x. x ++ told_in b.more) a.answers
+      ∙ (append_assoc l.answers (told_in a.more) (told_in b.more)
+      ∙ ap (λ x. l.answers ++ x) (sym (told_both a.more b.more))));
+  all = All-append P a.more b.more a.all b.all;
+}
+
+pub begins_on : {stamp : ℕ} {kept : Option ℕ} {s u : SessionState} → Begins stamp kept s u → Continues s u
+begins_on {stamp} b = begun stamp b.taken b.begun
+
+pub ok_of : {A E P : Type 0} (r : Result A E) → OnOk r P → is_err r ≡ false → P
+ok_of (Ok a) h e = h
+ok_of (Err x) h e = absurd (false≢true (sym e))
+
+-- ---- a script's commands, one by one
+
+reply_more : (o : Option Grown) (command : Command) (reply : Reply) (g : Grown)
+    → option_map (told_after command (acts.Replied reply)) o ≡ Some g
+    → (before : Grown) × (o ≡ Some before) × (g.told ≡ before.told ++ (command, reply) ∷ [])
+reply_more None command reply g e = absurd (cc)
+reply_more (Some b) command reply g e =
+    (b, refl, ap (λ (x : Grown). x.told) (some_same g (with_reply command reply b) (sym e)))
+
+refused_here : (o : Option Command) (command : Command) (cause : Cause) → o ≡ Some command → is_end command ≡ false
+    → refused_at o (Some cause) ≡ (command, replies.Refused cause) ∷ []
+refused_here o command cause is goes =
+    ap (λ x. refused_at x (Some cause)) is
+    ∙ ap (λ b. if b then [] else (command, replies.Refused cause) ∷ []) goes
+
+module _ {stamp : ℕ} {cs : List Command} {rs : List Reply} {s t u : SessionState} (a : RunsTo stamp cs rs None s t)
+  where
+    goes_on : (command : Command) (reply : Reply) → IsActed stamp command (acts.Replied reply) t u → GoesOn stamp s u
+    goes_on command reply h = goes_then stamp a.goes (acted stamp command (acts.Replied reply) a.goes.opened h)
+
+    told_now : (command : Command) (reply : Reply) → IsActed stamp command (acts.Replied reply) t u → (g : Grown)
+        → grown_at u.growing stamp ≡ Some g → g.told ≡ answered_by cs rs ++ (command, reply) ∷ []
+    told_now command reply h g is =
+        let b = reply_more (grown_at t.growing stamp) command reply g
+        (sym (at_own stamp _ t.growing u.growing h.growing) ∙ is) in
+        b.2 ∙ ap (λ l. l ++ (command, reply) ∷ []) (a.told b.0 b.1 ∙ told_plainly cs rs)
+
+    others_now : (command : Command) (reply : Reply) → IsActed stamp command (acts.Replied reply) t u → (v : ℕ)
+        → (stamp == v) ≡ false → grown_at u.growing v ≡ grown_at s.growing v
+    others_now command reply h v ne = at_other stamp v _ t.growing u.growing h.growing ne ∙ a.others v ne
+
+    pub ran_refused : {now : List Reply} → now ≡ rs → (command : Command) (reply : Reply) (cause : Cause)
+        → IsActed stamp command (acts.Replied reply) t u → reply ≡ replies.Refused cause
+        → slice_get cs (length rs) ≡ Some command → is_end command ≡ false → RunsTo stamp cs now (Some cause) s u
+    ran_refused {now} same command reply cause h is next goes = record {
+      goes = goes_on command reply h;
+      told = λ g e. told_now command reply h g e
+          ∙ (ap (λ r. answered_by cs rs ++ (command, r) ∷ []) is
+          ∙ (ap (λ l. answered_by cs rs ++ l) (sym (refused_here (slice_get cs (length rs)) command cause next goes))
+          ∙ ap (λ l. script_told cs l (Some cause)) (sym same)));
+      others = others_now command reply h;
+    }
+
+    pub ran_replied : {now : List Reply} (command : Command) (reply : Reply) → now ≡ rs ++ reply ∷ []
+        → IsActed stamp command (acts.Replied reply) t u → slice_get cs (length rs) ≡ Some command
+        → RunsTo stamp cs now None s u
+    ran_replied {now} command reply same h next = record {
+      goes = goes_on command reply h;
+      told = λ g e. told_now command reply h g e
+          ∙ (sym (one_reply cs rs command reply next)
+          ∙ (sym (told_plainly cs (rs ++ reply ∷ [])) ∙ ap (λ l. script_told cs l None) (sym same)));
+      others = others_now command reply h;
+    }

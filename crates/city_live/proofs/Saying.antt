@@ -1,0 +1,301 @@
+-- What is said of a work, kind by kind.
+use Rattle.std.specs.Prelude.{◌≡◌, ◌++◌, ◌∷◌, ℕ, List, [], Bool, true, false, Option, None, Some, length}
+use Rattle.std.specs.Prelude.{option_map, is_some, refl}
+use Rattle.std.proofs.Common.{sym, ◌∙◌, ap, subst, arith}
+use Rattle.std.proofs.lemmas.Bool.{false≢true}
+use Rattle.std.proofs.lemmas.List.{append-nil}
+use Rattle.std.specs.Arc.{arc_value}
+use Rattle.std.specs.declared.sync.Arc.{Arc}
+use Rattle.std.specs.declared.alloc.Global.{Global}
+use Rattle.city_model.specs.declared.command.Cause.{Cause}
+use Rattle.city_model.specs.declared.command.Command.{Command}
+use Rattle.city_model.specs.declared.command.Reply.{Reply}
+use Rattle.city_model.specs.declared.command.Reply.TheVariants as replies
+use Rattle.city_model.specs.Runs.{Scripted}
+use Rattle.city_model.specs.Scripts.{is_end}
+use Rattle.city_model.specs.Standing.{Answered}
+use Rattle.city_session.specs.Acting.{GrowsTo, IsActed, told_after}
+use Rattle.city_session.specs.declared.acted.Acted.TheVariants as acts
+use Rattle.city_session.specs.Grown.{Grown, with_reply, unrefused}
+use Rattle.city_session.specs.Live.{SessionState, grown_at}
+use Rattle.city_session.proofs.Recorded.{grows_same}
+use Rattle.city_live.specs.declared.answer.Answer.{Answer}
+use Rattle.city_live.specs.declared.answer.Fault.{Fault}
+use Rattle.city_live.specs.declared.answer.What.{What}
+use Rattle.city_live.specs.declared.answer.What.TheVariants as told
+use Rattle.city_live.specs.declared.ghosts.event.Event.{Event}
+use Rattle.city_live.specs.declared.ghosts.event.Event.TheVariants as events
+use Rattle.city_live.specs.declared.task.Task.{Task}
+use Rattle.city_live.specs.declared.task.Task.TheVariants as task
+use Rattle.city_live.specs.Heard.{Talk, IsFitWhat, after_what, closed_by_what, answered_talk, talk_of, AreSoFar}
+use Rattle.city_live.specs.Heard.{IsSoFar}
+use Rattle.city_live.specs.Heard.{AreHeard, with_one, asked_in, script_in, since_so_far, since_of, told_so_far}
+use Rattle.city_live.specs.Heard.{told_of, asked_talk}
+use Rattle.city_live.specs.Running.{IsWhatOf}
+use Rattle.city_live.specs.Serving.{Logged, IsSaid}
+use Rattle.city_live.specs.Works.{Working, work_at, WorksTo, IsWorkOf, IsAskedAt, answered, with_asked, tag_at, tag_of}
+use Rattle.city_live.specs.Works.{asking, requested}
+use Rattle.city_live.specs.Works.{is_whole, next_of, first_of}
+use Rattle.city_live.proofs.Hearing.{heard_event}
+
+-- ---- a talk whose request is answered
+
+answered_as : (og : Option Grown) (by name : List ℕ) (t : Task) (tag : Option (List ℕ))
+    → answered_talk [] (talk_of og (record { by = by; name = name; task = t; tag = tag }))
+    ≡ talk_of og (answered (record { by = by; name = name; task = t; tag = tag }))
+answered_as og by name (task.Script s rs cause) tag = refl
+answered_as None by name (task.Single asked) tag = refl
+answered_as (Some g) by name (task.Single asked) tag =
+    ap (λ (l : List Answered). record {
+      by = by;
+      tag = None;
+      name = name;
+      script = None;
+      since = g.since;
+      told = l;
+      asked = None;
+    })
+    (append-nil g.told)
+
+pub answered_so : (og : Option Grown) (w : Working) → answered_talk [] (talk_of og w) ≡ talk_of og (answered w)
+answered_so og w = answered_as og w.by w.name w.task w.tag
+
+so_far_task : (t : Task) (og : Option Grown) → IsSoFar t og → IsSoFar (with_asked None t) og
+so_far_task (task.Script s rs cause) og h = h
+so_far_task (task.Single asked) None h = h
+so_far_task (task.Single asked) (Some g) h = tt
+
+pub so_far_answered : (w : Working) (og : Option Grown) → IsSoFar w.task og → AreSoFar (Some (answered w)) og
+so_far_answered w og h = so_far_task w.task og h
+
+-- ---- an answer that leaves the session as it is
+
+module _ {s : SessionState} {works others : List (ℕ × Working)} {es : List Event} (r : AreHeard s works es) (stamp : ℕ)
+    (w : Working) (there : work_at works stamp ≡ Some w) (a : Answer) (is_told : Bool)
+    (to : WorksTo stamp (option_map answered (work_at works stamp)) works others)
+    (hand : arc_value a.hand ≡ w.by) (tag : a.tag ≡ tag_at works stamp) where
+  pub heard_says : IsFitWhat a.what (talk_of (grown_at s.growing stamp) w)
+      → closed_by_what a.what (talk_of (grown_at s.growing stamp) w) ≡ []
+      → after_what a.what (talk_of (grown_at s.growing stamp) w)
+      ≡ Some (talk_of (grown_at s.growing stamp) (answered w))
+      → AreHeard s others (es ++ events.Says (Some stamp) a is_told ∷ [])
+  heard_says fit none effect =
+      let og = grown_at s.growing stamp in
+      let far : IsSoFar w.task og = subst (λ o. AreSoFar o og) there (r.so_far stamp) in
+      heard_event r s others stamp (Some (answered w)) og refl (omega arith) (λ h. r.given stamp (ap is_some there))
+      (subst (λ o. WorksTo stamp (option_map answered o) works others) there to)
+      (grows_same stamp og s.growing refl) (so_far_answered w og far)
+      (Some (talk_of og w)) (ap (option_map (talk_of og)) there)
+      (events.Says (Some stamp) a is_told) refl
+      (record { hand = hand; tag = tag ∙ ap tag_of there; what = fit })
+      (sym (append-nil s.closed) ∙ ap (λ l. s.closed ++ l) (sym none)) effect
+
+-- ---- a reply to a command
+
+replied_as : (g : Grown) (by name : List ℕ) (t : Task) (tag : Option (List ℕ)) (command : Command) (reply : Reply)
+    → is_whole t ≡ false → next_of t ≡ Some command
+    → answered_talk (with_one (asked_in t) reply) (talk_of (Some g)
+    (record { by = by; name = name; task = t; tag = tag }))
+    ≡ talk_of (Some (with_reply command reply g)) (answered (record { by = by; name = name; task = t; tag = tag }))
+replied_as g by name (task.Script s rs cause) tag command reply single next = absurd (false≢true (sym single))
+replied_as g by name (task.Single asked) tag command reply single next =
+    ap (λ o. record {
+      by = by;
+      tag = None;
+      name = name;
+      script = None;
+      since = g.since;
+      told = g.told ++ with_one o reply;
+      asked = None;
+    })
+    next
+
+replied_so : (g : Grown) (w : Working) (command : Command) (reply : Reply) → is_whole w.task ≡ false
+    → next_of w.task ≡ Some command
+    → answered_talk (with_one (asked_in w.task) reply) (talk_of (Some g) w)
+    ≡ talk_of (Some (with_reply command reply g)) (answered w)
+replied_so g w command reply single next = replied_as g w.by w.name w.task w.tag command reply single next
+
+-- what a hand is told of a reply
+what_is : (k : Talk) (place : ℕ) (reply : Reply) (what : What) → IsWhatOf place reply what
+    → after_what what k ≡ Some (answered_talk (with_one k.asked reply) k)
+what_is k place (replies.Refused cause) what h = ap (λ x. after_what x k) h
+what_is k place reply what h = ap (λ x. after_what x k) h
+
+none_is : (k : Talk) (place : ℕ) (reply : Reply) (what : What) → IsWhatOf place reply what → closed_by_what what k ≡ []
+none_is k place (replies.Refused cause) what h = ap (λ x. closed_by_what x k) h
+none_is k place reply what h = ap (λ x. closed_by_what x k) h
+
+fit_is : (k : Talk) (place : ℕ) (reply : Reply) (what : What) → IsWhatOf place reply what → k.script ≡ None
+    → is_some k.asked ≡ true → place ≡ length (unrefused k.told) → IsFitWhat what k
+fit_is k place (replies.Refused cause) what h script asked at = subst (λ x. IsFitWhat x k) (sym h) (script, at)
+fit_is k place reply what h script asked at = subst (λ x. IsFitWhat x k) (sym h) (asked, refl)
+
+script_none : (t : Task) → is_whole t ≡ false → script_in t ≡ None
+script_none (task.Script s rs cause) h = absurd (false≢true (sym h))
+script_none (task.Single asked) h = refl
+
+asked_some : (t : Task) (command : Command) → is_whole t ≡ false → next_of t ≡ Some command
+    → is_some (asked_in t) ≡ true
+asked_some (task.Script s rs cause) command h next = absurd (false≢true (sym h))
+asked_some (task.Single asked) command h next = ap is_some next
+
+told_single : (t : Task) (told : List Answered) → is_whole t ≡ false → told_so_far t told ≡ told
+told_single (task.Script s rs cause) told h = absurd (false≢true (sym h))
+told_single (task.Single asked) told h = refl
+
+-- a transaction is open
+open_single : (t : Task) (og : Option Grown) → is_whole t ≡ false → IsSoFar t og → (g : Grown) × (og ≡ Some g)
+open_single (task.Script s rs cause) og h far = absurd (false≢true (sym h))
+open_single (task.Single asked) None h far = absurd far
+open_single (task.Single asked) (Some g) h far = (g, refl)
+
+far_single : (t : Task) (g : Grown) → is_whole t ≡ false → IsSoFar t (Some g)
+far_single (task.Script s rs cause) g h = absurd (false≢true (sym h))
+far_single (task.Single asked) g h = tt
+
+whole_answered : (t : Task) → is_whole t ≡ false → is_whole (with_asked None t) ≡ false
+whole_answered (task.Script s rs cause) h = h
+whole_answered (task.Single asked) h = refl
+
+pub heard_replied : {s u : SessionState} {works others : List (ℕ × Working)} {log logged : Logged}
+    → AreHeard s works log.events → (stamp : ℕ) (by : List ℕ) (command : Command) → IsAskedAt works stamp by command
+    → (place : ℕ) → ((g : Grown) → grown_at s.growing stamp ≡ Some g → place ≡ length (unrefused g.told))
+    → (reply : Reply) → IsActed stamp command (acts.Replied reply) s u → (a : Answer) → arc_value a.hand ≡ by
+    → WorksTo stamp (option_map answered (work_at works stamp)) works others → a.tag ≡ tag_at works stamp
+    → IsWhatOf place reply a.what → IsSaid (Some stamp) a log logged → AreHeard u others logged.events
+heard_replied {s} {u} {works} {others} {log} {logged} r stamp by command asked place at reply acted a hand to tag
+    what said =
+    let w = asked.work in
+    let far : IsSoFar w.task (grown_at s.growing stamp) = subst (λ o. AreSoFar o (grown_at s.growing stamp))
+    asked.there (r.so_far stamp) in
+    let grown = open_single w.task (grown_at s.growing stamp) asked.single far in
+    let g = grown.0 in
+    let k = talk_of (Some g) w in
+    let after : Grown = with_reply command reply g in
+    subst (λ es. AreHeard u others es) (sym said.events)
+    (heard_event r u others stamp (Some (answered w)) (Some after) acted.start (omega (arith, acted.given))
+    (λ h. omega (arith, r.given stamp (ap is_some asked.there), acted.given))
+    (subst (λ o. WorksTo stamp (option_map answered o) works others) asked.there to)
+    (subst (λ o. GrowsTo stamp (option_map (told_after command (acts.Replied reply)) o) s.growing u.growing)
+    grown.1 acted.growing)
+    (far_single (with_asked None w.task) after (whole_answered w.task asked.single))
+    (Some k) (ap (option_map (talk_of (grown_at s.growing stamp))) asked.there
+    ∙ ap (λ o. Some (talk_of o w)) grown.1)
+    (events.Says (Some stamp) a said.is_told) refl
+    (record {
+      hand = hand ∙ sym asked.hand;
+      tag = tag ∙ ap tag_of asked.there;
+      what = fit_is k place reply a.what what (script_none w.task asked.single)
+          (asked_some w.task command asked.single asked.next)
+          (at g grown.1 ∙ ap (λ l. length (unrefused l)) (sym (told_single w.task g.told asked.single)));
+    })
+    (acted.closed ∙ (sym (append-nil s.closed) ∙ ap (λ l. s.closed ++ l) (sym (none_is k place reply a.what what))))
+    (what_is k place reply a.what what ∙ ap Some (replied_so g w command reply asked.single asked.next)))
+
+-- ---- answers to a hand's request
+
+module _ {s : SessionState} {works others : List (ℕ × Working)} {log logged : Logged} (r : AreHeard s works log.events)
+    (stamp : ℕ) (a : Answer) (to : WorksTo stamp (option_map answered (work_at works stamp)) works others)
+    (tag : a.tag ≡ tag_at works stamp) (said : IsSaid (Some stamp) a log logged) where
+  said_so : (w : Working) → work_at works stamp ≡ Some w → arc_value a.hand ≡ w.by
+      → IsFitWhat a.what (talk_of (grown_at s.growing stamp) w)
+      → closed_by_what a.what (talk_of (grown_at s.growing stamp) w) ≡ []
+      → after_what a.what (talk_of (grown_at s.growing stamp) w)
+      ≡ Some (talk_of (grown_at s.growing stamp) (answered w))
+      → AreHeard s others logged.events
+  said_so w there hand fit none effect =
+      subst (λ es. AreHeard s others es) (sym said.events)
+      (heard_says r stamp w there a said.is_told to hand tag fit none effect)
+
+  -- an answer that leaves the talk as it is, but for its request
+  plainly : (w : Working) → work_at works stamp ≡ Some w → arc_value a.hand ≡ w.by → (what : What) → a.what ≡ what
+      → IsFitWhat what (talk_of (grown_at s.growing stamp) w)
+      → closed_by_what what (talk_of (grown_at s.growing stamp) w) ≡ []
+      → after_what what (talk_of (grown_at s.growing stamp) w)
+      ≡ Some (answered_talk [] (talk_of (grown_at s.growing stamp) w))
+      → AreHeard s others logged.events
+  plainly w there hand what is fit none effect =
+      let k = talk_of (grown_at s.growing stamp) w in
+      said_so w there hand (subst (λ x. IsFitWhat x k) (sym is) fit) (ap (λ x. closed_by_what x k) is ∙ none)
+      (ap (λ x. after_what x k) is ∙ (effect ∙ ap Some (answered_so (grown_at s.growing stamp) w)))
+
+  pub heard_cancelled : IsWorkOf works stamp (arc_value a.hand) (λ t. Unit {0}) → a.what ≡ told.Cancelled
+      → AreHeard s others logged.events
+  heard_cancelled o is = plainly o.work o.there (sym o.hand) told.Cancelled is tt refl refl
+
+  pub heard_fault : (f : Fault) → IsWorkOf works stamp (arc_value a.hand) (λ t. is_whole t ≡ false)
+      → a.what ≡ told.Fault f → AreHeard s others logged.events
+  heard_fault f o is = plainly o.work o.there (sym o.hand) (told.Fault f) is (script_none o.work.task o.so) refl refl
+
+  pub heard_begun : (since : ℕ) (g : Grown) → grown_at s.growing stamp ≡ Some g → since ≡ g.since
+      → IsWorkOf works stamp (arc_value a.hand) (λ t. t ≡ task.Single None) → a.what ≡ told.Began since
+      → AreHeard s others logged.events
+  heard_begun since g there is o what =
+      plainly o.work o.there (sym o.hand) (told.Began since) what
+      (subst (λ t. (script_in t ≡ None) × (since ≡ since_so_far t (since_of (grown_at s.growing stamp)))) (sym o.so)
+      (refl, is ∙ ap since_of (sym there)))
+      refl refl
+
+  pub heard_refused : (place : ℕ) (cause : Cause) (g : Grown) → grown_at s.growing stamp ≡ Some g
+      → place ≡ length (unrefused g.told) → IsWorkOf works stamp (arc_value a.hand) (λ t. t ≡ task.Single None)
+      → a.what ≡ told.Refused place cause → AreHeard s others logged.events
+  heard_refused place cause g there at o what =
+      plainly o.work o.there (sym o.hand) (told.Refused place cause) what
+      (subst (λ t. (script_in t ≡ None) × (place ≡ length (unrefused
+      (told_so_far t (told_of (grown_at s.growing stamp))))))
+      (sym o.so) (refl, at ∙ ap (λ x. length (unrefused (told_of x))) (sym there)))
+      refl
+      (subst (λ t. Some (answered_talk (with_one (asked_in t) (replies.Refused cause))
+      (talk_of (grown_at s.growing stamp) o.work))
+      ≡ Some (answered_talk [] (talk_of (grown_at s.growing stamp) o.work))) (sym o.so) refl)
+
+-- ---- requests
+
+module _ {s : SessionState} {works others : List (ℕ × Working)} {es next : List Event} (r : AreHeard s works es)
+    (stamp : ℕ) (by : Arc (List ℕ) Global) (tag : Option (List ℕ)) where
+  pub heard_request : IsWorkOf works stamp (arc_value by) (λ t. Unit {0})
+      → WorksTo stamp (option_map (requested tag) (work_at works stamp)) works others
+      → next ≡ es ++ events.Requests stamp by tag ∷ [] → AreHeard s others next
+  heard_request o to noted =
+      let og = grown_at s.growing stamp in
+      let w = o.work in
+      subst (λ l. AreHeard s others l) (sym noted)
+      (heard_event r s others stamp (Some (requested tag w)) og refl (omega arith)
+      (λ h. r.given stamp (ap is_some o.there))
+      (subst (λ x. WorksTo stamp (option_map (requested tag) x) works others) o.there to)
+      (grows_same stamp og s.growing refl)
+      (subst (λ x. AreSoFar x og) o.there (r.so_far stamp))
+      (Some (talk_of og w)) (ap (option_map (talk_of og)) o.there)
+      (events.Requests stamp by tag) refl o.hand (sym (append-nil s.closed)) refl)
+
+  pub heard_ask : (script : Scripted) → IsWorkOf works stamp (arc_value by) (λ t. t ≡ task.Single None)
+      → ((c : Command) → first_of (Some script) ≡ Some c → is_end c ≡ false)
+      → WorksTo stamp (option_map (asking script tag) (work_at works stamp)) works others
+      → next ≡ es ++ events.Asks stamp by tag script ∷ [] → AreHeard s others next
+  heard_ask script o goes to noted =
+      let og = grown_at s.growing stamp in
+      let w = o.work in
+      let far : IsSoFar (task.Single None) og = subst (λ t. IsSoFar t og) o.so
+      (subst (λ x. AreSoFar x og) o.there (r.so_far stamp)) in
+      let grown = open_single (task.Single None) og refl far in
+      subst (λ l. AreHeard s others l) (sym noted)
+      (heard_event r s others stamp (Some (asking script tag w)) og refl (omega arith)
+      (λ h. r.given stamp (ap is_some o.there))
+      (subst (λ x. WorksTo stamp (option_map (asking script tag) x) works others) o.there to)
+      (grows_same stamp og s.growing refl)
+      (subst (λ t. IsSoFar (with_asked (Some script) t) og) (sym o.so)
+      (subst (λ x. IsSoFar (task.Single (Some script)) x) (sym grown.1) tt))
+      (Some (talk_of og w)) (ap (option_map (talk_of og)) o.there)
+      (events.Asks stamp by tag script) refl
+      (record {
+        hand = o.hand;
+        single = subst (λ t. script_in t ≡ None) (sym o.so) refl;
+        idle = subst (λ t. asked_in t ≡ None) (sym o.so) refl;
+        first = goes;
+      })
+      (sym (append-nil s.closed))
+      (subst (λ t. Some (asked_talk tag script (talk_of og
+      (record { by = w.by; name = w.name; task = t; tag = w.tag })))
+      ≡ Some (talk_of og (asking script tag (record { by = w.by; name = w.name; task = t; tag = w.tag }))))
+      (sym o.so) refl))

@@ -1,0 +1,33 @@
+use Rattle.std.specs.Prelude.{true}
+use Rattle.std.proofs.Common.{refl, ◌∙◌, sym, ap, subst}
+use Rattle.city_model.specs.declared.end.Outcome.TheVariants as outcomes
+use Rattle.city_live.specs.Ending.{EndsAs, Leads, told_replies}
+use Rattle.city_live.specs.Heard.{AreHeard}
+use Rattle.city_live.specs.Serving.{Served}
+use Rattle.city_live.proofs.Continued.{same, ended}
+use Rattle.city_live.proofs.Followed.{then, noting, saying}
+use Rattle.city_live.proofs.Finished.{heard_ended, heard_tellings, steps_if, committing}
+use Rattle.city_live.proofs.talks.Talks.commit.Goals as goal
+
+pub invariant_of-self-2 : goal.invariant_of-self-2
+invariant_of-self-2 c =
+    let there = sym c.take.ensures.taken ∙ c.in-Some.is in
+    heard_ended
+    (subst (AreHeard c.self.inside.session c.self.inside.table) (sym c.tell_all.ensures.events)
+    (heard_tellings c.self.inside.log.events c.self.invariant c.args.changed
+    (steps_if c.args.stamp c.args.changed c.is_live.ensures c.is_live-2.ensures
+    (subst (λ (v : Served). Leads v.session c.args.stamp c.args.changed) (sym c.self.view_is) c.requires.leads)
+    c.commit.ensures.city c.commit.ensures.ended)
+    c.tell_all.ensures.more c.tell_all.ensures.all))
+    c.args.stamp c.in-Some.work there c.take.ensures.left _ c.commit.ensures.ended _ c.into_parts-hand.ensures.hand
+    c.into_parts-hand.ensures.tag c.says.ensures _ refl c.into_parts-hand.ensures.name c.since_of-since.ensures
+    (subst (λ x. EndsAs c.in-Some.work.task x outcomes.Committed true)
+    (sym (c.replies_of.ensures ∙ ap told_replies c.into_parts-hand.ensures.task))
+    (committing _ c.in-Some.work (c.may_commit.ensures c.if-not-may_commit.false) there))
+
+pub returns : goal.returns
+returns c =
+    (then)
+    (noting c.self.view_is (same c.self.inside.session) c.tell_all.new.log c.tell_all.ensures.more
+    c.tell_all.ensures.events c.tell_all.ensures.answers)
+    (saying refl (ended c.args.stamp _ c.commit.ensures.ended) c.says.new.self _ _ c.says.ensures)

@@ -1,0 +1,355 @@
+-- What was said of scripts and transactions, as their hands heard it.
+use Rattle.std.specs.Prelude.{◌≡◌, ◌==◌, ◌<◌, ◌++◌, ℕ, List, [], ◌∷◌, Bool, true, false, Option, None, Some, All}
+use Rattle.std.specs.Prelude.{length, option_map, if◌then◌else◌, slice_get, is_some}
+use Rattle.std.specs.Arc.{arc_value}
+use Rattle.city_model.specs.declared.command.Cause.{Cause}
+use Rattle.city_model.specs.declared.command.Command.{Command}
+use Rattle.city_model.specs.declared.command.Command.TheVariants.{Commit}
+use Rattle.city_model.specs.declared.command.Reply.{Reply}
+use Rattle.city_model.specs.declared.command.Reply.TheVariants as replies
+use Rattle.city_model.specs.declared.end.Outcome.{Outcome}
+use Rattle.city_model.specs.declared.end.Outcome.TheVariants as outcomes
+use Rattle.city_model.specs.CityMap.{CityMap, CityValue, object_at}
+use Rattle.city_model.specs.Meaning.{is_refusal}
+use Rattle.city_model.specs.Runs.{Scripted, after_change, model_after}
+use Rattle.city_model.specs.Scripts.{is_end}
+use Rattle.city_model.specs.Standing.{Answered}
+use Rattle.city_session.specs.Grown.{Grown, Closed, unrefused, scripts_of, ends_of}
+use Rattle.city_session.specs.Live.{SessionState, grown_at}
+use Rattle.city_live.specs.declared.answer.Answer.{Answer}
+use Rattle.city_live.specs.declared.answer.Changed.{Changed}
+use Rattle.city_live.specs.declared.answer.Ended.{Ended}
+use Rattle.city_live.specs.declared.answer.What.{What}
+use Rattle.city_live.specs.declared.answer.What.TheVariants as told
+use Rattle.city_live.specs.declared.ghosts.event.Event.{Event}
+use Rattle.city_live.specs.declared.ghosts.event.Event.TheVariants as events
+use Rattle.city_live.specs.declared.task.Task.{Task}
+use Rattle.city_live.specs.declared.task.Task.TheVariants as task
+use Rattle.city_live.specs.Works.{Working, first_of, work_at}
+
+-- ---- what a hand heard of its script or transaction
+
+-- Whose it is, the tag of the unanswered request, and its name; the commands of a whole script, of a transaction none;
+-- how many had ended when a transaction began, its commands with the replies that were told, refused ones too, and the
+-- command that it was asked for.
+pub record Talk : Type 0 where
+  pub by : List ℕ
+  pub tag : Option (List ℕ)
+  pub name : List ℕ
+  pub script : Option (List Command)
+  pub since : ℕ
+  pub told : List Answered
+  pub asked : Option Command
+
+-- the talks by their stamps, and what was told of those that are over, as transactions of a session, in the order of
+-- their ends
+pub record Heard : Type 0 where
+  pub talks : ℕ → Option Talk
+  pub ended : List Closed
+
+abbrev pub nothing : Heard
+nothing = record { talks = λ t. None; ended = [] }
+
+-- ---- a script
+
+-- the commands with these replies
+abbrev pub answered_by : List Command → List Reply → List Answered
+answered_by [] rs = []
+answered_by (c ∷ cs) [] = []
+answered_by (c ∷ cs) (r ∷ rs) = (c, r) ∷ answered_by cs rs
+
+-- a refused command is told too; a refused commit is none
+abbrev pub refused_at : Option Command → Option Cause → List Answered
+refused_at None cause = []
+refused_at (Some c) None = []
+refused_at (Some c) (Some cause) = if is_end c then [] else (c, replies.Refused cause) ∷ []
+
+-- all that it was told, with these replies, if its next command was refused or not
+abbrev pub script_told : List Command → List Reply → Option Cause → List Answered
+script_told cs rs cause = answered_by cs rs ++ refused_at (slice_get cs (length rs)) cause
+
+-- ---- an end
+
+abbrev pub is_committed : Outcome → Bool
+is_committed outcomes.Committed = true
+is_committed outcomes.Aborted = false
+is_committed (outcomes.Refused place cause) = false
+is_committed (outcomes.NoMemory place) = false
+
+abbrev pub cause_of : Outcome → Option Cause
+cause_of outcomes.Committed = None
+cause_of outcomes.Aborted = None
+cause_of (outcomes.Refused place cause) = Some cause
+cause_of (outcomes.NoMemory place) = None
+
+abbrev pub or_none : Option (List Reply) → List Reply
+or_none None = []
+or_none (Some rs) = rs
+
+abbrev pub grown_of : Option (List Command) → Talk → Ended → Grown
+grown_of None k e = record { since = k.since; told = k.told }
+grown_of (Some cs) k e = record { since = e.since; told = script_told cs (or_none e.replies) (cause_of e.outcome) }
+
+-- the transaction of the session that such an end tells of
+abbrev pub closed_of : Talk → Ended → Closed
+closed_of k e = (grown_of k.script k e, is_committed e.outcome)
+
+-- a script is committed where its commit is, and its place is behind its replies
+abbrev pub IsOutcome : List Command → List Reply → Outcome → Type 0
+IsOutcome cs rs outcomes.Committed = slice_get cs (length rs) ≡ Some Commit
+IsOutcome cs rs outcomes.Aborted = Unit {0}
+IsOutcome cs rs (outcomes.Refused place cause) = place ≡ length rs
+IsOutcome cs rs (outcomes.NoMemory place) = place ≡ length rs
+
+abbrev pub IsEndOf : Option (List Command) → Talk → Ended → Type 0
+IsEndOf None k e = (e.name ≡ k.name) × (e.replies ≡ None) × (e.since ≡ k.since)
+IsEndOf (Some cs) k e =
+    (e.name ≡ k.name) × (is_some e.replies ≡ true) × IsOutcome cs (or_none e.replies) e.outcome
+
+-- ---- the events of a stamp
+
+abbrev pub script_in : Task → Option (List Command)
+script_in (task.Script s rs cause) = Some s.1
+script_in (task.Single asked) = None
+
+-- of a script, its end tells how many had ended
+abbrev pub since_so_far : Task → ℕ → ℕ
+since_so_far (task.Script s rs cause) since = 0
+since_so_far (task.Single asked) since = since
+
+-- so many have ended when it begins
+abbrev pub begun_talk : Working → ℕ → Talk
+begun_talk w ended = record {
+  by = w.by;
+  tag = w.tag;
+  name = w.name;
+  script = script_in w.task;
+  since = since_so_far w.task ended;
+  told = [];
+  asked = None;
+}
+
+abbrev pub asked_talk : Option (List ℕ) → Scripted → Talk → Talk
+asked_talk tag s k = record {
+  by = k.by;
+  tag = tag;
+  name = k.name;
+  script = k.script;
+  since = k.since;
+  told = k.told;
+  asked = first_of (Some s);
+}
+
+abbrev pub requested_talk : Option (List ℕ) → Talk → Talk
+requested_talk tag k = record {
+  by = k.by;
+  tag = tag;
+  name = k.name;
+  script = k.script;
+  since = k.since;
+  told = k.told;
+  asked = k.asked;
+}
+
+abbrev pub with_one : Option Command → Reply → List Answered
+with_one None r = []
+with_one (Some c) r = (c, r) ∷ []
+
+-- the request is answered, by a reply to the command or not
+abbrev pub answered_talk : List Answered → Talk → Talk
+answered_talk more k = record {
+  by = k.by;
+  tag = None;
+  name = k.name;
+  script = k.script;
+  since = k.since;
+  told = k.told ++ more;
+  asked = None;
+}
+
+abbrev pub after_what : What → Talk → Option Talk
+after_what (told.Reply r) k = Some (answered_talk (with_one k.asked r) k)
+after_what (told.Refused place cause) k = Some (answered_talk (with_one k.asked (replies.Refused cause)) k)
+after_what (told.Waits b) k = Some k
+after_what (told.Died b) k = None
+after_what (told.Ended e) k = None
+after_what w k = Some (answered_talk [] k)
+
+abbrev pub closed_by_what : What → Talk → List Closed
+closed_by_what (told.Died b) k = (record { since = k.since; told = k.told }, false) ∷ []
+closed_by_what (told.Ended e) k = closed_of k e ∷ []
+closed_by_what w k = []
+
+-- an answer of a script or a transaction that fits what was said of it before
+abbrev pub IsFitWhat : What → Talk → Type 0
+IsFitWhat (told.Began n) k = (k.script ≡ None) × (n ≡ k.since)
+IsFitWhat (told.Reply r) k = (is_some k.asked ≡ true) × (is_refusal r ≡ false)
+IsFitWhat (told.Refused place cause) k = (k.script ≡ None) × (place ≡ length (unrefused k.told))
+IsFitWhat (told.Waits b) k = Unit {0}
+IsFitWhat (told.Died b) k = k.script ≡ None
+IsFitWhat (told.Ended e) k = IsEndOf k.script k e
+IsFitWhat told.Cancelled k = Unit {0}
+IsFitWhat (told.Fault f) k = k.script ≡ None
+IsFitWhat w k = ⊥
+
+-- ---- the effect of an event on the talk of its stamp, if so many have ended before
+
+abbrev pub stamp_of : Event → Option ℕ
+stamp_of (events.Begins t w) = Some t
+stamp_of (events.Asks t hand tag s) = Some t
+stamp_of (events.Requests t hand tag) = Some t
+stamp_of (events.Says t a is_told) = t
+
+abbrev pub after_event : Event → Option Talk → ℕ → Option Talk
+after_event (events.Begins t w) o ended = Some (begun_talk w ended)
+after_event (events.Asks t hand tag s) o ended = option_map (asked_talk tag s) o
+after_event (events.Requests t hand tag) o ended = option_map (requested_talk tag) o
+after_event (events.Says t a is_told) None ended = None
+after_event (events.Says t a is_told) (Some k) ended = after_what a.what k
+
+abbrev pub closed_by : Event → Option Talk → List Closed
+closed_by (events.Begins t w) o = []
+closed_by (events.Asks t hand tag s) o = []
+closed_by (events.Requests t hand tag) o = []
+closed_by (events.Says t a is_told) None = []
+closed_by (events.Says t a is_told) (Some k) = closed_by_what a.what k
+
+-- a script with no reply yet, or a transaction that is asked for nothing yet
+abbrev pub IsFresh : Task → Type 0
+IsFresh (task.Script s rs cause) = (rs ≡ []) × (cause ≡ None)
+IsFresh (task.Single asked) = asked ≡ None
+
+-- the hand's transaction that waits for no command
+pub record IsIdle (by : List ℕ) (s : Scripted) (k : Talk) : Type 0 where
+  pub hand : k.by ≡ by
+  pub single : k.script ≡ None
+  pub idle : k.asked ≡ None
+  pub first : (c : Command) → first_of (Some s) ≡ Some c → is_end c ≡ false
+
+-- the answer goes to the hand, with the tag of its request
+pub record IsSaidTo (a : Answer) (k : Talk) : Type 0 where
+  pub hand : arc_value a.hand ≡ k.by
+  pub tag : a.tag ≡ k.tag
+  pub what : IsFitWhat a.what k
+
+abbrev pub OfTalk : (Talk → Type 0) → Option Talk → Type 0
+OfTalk P None = ⊥
+OfTalk P (Some k) = P k
+
+abbrev pub IsFitAt : Event → Option Talk → Type 0
+IsFitAt (events.Begins t w) o = (o ≡ None) × IsFresh w.task
+IsFitAt (events.Asks t hand tag s) o = OfTalk (IsIdle (arc_value hand) s) o
+IsFitAt (events.Requests t hand tag) o = OfTalk (λ k. k.by ≡ arc_value hand) o
+IsFitAt (events.Says t a is_told) o = OfTalk (IsSaidTo a) o
+
+-- ---- an answer of none: what is seen is the model after the ends so far
+
+abbrev pub model_of : CityValue → List Closed → CityMap
+model_of start closed = model_after (scripts_of closed) (object_at start.1) (ends_of closed)
+
+-- the change leads from the model so far to the model after one more that is committed
+pub record IsStep (start : CityValue) (ended : List Closed) (changed : Changed) : Type 0 where
+  pub next : Grown
+  pub leads : after_change (model_of start ended) changed.change ≡ model_of start (ended ++ (next, true) ∷ [])
+
+abbrev pub IsSeenAt : CityValue → List Closed → What → Type 0
+IsSeenAt start ended (told.Look objects version) = All (λ o. o.1 ≡ model_of start ended o.0) objects
+IsSeenAt start ended (told.Model city version) = (city.0 ≡ start.0) × (object_at city.1 ≡ model_of start ended)
+IsSeenAt start ended (told.Changed c) = IsStep start ended (arc_value c)
+IsSeenAt start ended (told.Watching version) = Unit {0}
+IsSeenAt start ended told.Unwatched = Unit {0}
+IsSeenAt start ended told.Bye = Unit {0}
+IsSeenAt start ended (told.Fault f) = Unit {0}
+IsSeenAt start ended w = ⊥
+
+abbrev pub what_said : Event → Option What
+what_said (events.Says t a is_told) = Some a.what
+what_said (events.Begins t w) = None
+what_said (events.Asks t hand tag s) = None
+what_said (events.Requests t hand tag) = None
+
+abbrev pub IsSeenIn : CityValue → List Closed → Option What → Type 0
+IsSeenIn start ended None = ⊥
+IsSeenIn start ended (Some w) = IsSeenAt start ended w
+
+-- ---- all events
+
+abbrev pub after_at : Option ℕ → Event → Heard → Heard
+after_at None e h = h
+after_at (Some t) e h = record {
+  talks = λ u. if t == u then after_event e (h.talks t) (length h.ended) else h.talks u;
+  ended = h.ended ++ closed_by e (h.talks t);
+}
+
+abbrev pub after : Event → Heard → Heard
+after e h = after_at (stamp_of e) e h
+
+abbrev pub IsFitIn : CityValue → Option ℕ → Event → Heard → Type 0
+IsFitIn start None e h = IsSeenIn start h.ended (what_said e)
+IsFitIn start (Some t) e h = IsFitAt e (h.talks t)
+
+abbrev pub heard_from : Heard → List Event → Heard
+heard_from h [] = h
+heard_from h (e ∷ es) = heard_from (after e h) es
+
+-- each event fits what was said before it
+abbrev pub AreFitFrom : CityValue → Heard → List Event → Type 0
+AreFitFrom start h [] = Unit {0}
+AreFitFrom start h (e ∷ es) = IsFitIn start (stamp_of e) e h × AreFitFrom start (after e h) es
+
+abbrev pub heard : List Event → Heard
+heard es = heard_from nothing es
+
+abbrev pub AreFit : CityValue → List Event → Type 0
+AreFit start es = AreFitFrom start nothing es
+
+-- ---- what is said, and a session
+
+abbrev pub since_of : Option Grown → ℕ
+since_of None = 0
+since_of (Some g) = g.since
+
+abbrev pub told_of : Option Grown → List Answered
+told_of None = []
+told_of (Some g) = g.told
+
+abbrev pub asked_in : Task → Option Command
+asked_in (task.Script s rs cause) = None
+asked_in (task.Single asked) = first_of asked
+
+-- a whole script's replies are told at its end
+abbrev pub told_so_far : Task → List Answered → List Answered
+told_so_far (task.Script s rs cause) told = []
+told_so_far (task.Single asked) told = told
+
+-- what its hand heard of a work, by the work and the open transaction of its stamp
+abbrev pub talk_of : Option Grown → Working → Talk
+talk_of o w = record {
+  by = w.by;
+  tag = w.tag;
+  name = w.name;
+  script = script_in w.task;
+  since = since_so_far w.task (since_of o);
+  told = told_so_far w.task (told_of o);
+  asked = asked_in w.task;
+}
+
+-- a script's replies are those of its commands in its open transaction, and a transaction is open
+abbrev pub IsSoFar : Task → Option Grown → Type 0
+IsSoFar (task.Script s rs cause) None = (rs ≡ []) × (cause ≡ None)
+IsSoFar (task.Script s rs cause) (Some g) = g.told ≡ script_told s.1 rs cause
+IsSoFar (task.Single asked) None = ⊥
+IsSoFar (task.Single asked) (Some g) = Unit {0}
+
+abbrev pub AreSoFar : Option Working → Option Grown → Type 0
+AreSoFar None o = Unit {0}
+AreSoFar (Some w) o = IsSoFar w.task o
+
+-- Each event fits those before it; what was told of all that is over is what has ended in the session, in its order;
+-- and what was told of each work is what its open transaction was told.
+pub record AreHeard (s : SessionState) (works : List (ℕ × Working)) (es : List Event) : Type 0 where
+  pub fit : AreFit s.start es
+  pub ended : (heard es).ended ≡ s.closed
+  pub talks : (t : ℕ) → (heard es).talks t ≡ option_map (talk_of (grown_at s.growing t)) (work_at works t)
+  pub so_far : (t : ℕ) → AreSoFar (work_at works t) (grown_at s.growing t)
+  pub given : (t : ℕ) → is_some (work_at works t) ≡ true → t < s.stamps

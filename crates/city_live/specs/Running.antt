@@ -1,0 +1,33 @@
+-- A script that goes on.
+use Rattle.std.specs.Prelude.{◌≡◌, ◌==◌, ◌<◌, ℕ, List, false, Option, Some}
+use Rattle.city_model.specs.declared.command.Cause.{Cause}
+use Rattle.city_model.specs.declared.command.Command.{Command}
+use Rattle.city_model.specs.declared.command.Reply.{Reply}
+use Rattle.city_model.specs.declared.command.Reply.TheVariants as replies
+use Rattle.city_session.specs.Acting.{stamp_for, stamps_after, IsBegun}
+use Rattle.city_session.specs.Grown.{Grown}
+use Rattle.city_session.specs.Live.{SessionState, grown_at}
+use Rattle.city_live.specs.declared.answer.What.{What}
+use Rattle.city_live.specs.declared.answer.What.TheVariants as told
+use Rattle.city_live.specs.Continuing.{GoesOn}
+use Rattle.city_live.specs.Heard.{script_told}
+
+-- The open transaction was told these replies to its commands, and why the next was refused, if it was; the other
+-- transactions are as before.
+pub record RunsTo (stamp : ℕ) (cs : List Command) (rs : List Reply) (cause : Option Cause) (s u : SessionState)
+    : Type 0 where
+  pub goes : GoesOn stamp s u
+  pub told : (g : Grown) → grown_at u.growing stamp ≡ Some g → g.told ≡ script_told cs rs cause
+  pub others : (t : ℕ) → (stamp == t) ≡ false → grown_at u.growing t ≡ grown_at s.growing t
+
+-- A transaction is begun, under the kept stamp or under a new one.
+pub record Begins (stamp : ℕ) (kept : Option ℕ) (s u : SessionState) : Type 0 where
+  pub taken : Option ℕ
+  pub stamp_is : stamp ≡ stamp_for taken s.stamps
+  pub kept_is : (t : ℕ) → taken ≡ Some t → (kept ≡ Some t) × (t < s.stamps)
+  pub begun : IsBegun stamp (stamps_after taken s.stamps) s u
+
+-- a refusal is told with its place
+abbrev pub IsWhatOf : ℕ → Reply → What → Type 0
+IsWhatOf place (replies.Refused cause) w = w ≡ told.Refused place cause
+IsWhatOf place r w = w ≡ told.Reply r

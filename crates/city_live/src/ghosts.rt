@@ -1,0 +1,5 @@
+//! What contracts alone see.
+
+pub mod event;
+pub mod events;
+mod no_rule;

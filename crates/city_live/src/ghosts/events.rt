@@ -1,0 +1,184 @@
+//! The events so far, for contracts only.
+ghost use Rattle.std.specs.Prelude.{◌≡◌, ◌++◌, ◌∷◌, []};
+ghost use Rattle.city_live.specs.declared.ghosts.event.Event.{Event};
+
+use crate::answer::{Answer, Name};
+use crate::ghosts::event::Event;
+use crate::ghosts::no_rule::NoRule;
+use crate::request::Tag;
+use crate::work::Work;
+use city_model::script::Script;
+use logbook::{Opening as FirstEntries, Seen, Start};
+use std::marker::Model;
+
+/// The first entries of `Events::none`.
+pub struct NoEvents;
+
+impl FirstEntries<(), Event> for NoEvents {
+    ghost use Rattle.std.specs.Prelude.{[]};
+
+    ghost log = { λ count about. [] };
+}
+
+/// Events, and a beginning.
+#[derive(Clone, Copy)]
+pub struct WithBegin<'a> {
+    events: &'a Events,
+    stamp: u64,
+    work: &'a Work,
+}
+
+/// The first entries of `Events::begins`.
+pub struct OneBegin;
+
+impl<'a> FirstEntries<WithBegin<'a>, Event> for OneBegin {
+    ghost use Rattle.std.specs.Prelude.{◌++◌, ◌∷◌, []};
+    ghost use Rattle.city_live.specs.declared.ghosts.event.Event.{Event};
+
+    ghost log = { λ count with. with.events.now ++ Event.Begins with.stamp with.work.now ∷ [] };
+}
+
+/// Events, and a request for a command.
+#[derive(Clone, Copy)]
+pub struct WithAsk<'a> {
+    events: &'a Events,
+    stamp: u64,
+    hand: &'a Name,
+    tag: &'a Tag,
+    script: &'a Script,
+}
+
+/// The first entries of `Events::asks`.
+pub struct OneAsk;
+
+impl<'a> FirstEntries<WithAsk<'a>, Event> for OneAsk {
+    ghost use Rattle.std.specs.Prelude.{◌++◌, ◌∷◌, []};
+    ghost use Rattle.city_live.specs.declared.ghosts.event.Event.{Event};
+
+    ghost log = { λ count with.
+        with.events.now ++ Event.Asks with.stamp with.hand.now with.tag.now with.script.now ∷ [] };
+}
+
+/// Events, and a request for all of a work.
+#[derive(Clone, Copy)]
+pub struct WithRequest<'a> {
+    events: &'a Events,
+    stamp: u64,
+    hand: &'a Name,
+    tag: &'a Tag,
+}
+
+/// The first entries of `Events::requests`.
+pub struct OneRequest;
+
+impl<'a> FirstEntries<WithRequest<'a>, Event> for OneRequest {
+    ghost use Rattle.std.specs.Prelude.{◌++◌, ◌∷◌, []};
+    ghost use Rattle.city_live.specs.declared.ghosts.event.Event.{Event};
+
+    ghost log = { λ count with. with.events.now ++ Event.Requests with.stamp with.hand.now with.tag.now ∷ [] };
+}
+
+/// Events, and an answer.
+#[derive(Clone, Copy)]
+pub struct WithAnswer<'a> {
+    events: &'a Events,
+    stamp: Option<u64>,
+    answer: &'a Answer,
+    is_told: bool,
+}
+
+/// The first entries of `Events::says`.
+pub struct OneAnswer;
+
+impl<'a> FirstEntries<WithAnswer<'a>, Event> for OneAnswer {
+    ghost use Rattle.std.specs.Prelude.{◌++◌, ◌∷◌, []};
+    ghost use Rattle.city_live.specs.declared.ghosts.event.Event.{Event};
+
+    ghost log = { λ count with. with.events.now ++ Event.Says with.stamp with.answer.now with.is_told ∷ [] };
+}
+
+/// The events so far. It is zero-sized; contracts see them.
+#[derive(Drop)]
+pub struct Events {
+    seen: Seen<Event, u64, NoRule>,
+}
+
+impl Model for Events {
+    ghost use Rattle.std.specs.Prelude.{List};
+    ghost use Rattle.std.specs.Coded.{codes};
+    ghost use Rattle.city_members.specs.internal.DataCode.{coded_members};
+    ghost use Rattle.city_txn.specs.internal.Codes.{coded_objects};
+    ghost use Rattle.city_live.specs.declared.ghosts.event.Event.{Event};
+
+    ghost Value = { List Event };
+
+    ghost coded = { Prim.hlevel (codes, coded_members, coded_objects) };
+
+    ghost view = { λ e. e.seen.log };
+}
+
+impl Events {
+    /// None.
+    pub fn none() -> Events
+        ensures { result ≡ [] }
+    {
+        let (seen, _pens) = Seen::open_row::<(), NoEvents>(&(), Start::alone(), 0);
+        Events { seen }
+    }
+
+    /// These, and that a work is begun.
+    pub fn begins(&self, stamp: u64, work: &Work) -> Events
+        ensures { result ≡ self.now ++ Event.Begins stamp work.now ∷ [] }
+    {
+        let with = WithBegin {
+            events: self,
+            stamp,
+            work,
+        };
+        let (seen, _pens) = Seen::open_row::<WithBegin<'_>, OneBegin>(&with, Start::alone(), 0);
+        Events { seen }
+    }
+
+    /// These, and that a hand asks for the first command of a script.
+    pub fn asks(&self, stamp: u64, hand: &Name, tag: &Tag, script: &Script) -> Events
+        ensures { result ≡ self.now ++ Event.Asks stamp hand.now tag.now script.now ∷ [] }
+    {
+        let with = WithAsk {
+            events: self,
+            stamp,
+            hand,
+            tag,
+            script,
+        };
+        let (seen, _pens) = Seen::open_row::<WithAsk<'_>, OneAsk>(&with, Start::alone(), 0);
+        Events { seen }
+    }
+
+    /// These, and that a hand has a request for all of its work.
+    pub fn requests(&self, stamp: u64, hand: &Name, tag: &Tag) -> Events
+        ensures { result ≡ self.now ++ Event.Requests stamp hand.now tag.now ∷ [] }
+    {
+        let with = WithRequest {
+            events: self,
+            stamp,
+            hand,
+            tag,
+        };
+        let (seen, _pens) = Seen::open_row::<WithRequest<'_>, OneRequest>(&with, Start::alone(), 0);
+        Events { seen }
+    }
+
+    /// These, and an answer.
+    pub fn says(&self, stamp: Option<u64>, answer: &Answer, is_told: bool) -> Events
+        ensures { result ≡ self.now ++ Event.Says stamp answer.now is_told ∷ [] }
+    {
+        let with = WithAnswer {
+            events: self,
+            stamp,
+            answer,
+            is_told,
+        };
+        let (seen, _pens) = Seen::open_row::<WithAnswer<'_>, OneAnswer>(&with, Start::alone(), 0);
+        Events { seen }
+    }
+}

@@ -1,0 +1,250 @@
+//! The works of hands on a session, and what is said of each.
+ghost use Rattle.std.specs.Prelude.{◌≡◌, [], None, Some, false, IfOk, OnErr, IsTrue};
+ghost use Rattle.city_model.specs.CityMap.{object_at};
+ghost use Rattle.city_model.specs.Relations.{IsLawful};
+ghost use Rattle.city_txn.specs.CoreState.{committed};
+ghost use Rattle.city_model.specs.declared.command.Command.{Command};
+ghost use Rattle.city_model.specs.Scripts.{is_end};
+ghost use Rattle.city_session.specs.Acting.{IsUnchanged};
+ghost use Rattle.city_live.specs.Works.{first_of};
+ghost use Rattle.city_live.specs.Heard.{IsFresh};
+ghost use Rattle.city_live.specs.Running.{Begins};
+ghost use Rattle.city_live.specs.Serving.{Follows, IsServed};
+
+use crate::answer::{Answer, Fault, Name, What};
+use crate::in_the_way::InTheWay;
+use crate::log::Log;
+use crate::request::Tag;
+use crate::table::Table;
+use crate::task::Task;
+use crate::work::{Place, Work};
+use city_members::copied::Copied;
+use city_members::text::Text;
+use city_model::OutOfMemory;
+use city_model::city::City;
+use city_model::script::{Script, is_end};
+use city_session::Session;
+use std::alloc::Global;
+use std::marker::Model;
+use std::sync::Arc;
+
+mod ends;
+mod goes;
+mod tells;
+
+pub use ends::{Ending, Preparing};
+
+/// The works of hands on a session, and what is said of each.
+///
+/// Whatever its methods are called for, in any order: what is said of a work is what the session told it. Contracts see
+/// the session, the events so far and the answers that aren't given out yet.
+#[derive(Drop)]
+pub struct Talks {
+    alloc: Global,
+    session: Session,
+    table: Table,
+    log: Log,
+}
+
+impl Model for Talks {
+    ghost use Rattle.city_live.specs.Serving.{Served};
+
+    ghost Value = { Served };
+
+    ghost use Rattle.std.specs.Coded.{codes};
+    ghost use Rattle.city_members.specs.internal.DataCode.{coded_members};
+    ghost use Rattle.city_txn.specs.internal.Codes.{coded_objects};
+
+    ghost coded = { Prim.hlevel (codes, coded_members, coded_objects) };
+
+    ghost view = { λ h. record { session = h.session; events = h.log.events; answers = h.log.answers } };
+
+    ghost use Rattle.city_live.specs.Heard.{AreHeard};
+
+    ghost invariant = { λ h. AreHeard h.session h.table h.log.events };
+}
+
+impl Talks {
+    /// No works yet, on this city. Doesn't allocate.
+    pub fn open(alloc: Global, city: City) -> Talks
+        requires { IsLawful (object_at city.1) }
+        ensures start { result.session.start ≡ city }
+        ensures closed { result.session.closed ≡ [] }
+        ensures city { committed result.session.core ≡ object_at city.1 }
+        ensures events { result.events ≡ [] }
+        ensures answers { result.answers ≡ [] }
+    {
+        Talks {
+            alloc,
+            session: Session::open(alloc, city),
+            table: Table::new(alloc),
+            log: Log::new(alloc),
+        }
+    }
+
+    /// The ended transactions are a serial history, and what was said of each is what it was told there; what was said
+    /// of an open one is what it was told.
+    pub fn are_served(&self)
+        ensures { IsServed self.now }
+    {
+        self.session.is_live();
+    }
+
+    /// The session. Doesn't allocate.
+    pub fn session(&self) -> &Session
+        ensures { result.now ≡ self.now.session }
+    {
+        &self.session
+    }
+
+    /// The work of the stamp, if there is one. Doesn't allocate.
+    pub fn work(&self, stamp: u64) -> Option<&Work> {
+        self.table.get(stamp)
+    }
+
+    /// The works, by their stamps. Doesn't allocate.
+    pub fn table(&self) -> &Table {
+        &self.table
+    }
+
+    /// The hand of a work, if there is one. Doesn't allocate.
+    pub fn hand(&self, stamp: u64) -> Option<Name> {
+        self.table.hand(stamp)
+    }
+
+    /// Whether the work of the stamp is a whole script. Doesn't allocate.
+    pub fn is_script(&self, stamp: u64) -> bool {
+        self.table.is_script(stamp)
+    }
+
+    /// Whether a request of the work is still to be answered. Doesn't allocate.
+    pub fn is_waited_for(&self, stamp: u64) -> bool {
+        match self.table.get(stamp) {
+            Some(work) => work.is_waited_for(),
+            None => false,
+        }
+    }
+
+    /// Makes room for so many answers more.
+    pub fn reserve(&mut self, more: usize) -> Result<(), OutOfMemory>
+        ensures { self.new ≡ self.old }
+    {
+        self.log.reserve(more)
+    }
+
+    /// Gives the answers out. Doesn't allocate.
+    pub fn take_answers(&mut self) -> Vec<Answer>
+        ensures given { result.items ≡ self.old.answers }
+        ensures session { self.new.session ≡ self.old.session }
+        ensures events { self.new.events ≡ self.old.events }
+        ensures answers { self.new.answers ≡ [] }
+    {
+        self.log.take(self.alloc)
+    }
+
+    /// Begins a work without commands done, under a kept stamp or a new one. If memory runs out, nothing changes.
+    pub fn begin(
+        &mut self,
+        hand: Name,
+        name: Text,
+        task: Task,
+        kept: Option<u64>,
+    ) -> Result<u64, OutOfMemory>
+        requires { IsFresh task }
+        ensures { Follows self.old self.new }
+    {
+        let kept = self.table.free(kept);
+        let stamp = begin_under(&mut self.session, kept)?;
+        let work = Work::new(hand, name, task);
+        if self.table.add(stamp, work).is_err() {
+            if self.session.is_open(stamp) {
+                self.session.forget(stamp);
+            }
+            return Err(OutOfMemory);
+        }
+        if let Some(work) = self.table.get(stamp) {
+            self.log.begins(stamp, work);
+        }
+        Ok(stamp)
+    }
+
+    /// Begins a dead script again, under its stamp. If memory runs out, nothing changes.
+    pub fn reopen(&mut self, stamp: u64) -> Result<(), OutOfMemory>
+        ensures { Follows self.old self.new }
+    {
+        if self.session.is_open(stamp) {
+            return Ok(());
+        }
+        if !self.table.is_script(stamp) || !self.session.may_begin_as(stamp) {
+            return Err(OutOfMemory);
+        }
+        self.session.is_live();
+        let _stamp = self.session.begin(Some(stamp))?;
+        Ok(())
+    }
+
+    /// A transaction's hand asks it for the first command of a script. The tag comes back, and nothing is noted, where
+    /// it isn't the hand's transaction, or is asked already, or the command is an end.
+    pub fn ask(&mut self, stamp: u64, hand: &Name, tag: Tag, script: Script) -> Result<(), Tag>
+        ensures { Follows self.old self.new }
+    {
+        if !self.table.is_idle(stamp, hand) || !goes_on(&script) {
+            return Err(tag);
+        }
+        self.log.asks(stamp, hand, &tag, &script);
+        self.table.ask(stamp, script, tag);
+        Ok(())
+    }
+
+    /// A hand has a request for all of its work: to run, begin or end it. False, and nothing is noted, where it isn't
+    /// the hand's.
+    pub fn request(&mut self, stamp: u64, hand: &Name, tag: Tag) -> bool
+        ensures { Follows self.old self.new }
+    {
+        if !self.table.is_of(stamp, hand) {
+            return false;
+        }
+        self.log.requests(stamp, hand, &tag);
+        self.table.request(stamp, tag);
+        true
+    }
+
+    /// Notes a work's place, and returns the one before. Doesn't allocate.
+    pub fn put_at(&mut self, stamp: u64, place: Place) -> Place
+        ensures { self.new ≡ self.old }
+    {
+        self.table.put_at(stamp, place)
+    }
+
+    /// Notes the lock that holds a work back, or that none does any more. Doesn't allocate.
+    pub fn hold(&mut self, stamp: u64, until: Option<InTheWay>)
+        ensures { self.new ≡ self.old }
+    {
+        self.table.hold(stamp, until);
+    }
+}
+
+/// Whether a script's first command is no end.
+fn goes_on(script: &Script) -> bool
+    ensures { IsTrue result → (c : Command) → first_of (Some script.now) ≡ Some c → is_end c ≡ false }
+{
+    match script.commands().first() {
+        Some(command) => !is_end(command),
+        None => false,
+    }
+}
+
+/// Begins a transaction, under a kept stamp if it may be, or else under a new one. If memory runs out, nothing changes.
+fn begin_under(session: &mut Session, kept: Option<u64>) -> Result<u64, OutOfMemory>
+    ensures begun { IfOk result (λ t. Begins t kept session.old session.new) }
+    ensures err { OnErr result (IsUnchanged session.old session.new) }
+{
+    if let Some(stamp) = kept {
+        if session.may_begin_as(stamp) {
+            let begun = session.begin(Some(stamp))?;
+            return Ok(begun);
+        }
+    }
+    let begun = session.begin(None)?;
+    Ok(begun)
+}

@@ -1,0 +1,278 @@
+//! How works end.
+ghost use Rattle.std.specs.Prelude.{◌≡◌, Some, IfOk};
+ghost use Rattle.std.specs.Arc.{arc_value};
+ghost use Rattle.city_session.specs.Grown.{Grown};
+ghost use Rattle.city_session.specs.Live.{grown_at};
+ghost use Rattle.city_live.specs.Ending.{IsReady, IsAllowed, IsEnded, IsUnrefused, AreTold, IsTelling, told_replies};
+ghost use Rattle.city_live.specs.Ending.{IsTellingOf};
+ghost use Rattle.city_live.specs.Serving.{Follows};
+
+use super::Talks;
+use crate::answer::{Answer, Blocked, Changed, Ended, Name, What};
+use crate::log::Log;
+use crate::task::Task;
+use city_members::copied::Copied;
+use city_members::sequence::Sequence;
+use city_members::text::Text;
+use city_model::OutOfMemory;
+use city_model::change::Change;
+use city_model::command::{Cause, Reply};
+use city_model::end::Outcome;
+use city_model::script::{Script, is_end};
+use city_session::Session;
+use city_txn::Prepared;
+use std::collections::BTreeMap;
+use std::sync::Arc;
+
+/// The most answers of an end and of what follows at once, besides the watchers'.
+const ENDS_ANSWERS: usize = 4;
+
+/// What came of the preparing of a commit.
+#[derive(Drop)]
+pub enum Preparing {
+    /// The change, if anyone is to be told of one, and the version after it.
+    Ready(Option<Arc<Changed>>, u64),
+    /// The commit is refused.
+    Refused(Cause),
+    NoMemory,
+}
+
+/// Why a work ends without a commit.
+#[derive(Drop)]
+pub enum Ending {
+    Aborted,
+    /// A command of a script was refused.
+    Refused,
+    /// The commit of a script was refused.
+    Uncommitted(Cause),
+    NoMemory,
+}
+
+impl Talks {
+    /// Undoes a script's attempt. It is to begin again.
+    pub fn restart(&mut self, stamp: u64)
+        ensures { Follows self.old self.new }
+    {
+        if !self.session.is_open(stamp) || !self.table.is_script(stamp) {
+            return;
+        }
+        self.session.forget(stamp);
+        self.table.begin_again(self.alloc, stamp);
+    }
+
+    /// Undoes a transaction that dies, and tells its hand what stood in its way.
+    pub fn die(&mut self, stamp: u64, blocked: Blocked)
+        ensures { Follows self.old self.new }
+    {
+        if !self.session.is_open(stamp) || self.table.is_script(stamp) {
+            return;
+        }
+        let Some(work) = self.table.take(stamp) else {
+            return;
+        };
+        self.session.abort(stamp);
+        let (hand, _name, _task, tag) = work.into_parts();
+        let what = What::Died(blocked);
+        self.log.says(Some(stamp), Answer { hand, tag, what });
+    }
+
+    /// Makes a commit ready, with room for all that it tells: so many watchers, its hand, and as much again.
+    pub fn prepare(&mut self, stamp: u64, version: u64, watchers: usize) -> Preparing
+        ensures same { self.new ≡ self.old }
+        ensures ready { IsReady stamp result self.new.session }
+    {
+        if !self.session.is_open(stamp) || !self.table.may_commit(stamp) {
+            return Preparing::NoMemory;
+        }
+        let change = match self.session.prepare(stamp) {
+            Ok(Prepared::Ready(change)) => change,
+            Ok(Prepared::Refused(cause)) => return Preparing::Refused(cause),
+            Err(OutOfMemory) => return Preparing::NoMemory,
+        };
+        if change.len() == 0 {
+            return Preparing::Ready(None, version);
+        }
+        let version = version.saturating_add(1);
+        if watchers == 0 {
+            return Preparing::Ready(None, version);
+        }
+        match self.shared(stamp, change, version, watchers) {
+            Ok(changed) => Preparing::Ready(Some(changed), version),
+            Err(OutOfMemory) => Preparing::NoMemory,
+        }
+    }
+
+    /// Shares a change for so many watchers, and makes room to tell them.
+    fn shared(
+        &mut self,
+        stamp: u64,
+        change: Change,
+        version: u64,
+        watchers: usize,
+    ) -> Result<Arc<Changed>, OutOfMemory>
+        ensures same { self.new ≡ self.old }
+        ensures changed { IfOk result (λ changed. (arc_value changed).change ≡ change) }
+    {
+        let Some(room) = watchers.checked_add(ENDS_ANSWERS) else {
+            return Err(OutOfMemory);
+        };
+        self.log.reserve(room)?;
+        let Some(work) = self.table.get(stamp) else {
+            return Err(OutOfMemory);
+        };
+        let by = Arc::try_clone(work.hand())?;
+        let name = work.name().copy(self.alloc)?;
+        let changed = Changed {
+            by,
+            name,
+            version,
+            change,
+        };
+        let shared = Arc::new(self.alloc, changed)?;
+        Ok(shared)
+    }
+
+    /// Commits a work, and tells the watchers of its change, and then its hand.
+    pub fn commit(
+        &mut self,
+        stamp: u64,
+        changed: Option<Arc<Changed>>,
+        version: u64,
+        watchers: &BTreeMap<Text, Name>,
+    )
+        requires { IsAllowed stamp changed self.old.session }
+        ensures { Follows self.old self.new }
+    {
+        if !self.table.may_commit(stamp) {
+            return;
+        }
+        let Some(work) = self.table.take(stamp) else {
+            return;
+        };
+        let since = since_of(&self.session, stamp);
+        self.session.is_live();
+        self.session.commit(stamp);
+        self.session.is_live();
+        tell_all(&mut self.log, watchers, changed);
+        let (hand, name, task, tag) = work.into_parts();
+        let ended = Ended {
+            name,
+            since,
+            replies: replies_of(task),
+            outcome: Outcome::Committed,
+            version,
+        };
+        let what = What::Ended(ended);
+        self.log.says(Some(stamp), Answer { hand, tag, what });
+    }
+
+    /// Undoes a work, and tells its hand its end.
+    pub fn end(&mut self, stamp: u64, ending: Ending, version: u64)
+        ensures { Follows self.old self.new }
+    {
+        if !self.session.is_open(stamp) {
+            return;
+        }
+        let Some(work) = self.table.take(stamp) else {
+            return;
+        };
+        let since = since_of(&self.session, stamp);
+        self.session.abort(stamp);
+        let (hand, name, task, tag) = work.into_parts();
+        let (replies, outcome) = ended_by(task, ending);
+        let ended = Ended {
+            name,
+            since,
+            replies,
+            outcome,
+            version,
+        };
+        let what = What::Ended(ended);
+        self.log.says(Some(stamp), Answer { hand, tag, what });
+    }
+}
+
+/// How many had ended when the open transaction of the stamp began. Doesn't allocate.
+fn since_of(session: &Session, stamp: u64) -> u64
+    ensures { (g : Grown) → grown_at session.now.growing stamp ≡ Some g → result ≡ g.since }
+{
+    match session.transaction(stamp) {
+        Some(transaction) => transaction.since(),
+        None => 0,
+    }
+}
+
+/// The replies of a script; `None` for a transaction. Doesn't allocate.
+fn replies_of(task: Task) -> Option<Sequence<Reply>>
+    ensures { result ≡ told_replies task }
+{
+    match task {
+        Task::Script(_script, replies, _) => Some(replies),
+        Task::Single(_) => None,
+    }
+}
+
+/// The replies of a script that ends without a commit, and its outcome; a transaction is aborted.
+fn ended_by(task: Task, ending: Ending) -> (Option<Sequence<Reply>>, Outcome)
+    ensures { IsEnded task result.0 result.1 }
+{
+    match task {
+        Task::Single(_) => (None, Outcome::Aborted),
+        Task::Script(script, replies, refused) => {
+            let place = replies.len();
+            let outcome = match refused {
+                Some(cause) => Outcome::Refused(place, cause),
+                None => outcome_at(&script, place, ending),
+            };
+            (Some(replies), outcome)
+        }
+    }
+}
+
+/// The outcome of a script that ends at this place, where no command was refused.
+fn outcome_at(script: &Script, place: usize, ending: Ending) -> Outcome
+    ensures { IsUnrefused script.now.1 place result }
+{
+    match (script.commands().get(place), ending) {
+        (Some(command), Ending::Uncommitted(cause)) if is_end(command) => Outcome::Refused(
+            place, cause,
+        ),
+        (_, Ending::NoMemory) => Outcome::NoMemory(place),
+        _ => Outcome::Aborted,
+    }
+}
+
+/// Tells each watcher of a change, if there is one.
+fn tell_all(log: &mut Log, watchers: &BTreeMap<Text, Name>, changed: Option<Arc<Changed>>)
+    ensures { AreTold (IsTellingOf changed) log.old log.new }
+{
+    if let Some(changed) = changed {
+        tell_each(log, watchers, &changed);
+    }
+}
+
+/// Tells each watcher of a change.
+fn tell_each(log: &mut Log, watchers: &BTreeMap<Text, Name>, changed: &Arc<Changed>)
+    ensures { AreTold (IsTelling (arc_value changed.now)) log.old log.new }
+{
+    for (_, hand) in watchers.iter() {
+        tell_change(log, hand, changed);
+    }
+}
+
+/// Tells a watcher of a change.
+fn tell_change(log: &mut Log, hand: &Name, changed: &Arc<Changed>)
+    ensures { AreTold (IsTelling (arc_value changed.now)) log.old log.new }
+{
+    if let (Ok(hand), Ok(changed)) = (Arc::try_clone(hand), Arc::try_clone(changed)) {
+        let what = What::Changed(changed);
+        log.says(
+            None,
+            Answer {
+                hand,
+                tag: None,
+                what,
+            },
+        );
+    }
+}

@@ -1,0 +1,163 @@
+//! How a work goes on.
+ghost use Rattle.std.specs.Prelude.{◌≡◌, ℕ, None, Some, true, length, IfOk, IfErr};
+ghost use Rattle.city_model.specs.declared.command.Reply.TheVariants as replies;
+ghost use Rattle.city_txn.specs.CoreState.{is_open};
+ghost use Rattle.city_session.specs.Grown.{Grown, unrefused};
+ghost use Rattle.city_session.specs.Live.{grown_at};
+ghost use Rattle.city_live.specs.Heard.{script_told};
+ghost use Rattle.city_live.specs.Running.{RunsTo, IsWhatOf};
+ghost use Rattle.city_live.specs.Serving.{Follows};
+
+use super::Talks;
+use crate::answer::{Answer, What};
+use crate::gone::Gone;
+use crate::in_the_way::InTheWay;
+use city_model::command::{Cause, Command, Reply};
+use city_model::script::is_end;
+use city_session::{Acted, Session};
+use std::alloc::Global;
+
+impl Talks {
+    /// Goes on with a work: with its one command, or with its script to the end, or until it is held up.
+    pub fn go_on(&mut self, stamp: u64) -> Gone
+        ensures { Follows self.old self.new }
+    {
+        if !self.session.is_open(stamp) {
+            return Gone::Nothing;
+        }
+        match self.table.get(stamp) {
+            Some(work) if work.is_script() => self.run(stamp),
+            Some(_) => self.act(stamp),
+            None => Gone::Nothing,
+        }
+    }
+
+    /// Runs a script's commands behind the replies so far.
+    fn run(&mut self, stamp: u64) -> Gone
+        requires { is_open self.old.session.core stamp ≡ true }
+        ensures { Follows self.old self.new }
+    {
+        let Some((script, mut replies)) = self.table.take_script(stamp) else {
+            return Gone::Nothing;
+        };
+        let (gone, cause) = run(
+            self.alloc,
+            &mut self.session,
+            stamp,
+            script.commands(),
+            &mut replies,
+        );
+        self.session.is_live();
+        self.table.put_script(stamp, script, replies, cause);
+        gone
+    }
+
+    /// Does the one command of a transaction, and tells its hand.
+    fn act(&mut self, stamp: u64) -> Gone
+        requires { is_open self.old.session.core stamp ≡ true }
+        ensures { Follows self.old self.new }
+    {
+        let place = place_of(&self.session, stamp);
+        let Some((hand, command)) = self.table.asked(stamp) else {
+            return Gone::Nothing;
+        };
+        if is_end(command) {
+            return Gone::Nothing;
+        }
+        match self.session.act(stamp, command) {
+            Acted::Replied(reply) => {
+                let tag = self.table.answer(stamp);
+                let what = what_of(place, reply);
+                self.log.says(Some(stamp), Answer { hand, tag, what });
+                Gone::Replied
+            }
+            Acted::Waits => held_up(self.alloc, &self.session, stamp, command, true),
+            Acted::Dies => held_up(self.alloc, &self.session, stamp, command, false),
+            Acted::TooMany => Gone::TooMany,
+            Acted::NoMemory => Gone::NoMemory,
+        }
+    }
+}
+
+/// How many commands of an open transaction were not refused. Doesn't allocate.
+fn place_of(session: &Session, stamp: u64) -> usize
+    ensures { (g : Grown) → grown_at session.now.growing stamp ≡ Some g → result ≡ length (unrefused g.told) }
+{
+    match session.transaction(stamp) {
+        Some(transaction) => transaction.commands(),
+        None => 0,
+    }
+}
+
+/// What a hand is told of a reply.
+fn what_of(place: usize, reply: Reply) -> What
+    ensures { IsWhatOf place reply result }
+{
+    match reply {
+        Reply::Refused(cause) => What::Refused(place, cause),
+        reply => What::Reply(reply),
+    }
+}
+
+/// A reply, or why it is a refusal.
+fn unrefused(reply: Reply) -> Result<Reply, Cause>
+    ensures reply { IfOk result (λ r. r ≡ reply) }
+    ensures refused { IfErr result (λ cause. reply ≡ replies.Refused cause) }
+{
+    match reply {
+        Reply::Refused(cause) => Err(cause),
+        reply => Ok(reply),
+    }
+}
+
+/// Runs commands behind the replies so far; also gives why one was refused.
+fn run(
+    alloc: Global,
+    session: &mut Session,
+    stamp: u64,
+    commands: &[Command],
+    replies: &mut Vec<Reply>,
+) -> (Gone, Option<Cause>)
+    requires opened { is_open session.old.core stamp ≡ true }
+    requires told { (g : Grown) → grown_at session.old.growing stamp ≡ Some g
+        → g.told ≡ script_told commands.now replies.old.items None }
+    ensures { RunsTo stamp commands.now replies.new.items result.1 session.old session.new }
+{
+    for _ in 0..commands.len() {
+        let Some(command) = commands.get(replies.len()) else {
+            return (Gone::Nothing, None);
+        };
+        if is_end(command) {
+            return (Gone::ToEnd(matches!(command, Command::Commit)), None);
+        }
+        if replies.reserve(1).is_err() {
+            return (Gone::NoMemory, None);
+        }
+        match session.act(stamp, command) {
+            Acted::Replied(reply) => match unrefused(reply) {
+                Ok(reply) => replies.push_reserved(reply),
+                Err(cause) => return (Gone::Refused, Some(cause)),
+            },
+            Acted::Waits => return (held_up(alloc, session, stamp, command, true), None),
+            Acted::Dies => return (held_up(alloc, session, stamp, command, false), None),
+            Acted::TooMany => return (Gone::TooMany, None),
+            Acted::NoMemory => return (Gone::NoMemory, None),
+        }
+    }
+    (Gone::Nothing, None)
+}
+
+/// The lock in the way of a command.
+fn held_up(alloc: Global, session: &Session, stamp: u64, command: &Command, waits: bool) -> Gone {
+    let Some(conflict) = session.conflict(stamp, command) else {
+        return Gone::NoMemory;
+    };
+    match InTheWay::of(alloc, session.ended(), stamp, conflict) {
+        Ok(way) => if waits {
+            Gone::Waits(way)
+        } else {
+            Gone::Dies(way)
+        },
+        Err(_) => Gone::NoMemory,
+    }
+}

@@ -1,0 +1,102 @@
+//! What is said besides ends.
+ghost use Rattle.std.specs.Prelude.{◌≡◌};
+ghost use Rattle.city_live.specs.Heard.{IsSeenAt};
+ghost use Rattle.city_live.specs.Serving.{Follows};
+
+use super::Talks;
+use crate::answer::{Answer, Blocked, Fault, Name, What};
+use crate::request::Tag;
+use city_members::copied::Copied;
+use city_model::OutOfMemory;
+use city_model::command::Cause;
+use std::sync::Arc;
+
+impl Talks {
+    /// Answers a request by what is seen of what has ended.
+    pub fn say(&mut self, hand: &Name, tag: Tag, what: What)
+        requires { IsSeenAt self.old.session.start self.old.session.closed what }
+        ensures { Follows self.old self.new }
+    {
+        if let Ok(hand) = Arc::try_clone(hand) {
+            self.log.says(None, Answer { hand, tag, what });
+        }
+    }
+
+    /// Refuses a request.
+    pub fn refuse(&mut self, hand: &Name, tag: Tag, fault: Fault)
+        ensures { Follows self.old self.new }
+    {
+        self.say(hand, tag, What::Fault(fault));
+    }
+
+    /// Tells of a transaction's beginning.
+    pub fn tell_begun(&mut self, stamp: u64)
+        ensures { Follows self.old self.new }
+    {
+        let Some(transaction) = self.session.transaction(stamp) else {
+            return;
+        };
+        let since = transaction.since();
+        let Some(hand) = self.table.hand_of_idle(stamp) else {
+            return;
+        };
+        let tag = self.table.answer(stamp);
+        let what = What::Began(since);
+        self.log.says(Some(stamp), Answer { hand, tag, what });
+    }
+
+    /// Tells of an undone command or commit of a transaction, which is open as before.
+    pub fn tell_fault(&mut self, stamp: u64, fault: Fault)
+        ensures { Follows self.old self.new }
+    {
+        let Some(hand) = self.table.hand_of_single(stamp) else {
+            return;
+        };
+        let tag = self.table.answer(stamp);
+        let what = What::Fault(fault);
+        self.log.says(Some(stamp), Answer { hand, tag, what });
+    }
+
+    /// Tells of a refused commit of a transaction, which goes on.
+    pub fn tell_refused(&mut self, stamp: u64, cause: Cause)
+        ensures { Follows self.old self.new }
+    {
+        let Some(transaction) = self.session.transaction(stamp) else {
+            return;
+        };
+        let place = transaction.commands();
+        let Some(hand) = self.table.hand_of_idle(stamp) else {
+            return;
+        };
+        let tag = self.table.answer(stamp);
+        let what = What::Refused(place, cause);
+        self.log.says(Some(stamp), Answer { hand, tag, what });
+    }
+
+    /// Tells that a waiting request is given up.
+    pub fn tell_cancelled(&mut self, stamp: u64)
+        ensures { Follows self.old self.new }
+    {
+        let Some(hand) = self.table.hand(stamp) else {
+            return;
+        };
+        let tag = self.table.answer(stamp);
+        let what = What::Cancelled;
+        self.log.says(Some(stamp), Answer { hand, tag, what });
+    }
+
+    /// Tells that a request waits. If memory runs out, nothing is said.
+    pub fn tell_waits(&mut self, stamp: u64, blocked: Blocked) -> Result<(), OutOfMemory>
+        ensures { Follows self.old self.new }
+    {
+        let Some(work) = self.table.get(stamp) else {
+            return Ok(());
+        };
+        let hand = Arc::try_clone(work.hand())?;
+        let tag = work.tag().copy(self.alloc)?;
+        let what = What::Waits(blocked);
+        self.log.says(Some(stamp), Answer { hand, tag, what });
+        self.table.tell(stamp);
+        Ok(())
+    }
+}
