@@ -1,19 +1,22 @@
 //! A persistent sequence in a balanced tree.
-ghost use Rattle.std.specs.Prelude.{◌≡◌, ◌∷◌, ◌++◌, ◌<◌, ◌≤◌, ◌==◌, ◌+◌, [], length, take, drop, suc, IfOk};
+ghost use Rattle.std.specs.Prelude.{◌≡◌, ◌∷◌, ◌++◌, ◌+◌, ◌<◌, ◌≤◌, ◌==◌, [], length, take, drop, slice_get, IfOk};
 
-
-
-
-
-
+use crate::OutOfMemory;
+use crate::branch::{balanced, branch, parted};
+use crate::built::taken_off;
+use crate::copied::Copied;
+use crate::leaf::{LEAF_LENGTH, leaf_of, owned, with_item};
+use std::alloc::Global;
 use std::marker::Model;
 use std::sync::Arc;
 
-/// A sequence of items.
+/// A sequence of items. A copy shares them, and a change copies only the nodes on the way to its
+/// place, or none that no other tree holds.
 #[cycle(tree)]
 #[derive(Drop)]
 pub struct Tree<E> {
     pub(crate) count: usize,
+    /// Branches on the longest way down. Only the time of a call may depend on it.
     pub(crate) height: u8,
     pub(crate) node: Node<E>,
 }
@@ -26,6 +29,7 @@ pub(crate) enum Node<E> {
     Branch(Arc<Pair<E>>),
 }
 
+/// The two sides of a branch.
 #[cycle(tree)]
 #[derive(Drop)]
 pub(crate) struct Pair<E> {
@@ -63,10 +67,216 @@ impl<E> Tree<E> {
         }
     }
 
+    /// The tree of a vector's items. Takes them over. Fails only when out of memory.
+    pub fn from_vec(alloc: Global, items: Vec<E>) -> Result<Self, OutOfMemory>
+    where
+        E: Drop,
+        ensures { IfOk result (λ tree. tree ≡ items.items) }
+    {
+        if items.len() <= LEAF_LENGTH {
+            return leaf_of(alloc, items);
+        }
+        let mut left = items;
+        let count = left.len();
+        taken_off(alloc, &mut left, count)
+    }
+
     /// How many items there are. Doesn't allocate.
     pub fn len(&self) -> usize
         ensures { result ≡ length self.now }
     {
         self.count
+    }
+
+    /// Whether there is no item. Doesn't allocate.
+    pub fn is_empty(&self) -> bool
+        ensures { result ≡ (length self.now == 0) }
+    {
+        self.count == 0
+    }
+
+    /// The items from a place on, up to the end of a leaf. Doesn't allocate.
+    pub fn leaf_at(&self, at: usize) -> &[E]
+        ensures items { result.now ≡ take (length result.now) (drop at self.now) }
+        ensures some { at < length self.now → 0 < length result.now }
+    {
+        match &self.node {
+            Node::Empty => &[],
+            Node::Leaf(items) => items.get(at..).unwrap_or(&[]),
+            Node::Branch(pair) => {
+                let middle = pair.left.count;
+                if at < middle {
+                    pair.left.leaf_at(at)
+                } else {
+                    pair.right.leaf_at(at - middle)
+                }
+            }
+        }
+    }
+
+    /// The item at a place, if there is one. Doesn't allocate.
+    pub fn get(&self, at: usize) -> Option<&E> {
+        self.leaf_at(at).first()
+    }
+
+    /// The first item, if there is one. Doesn't allocate.
+    pub fn first(&self) -> Option<&E> {
+        self.get(0)
+    }
+
+    /// The last item, if there is one. Doesn't allocate.
+    pub fn last(&self) -> Option<&E> {
+        match self.count.checked_sub(1) {
+            Some(at) => self.get(at),
+            None => None,
+        }
+    }
+
+    /// The items, and one more at a place.
+    pub fn with(self, alloc: Global, at: usize, item: E) -> Result<Self, OutOfMemory>
+    where
+        E: Copied + Drop,
+        requires { at ≤ length self }
+        ensures { IfOk result (λ tree. tree ≡ take at self ++ item ∷ drop at self) }
+    {
+        match self.node {
+            Node::Empty => one(alloc, item),
+            Node::Leaf(items) => with_item(alloc, items, at, item),
+            Node::Branch(pair) => {
+                let Pair { left, right } = parted(pair)?;
+                let middle = left.len();
+                if at < middle {
+                    let left = left.with(alloc, at, item)?;
+                    balanced(alloc, left, right)
+                } else {
+                    let right = right.with(alloc, at - middle, item)?;
+                    balanced(alloc, left, right)
+                }
+            }
+        }
+    }
+
+    /// The items, and one more at the end.
+    pub fn push(self, alloc: Global, item: E) -> Result<Self, OutOfMemory>
+    where
+        E: Copied + Drop,
+        ensures { IfOk result (λ tree. tree ≡ self ++ item ∷ []) }
+    {
+        let at = self.count;
+        self.with(alloc, at, item)
+    }
+
+    /// The items but the one at a place.
+    pub fn without(self, alloc: Global, at: usize) -> Result<Self, OutOfMemory>
+    where
+        E: Copied + Drop,
+        requires { at < length self }
+        ensures { IfOk result (λ tree. tree ≡ take at self ++ drop (at + 1) self) }
+    {
+        match self.node {
+            Node::Empty => Ok(Tree::new()),
+            Node::Leaf(items) => {
+                let mut items = owned(alloc, items)?;
+                drop(items.remove(at));
+                leaf_of(alloc, items)
+            }
+            Node::Branch(pair) => {
+                let Pair { left, right } = parted(pair)?;
+                let middle = left.len();
+                if at < middle {
+                    let left = left.without(alloc, at)?;
+                    balanced(alloc, left, right)
+                } else {
+                    let right = right.without(alloc, at - middle)?;
+                    balanced(alloc, left, right)
+                }
+            }
+        }
+    }
+
+    /// The items, with another in place of the one at a place.
+    pub fn replaced(self, alloc: Global, at: usize, item: E) -> Result<Self, OutOfMemory>
+    where
+        E: Copied + Drop,
+        requires { at < length self }
+        ensures { IfOk result (λ tree. tree ≡ take at self ++ item ∷ drop (at + 1) self) }
+    {
+        match self.node {
+            Node::Empty => Ok(Tree::new()),
+            Node::Leaf(items) => {
+                let mut items = owned(alloc, items)?;
+                items[at] = item;
+                leaf_of(alloc, items)
+            }
+            Node::Branch(pair) => {
+                let Pair { left, right } = parted(pair)?;
+                let middle = left.len();
+                if at < middle {
+                    let left = left.replaced(alloc, at, item)?;
+                    branch(alloc, left, right)
+                } else {
+                    let right = right.replaced(alloc, at - middle, item)?;
+                    branch(alloc, left, right)
+                }
+            }
+        }
+    }
+
+    /// How many items there are before the first that the test refuses, if none comes after it
+    /// that the test takes.
+    pub fn partition_point<P: FnMut(&E) -> bool>(&self, mut pred: P) -> usize {
+        let mut below = self;
+        let mut before = 0;
+        while let Node::Branch(pair) = &below.node {
+            let is_right = match pair.right.first() {
+                Some(first) => pred(first),
+                None => false,
+            };
+            if is_right {
+                before += pair.left.count;
+                below = &pair.right;
+            } else {
+                below = &pair.left;
+            }
+        }
+        match &below.node {
+            Node::Leaf(items) => before + items.partition_point(pred),
+            _ => before,
+        }
+    }
+
+    /// The same items, shared.
+    pub(crate) fn shared(&self) -> Result<Self, OutOfMemory>
+    where
+        E: Drop,
+        ensures { IfOk result (λ tree. tree ≡ self.now) }
+    {
+        let node = match &self.node {
+            Node::Empty => Node::Empty,
+            Node::Leaf(items) => Node::Leaf(items.clone()?),
+            Node::Branch(pair) => Node::Branch(pair.clone()?),
+        };
+        Ok(Tree {
+            count: self.count,
+            height: self.height,
+            node,
+        })
+    }
+}
+
+/// A tree of one item.
+fn one<E>(alloc: Global, item: E) -> Result<Tree<E>, OutOfMemory>
+where
+    E: Drop,
+    ensures { IfOk result (λ tree. tree ≡ item ∷ []) }
+{
+    let mut items = Vec::new(alloc);
+    items.push(item)?;
+    leaf_of(alloc, items)
+}
+
+impl<E: Drop> Copied for Tree<E> {
+    fn copy(&self, _alloc: Global) -> Result<Tree<E>, OutOfMemory> {
+        self.shared()
     }
 }
