@@ -1,5 +1,5 @@
 //! Two trees put together.
-ghost use Rattle.std.specs.Prelude.{◌≡◌, ◌++◌, IfOk, IfErr};
+ghost use Rattle.std.specs.Prelude.{◌≡◌, ◌++◌, ◌<◌, length, IfOk, IfErr, OnOk};
 ghost use Rattle.std.specs.Arc.{arc_value};
 
 use crate::OutOfMemory;
@@ -7,7 +7,27 @@ use crate::copied::Copied;
 use crate::leaf::{JOINED_LENGTH, leaf_of, of_leaf, owned};
 use crate::tree::{Node, Pair, Tree};
 use std::alloc::Global;
+use std::mem;
 use std::sync::Arc;
+
+/// The tree of a branch. Doesn't allocate: it fails only where the items are too many to be counted.
+fn of_branch<E>(pair: Arc<Pair<E>>) -> Result<Tree<E>, OutOfMemory>
+where
+    E: Drop,
+    requires left { 0 < length (arc_value pair).left }
+    requires right { 0 < length (arc_value pair).right }
+    ensures { IfOk result (λ tree. tree ≡ (arc_value pair).left ++ (arc_value pair).right) }
+{
+    let Some(count) = pair.left.count.checked_add(pair.right.count) else {
+        return Err(OutOfMemory);
+    };
+    let height = pair.left.height.max(pair.right.height).saturating_add(1);
+    Ok(Tree {
+        count,
+        height,
+        node: Node::Branch(pair),
+    })
+}
 
 /// The items of two trees, in a branch; or one of the trees, if the other has no items.
 pub(crate) fn branch<E: Drop>(
@@ -23,30 +43,86 @@ pub(crate) fn branch<E: Drop>(
     if right.count == 0 {
         return Ok(left);
     }
-    let Some(count) = left.count.checked_add(right.count) else {
-        return Err(OutOfMemory);
-    };
-    let height = left.height.max(right.height).saturating_add(1);
     let pair = Arc::new(alloc, Pair { left, right })?;
-    Ok(Tree {
-        count,
-        height,
-        node: Node::Branch(pair),
-    })
+    let tree = of_branch(pair)?;
+    Ok(tree)
 }
 
-/// The sides of a branch: shared, if other trees hold it too.
-pub(crate) fn parted<E: Drop>(pair: Arc<Pair<E>>) -> Result<Pair<E>, OutOfMemory>
-    ensures { IfOk result (λ sides. sides ≡ arc_value pair) }
+/// The sides of a branch: taken out of it, or shared with the other trees that hold it.
+pub(crate) fn parted<E: Drop>(pair: &mut Arc<Pair<E>>) -> Result<Pair<E>, OutOfMemory>
+    ensures { IfOk result (λ sides. sides ≡ arc_value pair.old) }
 {
-    match Arc::try_unwrap(pair) {
-        Ok(pair) => Ok(pair),
-        Err(shared) => {
-            let left = shared.left.shared()?;
-            let right = shared.right.shared()?;
-            Ok(Pair { left, right })
+    if let Some(sides) = Arc::get_mut(pair) {
+        let empty = Pair {
+            left: Tree::new(),
+            right: Tree::new(),
+        };
+        return Ok(mem::replace(sides, empty));
+    }
+    let left = pair.left.shared()?;
+    let right = pair.right.shared()?;
+    Ok(Pair { left, right })
+}
+
+/// Puts sides into a branch, unless another tree holds it. Doesn't allocate.
+fn refill<E: Drop>(pair: &mut Arc<Pair<E>>, sides: Pair<E>) -> Result<(), Pair<E>>
+    ensures ok { OnOk result (arc_value pair.new ≡ sides) }
+    ensures err { IfErr result (λ back. back ≡ sides) }
+{
+    match Arc::get_mut(pair) {
+        Some(place) => {
+            *place = sides;
+            Ok(())
+        }
+        None => Err(sides),
+    }
+}
+
+/// The items of two trees, balanced as `balanced` does, in a branch that was parted if it can be.
+pub(crate) fn settled<E: Copied + Drop>(
+    alloc: Global,
+    pair: Arc<Pair<E>>,
+    left: Tree<E>,
+    right: Tree<E>,
+) -> Result<Tree<E>, OutOfMemory>
+    ensures { IfOk result (λ tree. tree ≡ left ++ right) }
+{
+    if !is_level(&left, &right) || left.count == 0 || right.count == 0 {
+        return balanced(alloc, left, right);
+    }
+    refilled(alloc, pair, left, right)
+}
+
+/// The items of two trees, in a branch that was parted, or in a new one if another tree holds it.
+fn refilled<E: Drop>(
+    alloc: Global,
+    pair: Arc<Pair<E>>,
+    left: Tree<E>,
+    right: Tree<E>,
+) -> Result<Tree<E>, OutOfMemory>
+    requires left { 0 < length left }
+    requires right { 0 < length right }
+    ensures { IfOk result (λ tree. tree ≡ left ++ right) }
+{
+    let mut pair = pair;
+    match refill(&mut pair, Pair { left, right }) {
+        Ok(()) => {
+            let tree = of_branch(pair)?;
+            Ok(tree)
+        }
+        Err(Pair { left, right }) => {
+            let tree = branch(alloc, left, right)?;
+            Ok(tree)
         }
     }
+}
+
+/// Whether two trees can be the sides of a branch as they are. Only time and room may depend on it.
+fn is_level<E>(left: &Tree<E>, right: &Tree<E>) -> bool {
+    if left.height == 0 && right.height == 0 {
+        return left.count.saturating_add(right.count) > JOINED_LENGTH;
+    }
+    left.height <= right.height.saturating_add(1) && right.height <= left.height.saturating_add(1)
 }
 
 /// The sides of a tree: of one that is no branch, the tree and an empty one.
@@ -62,7 +138,10 @@ fn sides<E: Drop>(tree: Tree<E>) -> Result<Pair<E>, OutOfMemory>
             left: of_leaf(items),
             right: Tree::new(),
         }),
-        Node::Branch(pair) => parted(pair),
+        Node::Branch(pair) => {
+            let mut pair = pair;
+            parted(&mut pair)
+        }
     }
 }
 
@@ -198,12 +277,17 @@ fn into_leaf<E>(tree: Tree<E>) -> Result<Arc<Vec<E>>, Tree<E>>
     ensures ok { IfOk result (λ items. (arc_value items).items ≡ tree) }
     ensures err { IfErr result (λ same. same ≡ tree) }
 {
-    match tree.node {
+    let Tree {
+        count,
+        height,
+        node,
+    } = tree;
+    match node {
         Node::Empty => Err(Tree::new()),
         Node::Leaf(items) => Ok(items),
         Node::Branch(pair) => Err(Tree {
-            count: tree.count,
-            height: tree.height,
+            count,
+            height,
             node: Node::Branch(pair),
         }),
     }

@@ -1,5 +1,5 @@
 //! The items of a leaf.
-ghost use Rattle.std.specs.Prelude.{◌≡◌, ◌∷◌, ◌++◌, ◌≤◌, length, take, drop, IfOk};
+ghost use Rattle.std.specs.Prelude.{◌≡◌, ◌∷◌, ◌++◌, ◌+◌, ◌<◌, ◌≤◌, length, take, drop, IfOk};
 ghost use Rattle.std.specs.Arc.{arc_value};
 
 use crate::OutOfMemory;
@@ -79,6 +79,30 @@ pub(crate) fn with_item<E: Copied + Drop>(
     leaf_of(alloc, items)
 }
 
+/// The items of a leaf, with another in place of the one at a place.
+pub(crate) fn with_other<E: Copied + Drop>(
+    alloc: Global,
+    items: Arc<Vec<E>>,
+    at: usize,
+    item: E,
+) -> Result<Tree<E>, OutOfMemory>
+    requires { at < length (arc_value items).items }
+    ensures { IfOk result (λ tree. tree ≡ take at (arc_value items).items ++ item ∷ drop (at + 1) (arc_value items).items) }
+{
+    let mut items = owned(alloc, items)?;
+    put(items.as_mut_slice(), at, item);
+    let tree = leaf_of(alloc, items)?;
+    Ok(tree)
+}
+
+/// Puts an item into a place.
+fn put<E: Drop>(items: &mut [E], at: usize, item: E)
+    requires { at < length items.old }
+    ensures { items.new ≡ take at items.old ++ item ∷ drop (at + 1) items.old }
+{
+    items[at] = item;
+}
+
 /// The items, and one more at a place, in two leaves.
 fn halves<E: Drop>(
     alloc: Global,
@@ -94,9 +118,18 @@ fn halves<E: Drop>(
     let mut right = left.split_off(middle)?;
     if at < middle {
         left.insert(at, item)?;
-    } else {
-        right.insert(at - middle, item)?;
+        let tree = two(alloc, left, right)?;
+        return Ok(tree);
     }
+    right.insert(at - middle, item)?;
+    let tree = two(alloc, left, right)?;
+    Ok(tree)
+}
+
+/// The tree of two leaves.
+fn two<E: Drop>(alloc: Global, left: Vec<E>, right: Vec<E>) -> Result<Tree<E>, OutOfMemory>
+    ensures { IfOk result (λ tree. tree ≡ left.items ++ right.items) }
+{
     let left = leaf_of(alloc, left)?;
     let right = leaf_of(alloc, right)?;
     branch(alloc, left, right)

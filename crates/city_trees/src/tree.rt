@@ -1,11 +1,14 @@
 //! A persistent sequence in a balanced tree.
 ghost use Rattle.std.specs.Prelude.{◌≡◌, ◌∷◌, ◌++◌, ◌+◌, ◌<◌, ◌≤◌, ◌==◌, [], length, take, drop, slice_get, IfOk};
+ghost use Rattle.std.specs.Prelude.{◌-◌};
+ghost use Rattle.std.specs.Option.{option_copied};
+ghost use Rattle.city_trees.specs.Shapes.{shape_items, HasParts};
 
 use crate::OutOfMemory;
-use crate::branch::{balanced, branch, parted};
+use crate::branch::{parted, settled};
 use crate::built::taken_off;
 use crate::copied::Copied;
-use crate::leaf::{LEAF_LENGTH, leaf_of, owned, with_item};
+use crate::leaf::{LEAF_LENGTH, leaf_of, owned, with_item, with_other};
 use std::alloc::Global;
 use std::marker::Model;
 use std::sync::Arc;
@@ -35,6 +38,14 @@ pub(crate) enum Node<E> {
 pub(crate) struct Pair<E> {
     pub(crate) left: Tree<E>,
     pub(crate) right: Tree<E>,
+}
+
+/// What a tree is made of.
+pub enum Shape<'a, E> {
+    /// All items.
+    Leaf(&'a [E]),
+    /// The trees of the first items and of the others. Each has some.
+    Sides(&'a Tree<E>, &'a Tree<E>),
 }
 
 impl<E> Model for Tree<E> {
@@ -78,7 +89,8 @@ impl<E> Tree<E> {
         }
         let mut left = items;
         let count = left.len();
-        taken_off(alloc, &mut left, count)
+        let tree = taken_off(alloc, &mut left, count)?;
+        Ok(tree)
     }
 
     /// How many items there are. Doesn't allocate.
@@ -104,29 +116,37 @@ impl<E> Tree<E> {
             Node::Empty => &[],
             Node::Leaf(items) => items.get(at..).unwrap_or(&[]),
             Node::Branch(pair) => {
-                let middle = pair.left.count;
+                let Pair { left, right } = &**pair;
+                let middle = left.len();
                 if at < middle {
-                    pair.left.leaf_at(at)
+                    left.leaf_at(at)
                 } else {
-                    pair.right.leaf_at(at - middle)
+                    right.leaf_at(at - middle)
                 }
             }
         }
     }
 
     /// The item at a place, if there is one. Doesn't allocate.
-    pub fn get(&self, at: usize) -> Option<&E> {
+    pub fn get(&self, at: usize) -> Option<&E>
+        ensures { option_copied result ≡ slice_get self.now at }
+    {
         self.leaf_at(at).first()
     }
 
     /// The first item, if there is one. Doesn't allocate.
-    pub fn first(&self) -> Option<&E> {
+    pub fn first(&self) -> Option<&E>
+        ensures { option_copied result ≡ slice_get self.now 0 }
+    {
         self.get(0)
     }
 
     /// The last item, if there is one. Doesn't allocate.
-    pub fn last(&self) -> Option<&E> {
-        match self.count.checked_sub(1) {
+    #[tactic(auto, using(std::proofs::lemmas::Option::slice_get_past))]
+    pub fn last(&self) -> Option<&E>
+        ensures { option_copied result ≡ slice_get self.now (length self.now - 1) }
+    {
+        match self.len().checked_sub(1) {
             Some(at) => self.get(at),
             None => None,
         }
@@ -140,17 +160,26 @@ impl<E> Tree<E> {
         ensures { IfOk result (λ tree. tree ≡ take at self ++ item ∷ drop at self) }
     {
         match self.node {
-            Node::Empty => one(alloc, item),
-            Node::Leaf(items) => with_item(alloc, items, at, item),
+            Node::Empty => {
+                let tree = one(alloc, item)?;
+                Ok(tree)
+            }
+            Node::Leaf(items) => {
+                let tree = with_item(alloc, items, at, item)?;
+                Ok(tree)
+            }
             Node::Branch(pair) => {
-                let Pair { left, right } = parted(pair)?;
+                let mut pair = pair;
+                let Pair { left, right } = parted(&mut pair)?;
                 let middle = left.len();
                 if at < middle {
                     let left = left.with(alloc, at, item)?;
-                    balanced(alloc, left, right)
+                    let tree = settled(alloc, pair, left, right)?;
+                    Ok(tree)
                 } else {
                     let right = right.with(alloc, at - middle, item)?;
-                    balanced(alloc, left, right)
+                    let tree = settled(alloc, pair, left, right)?;
+                    Ok(tree)
                 }
             }
         }
@@ -162,8 +191,9 @@ impl<E> Tree<E> {
         E: Copied + Drop,
         ensures { IfOk result (λ tree. tree ≡ self ++ item ∷ []) }
     {
-        let at = self.count;
-        self.with(alloc, at, item)
+        let at = self.len();
+        let tree = self.with(alloc, at, item)?;
+        Ok(tree)
     }
 
     /// The items but the one at a place.
@@ -178,17 +208,21 @@ impl<E> Tree<E> {
             Node::Leaf(items) => {
                 let mut items = owned(alloc, items)?;
                 drop(items.remove(at));
-                leaf_of(alloc, items)
+                let tree = leaf_of(alloc, items)?;
+                Ok(tree)
             }
             Node::Branch(pair) => {
-                let Pair { left, right } = parted(pair)?;
+                let mut pair = pair;
+                let Pair { left, right } = parted(&mut pair)?;
                 let middle = left.len();
                 if at < middle {
                     let left = left.without(alloc, at)?;
-                    balanced(alloc, left, right)
+                    let tree = settled(alloc, pair, left, right)?;
+                    Ok(tree)
                 } else {
                     let right = right.without(alloc, at - middle)?;
-                    balanced(alloc, left, right)
+                    let tree = settled(alloc, pair, left, right)?;
+                    Ok(tree)
                 }
             }
         }
@@ -204,44 +238,41 @@ impl<E> Tree<E> {
         match self.node {
             Node::Empty => Ok(Tree::new()),
             Node::Leaf(items) => {
-                let mut items = owned(alloc, items)?;
-                items[at] = item;
-                leaf_of(alloc, items)
+                let tree = with_other(alloc, items, at, item)?;
+                Ok(tree)
             }
             Node::Branch(pair) => {
-                let Pair { left, right } = parted(pair)?;
+                let mut pair = pair;
+                let Pair { left, right } = parted(&mut pair)?;
                 let middle = left.len();
                 if at < middle {
                     let left = left.replaced(alloc, at, item)?;
-                    branch(alloc, left, right)
+                    let tree = settled(alloc, pair, left, right)?;
+                    Ok(tree)
                 } else {
                     let right = right.replaced(alloc, at - middle, item)?;
-                    branch(alloc, left, right)
+                    let tree = settled(alloc, pair, left, right)?;
+                    Ok(tree)
                 }
             }
         }
     }
 
-    /// How many items there are before the first that the test refuses, if none comes after it
-    /// that the test takes.
-    pub fn partition_point<P: FnMut(&E) -> bool>(&self, mut pred: P) -> usize {
-        let mut below = self;
-        let mut before = 0;
-        while let Node::Branch(pair) = &below.node {
-            let is_right = match pair.right.first() {
-                Some(first) => pred(first),
-                None => false,
-            };
-            if is_right {
-                before += pair.left.count;
-                below = &pair.right;
-            } else {
-                below = &pair.left;
+    /// The items, or the two sides that they stand in. Doesn't allocate.
+    ///
+    /// By the first item of the right side, or the last one of the left, a search goes on in one of
+    /// them: the sides are about as long.
+    pub fn shape(&self) -> Shape<'_, E>
+        ensures items { shape_items result ≡ self.now }
+        ensures parts { HasParts result }
+    {
+        match &self.node {
+            Node::Empty => Shape::Leaf(&[]),
+            Node::Leaf(items) => Shape::Leaf(items.as_slice()),
+            Node::Branch(pair) => {
+                let Pair { left, right } = &**pair;
+                Shape::Sides(left, right)
             }
-        }
-        match &below.node {
-            Node::Leaf(items) => before + items.partition_point(pred),
-            _ => before,
         }
     }
 
