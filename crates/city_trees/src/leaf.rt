@@ -104,12 +104,7 @@ fn put<E: Drop>(items: &mut [E], at: usize, item: E)
 }
 
 /// The items, and one more at a place, in two leaves.
-fn halves<E: Drop>(
-    alloc: Global,
-    items: Vec<E>,
-    at: usize,
-    item: E,
-) -> Result<Tree<E>, OutOfMemory>
+fn halves<E: Drop>(alloc: Global, items: Vec<E>, at: usize, item: E) -> Result<Tree<E>, OutOfMemory>
     requires { at ≤ length items.items }
     ensures { IfOk result (λ tree. tree ≡ take at items.items ++ item ∷ drop at items.items) }
 {

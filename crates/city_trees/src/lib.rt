@@ -13,7 +13,6 @@ mod built;
 pub mod copied;
 pub mod items;
 mod leaf;
-mod probe;
 pub mod tree;
 
 /// The one error for being out of memory, the same unit type in all crates.

@@ -7,7 +7,7 @@ pub returns-else-at-middle-clause-items : goal.returns-else-at-middle-clause-ite
 returns-else-at-middle-clause-items g t c =
     let p = c.deref-in-Branch.result.now in let n = c.args.at - c.len-middle.result in
     let sides : p.left ++ p.right ≡ c.args.self.now =
-        ap (λ s. s.left ++ s.right) c.deref-in-Branch.ensures ∙ (sym (ap items_of c.in-Branch.is) ∙ c.self.view_is) in
+    ap (λ s. s.left ++ s.right) c.deref-in-Branch.ensures ∙ (sym (ap items_of c.in-Branch.is) ∙ c.self.view_is) in
     let l : length p.left + n ≡ c.args.at = omega arith in
     leaf_behind c.leaf_at-else-at-middle.result.now p.left p.right c.args.self.now c.args.at n sides l
     c.leaf_at-else-at-middle.ensures.items
