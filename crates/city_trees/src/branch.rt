@@ -11,6 +11,7 @@ use std::mem;
 use std::sync::Arc;
 
 /// The tree of a branch. Doesn't allocate: it fails only where the items are too many to be counted.
+#[inline(always)]
 fn of_branch<E>(pair: Arc<Pair<E>>) -> Result<Tree<E>, OutOfMemory>
 where
     E: Drop,
@@ -49,6 +50,7 @@ pub(crate) fn branch<E: Drop>(
 }
 
 /// The sides of a branch: taken out of it, or shared with the other trees that hold it.
+#[inline(always)]
 pub(crate) fn parted<E: Drop>(pair: &mut Arc<Pair<E>>) -> Result<Pair<E>, OutOfMemory>
     ensures { IfOk result (λ sides. sides ≡ arc_value pair.old) }
 {
@@ -65,6 +67,7 @@ pub(crate) fn parted<E: Drop>(pair: &mut Arc<Pair<E>>) -> Result<Pair<E>, OutOfM
 }
 
 /// Puts sides into a branch, unless another tree holds it. Doesn't allocate.
+#[inline(always)]
 fn refill<E: Drop>(pair: &mut Arc<Pair<E>>, sides: Pair<E>) -> Result<(), Pair<E>>
     ensures ok { OnOk result (arc_value pair.new ≡ sides) }
     ensures err { IfErr result (λ back. back ≡ sides) }
@@ -79,6 +82,7 @@ fn refill<E: Drop>(pair: &mut Arc<Pair<E>>, sides: Pair<E>) -> Result<(), Pair<E
 }
 
 /// The items of two trees, balanced as `balanced` does, in a branch that was parted if it can be.
+#[inline(always)]
 pub(crate) fn settled<E: Copied + Drop>(
     alloc: Global,
     pair: Arc<Pair<E>>,
@@ -94,6 +98,7 @@ pub(crate) fn settled<E: Copied + Drop>(
 }
 
 /// The items of two trees, in a branch that was parted, or in a new one if another tree holds it.
+#[inline(always)]
 fn refilled<E: Drop>(
     alloc: Global,
     pair: Arc<Pair<E>>,
@@ -118,6 +123,7 @@ fn refilled<E: Drop>(
 }
 
 /// Whether two trees can be the sides of a branch as they are. Only time and room may depend on it.
+#[inline(always)]
 fn is_level<E>(left: &Tree<E>, right: &Tree<E>) -> bool {
     if left.height == 0 && right.height == 0 {
         return left.count.saturating_add(right.count) > JOINED_LENGTH;
