@@ -5,6 +5,7 @@
 //! - `leaf`: the items of a leaf
 //! - `built`: the tree of a vector's items
 //! - `items`: the items one by one
+//! - `search`: where the items stop that a test takes
 //! - `copied`: copies
 #![tactic(auto)]
 
@@ -13,6 +14,7 @@ mod built;
 pub mod copied;
 pub mod items;
 mod leaf;
+mod search;
 pub mod tree;
 
 /// The one error for being out of memory, the same unit type in all crates.
