@@ -1,6 +1,6 @@
 -- Lists cut at a place, of two lists in a row.
 use Rattle.std.proofs.Common.{◌≡◌, ℕ, ◌+◌, ◌-◌, ◌<◌, ◌≤◌, List, [], ◌∷◌, ◌++◌, length, take, drop, refl, sym, ap, subst, ◌∙◌}
-use Rattle.std.proofs.Common.{arith, append_assoc, Option, Some, None, zero, suc, length-append, length-drop}
+use Rattle.std.proofs.Common.{arith, append_assoc, Some, zero, suc}
 use Rattle.std.proofs.lemmas.List.{take-append-le, drop-append-le, take-append-drop, drop-drop, length-take}
 use Rattle.std.proofs.lemmas.List.{drop_min, drop_all, take_all, set_split}
 use Rattle.std.proofs.Math.ListN.{set}

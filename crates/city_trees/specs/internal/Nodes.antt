@@ -1,5 +1,5 @@
 -- The items of a node of a tree, and which nodes stand in one.
-use Rattle.std.specs.Prelude.{ℕ, ◌<◌, List, [], ◌++◌, length}
+use Rattle.std.specs.Prelude.{◌<◌, List, [], ◌++◌, length}
 use Rattle.std.specs.Arc.{arc_value}
 use Rattle.city_trees.specs.declared.tree.Node.{Node}
 use Rattle.city_trees.specs.declared.tree.Node.TheVariants.{Empty, Leaf, Branch}

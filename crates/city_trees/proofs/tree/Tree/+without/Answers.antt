@@ -1,4 +1,4 @@
-use Rattle.std.proofs.Common.{◌≡◌, ◌∷◌, ◌++◌, ◌+◌, ◌-◌, [], length, ap, arith}
+use Rattle.std.proofs.Common.{◌≡◌, ◌++◌, ◌+◌, ◌-◌, [], length, ap, arith}
 use Rattle.city_trees.specs.declared.tree.Node.TheVariants.{Branch}
 use Rattle.city_trees.specs.internal.Nodes.{items_of}
 use Rattle.city_trees.proofs.Lists.{changed_right}

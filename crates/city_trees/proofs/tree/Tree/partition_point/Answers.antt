@@ -1,4 +1,4 @@
-use Rattle.std.proofs.Common.{◌≡◌, ◌+◌, ◌-◌, ◌/◌, true, false, refl, sym, arith, rules, of_calls}
+use Rattle.std.proofs.Common.{◌+◌, ◌-◌, ◌/◌, true, false, refl, sym, arith, rules, of_calls}
 use Rattle.city_trees.proofs.Searches.{called, answers_next, at_place, unhalved, failed, passed, after_passing, at_failing}
 use Rattle.city_trees.proofs.tree.Tree.partition_point.Goals as goal
 
