@@ -1,5 +1,6 @@
 -- Lists cut at a place, of two lists in a row.
-use Rattle.std.proofs.Common.{◌≡◌, ℕ, ◌+◌, ◌-◌, ◌<◌, ◌≤◌, List, [], ◌∷◌, ◌++◌, length, take, drop, refl, sym, ap, subst, ◌∙◌}
+use Rattle.std.proofs.Common.{◌≡◌, ℕ, ◌+◌, ◌-◌, ◌<◌, ◌≤◌, List, [], ◌∷◌, ◌++◌, length, take, drop}
+use Rattle.std.proofs.Common.{refl, sym, ap, subst, ◌∙◌}
 use Rattle.std.proofs.Common.{arith, append_assoc, Some, zero, suc}
 use Rattle.std.proofs.lemmas.List.{take-append-le, drop-append-le, take-append-drop, drop-drop, length-take}
 use Rattle.std.proofs.lemmas.List.{drop_min, drop_all, take_all, set_split}
@@ -73,7 +74,8 @@ pub next_leaf_items : {X : Type 0} (leaf xs : List X) (at next : ℕ) → leaf �
 next_leaf_items leaf xs at next e f =
     ap (λ s. leaf ++ s) (ap (λ k. drop k xs) f ∙ drop_min (at + length leaf) xs) ∙ after_leaf leaf xs at e
 
-pub leaf_end : {X : Type 0} (leaf xs : List X) (at : ℕ) → (at < length xs → 0 < length leaf) → leaf ≡ [] → drop at xs ≡ []
+pub leaf_end : {X : Type 0} (leaf xs : List X) (at : ℕ) → (at < length xs → 0 < length leaf) → leaf ≡ [] →
+    drop at xs ≡ []
 leaf_end leaf xs at h e =
     drop_all at xs (past xs at (λ l. subst (λ s. 0 < length s) e (h l)))
 
@@ -113,7 +115,8 @@ put_front_by at middle x xs left right more tree h k a b f g =
     ∙ ap (λ s. (take at (take middle xs) ++ x ∷ drop at (take middle xs)) ++ s) b ∙ put_front at middle x xs h k
 
 pub put_back : {X : Type 0} (at middle : ℕ) (x : X) (xs : List X) → middle ≤ at → at ≤ length xs →
-    take middle xs ++ (take (at - middle) (drop middle xs) ++ x ∷ drop (at - middle) (drop middle xs)) ≡ take at xs ++ x ∷ drop at xs
+    take middle xs ++ (take (at - middle) (drop middle xs) ++ x ∷ drop (at - middle) (drop middle xs))
+    ≡ take at xs ++ x ∷ drop at xs
 put_back at middle x xs h k =
     let l : length (take middle xs) + (at - middle) ≡ at = omega (arith, length-take middle xs) in
     changed_right at at (at - middle) (at - middle) (x ∷ []) (take middle xs) (drop middle xs) _ _ xs

@@ -11,7 +11,8 @@ false_and_true : {X : Type 0} (b : Bool) → b ≡ true → b ≡ false → X
 false_and_true b e f = absurd (cc)
 
 -- what a call says of its result, and what is left for the calls after it
-pub called : {F X R : Type 0} (g : Mut F X R) {f f' : F} {a : X} {r v : R} → Called g f a r f' → r ≡ v → Called g f a v f'
+pub called : {F X R : Type 0} (g : Mut F X R) {f f' : F} {a : X} {r v : R} → Called g f a r f' → r ≡ v →
+    Called g f a v f'
 called g {f} {f'} {a} h e = subst (λ k. Called g f a k f') e h
 
 pub answers_next : {F X R : Type 0} (g : Mut F X R) (P : X → R → Type 0) (f : F) (a : X) (r : R) (f' : F) →

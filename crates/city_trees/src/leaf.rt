@@ -87,7 +87,8 @@ pub(crate) fn with_other<E: Copied + Drop>(
     item: E,
 ) -> Result<Tree<E>, OutOfMemory>
     requires { at < length (arc_value items).items }
-    ensures { IfOk result (λ tree. tree ≡ take at (arc_value items).items ++ item ∷ drop (at + 1) (arc_value items).items) }
+    ensures { IfOk result (λ tree. tree
+        ≡ take at (arc_value items).items ++ item ∷ drop (at + 1) (arc_value items).items) }
 {
     let mut items = owned(alloc, items)?;
     put(items.as_mut_slice(), at, item);

@@ -1,5 +1,6 @@
 use Rattle.std.proofs.Common.{◌+◌, ◌-◌, ◌/◌, true, false, refl, sym, arith, rules, of_calls}
-use Rattle.city_trees.proofs.Searches.{called, answers_next, at_place, unhalved, failed, passed, after_passing, at_failing}
+use Rattle.city_trees.proofs.Searches.{called, answers_next, at_place, unhalved, failed, passed}
+use Rattle.city_trees.proofs.Searches.{after_passing, at_failing}
 use Rattle.city_trees.proofs.tree.Tree.partition_point.Goals as goal
 
 pub returns-then-size-eq0 : goal.returns-then-size-eq0
@@ -9,12 +10,17 @@ returns-then-size-eq0 g c = record {
 }
 
 pub loop-size-init : goal.loop-size-init
-loop-size-init g c =
-    (omega arith, omega arith, search of_calls, λ p h. (h, unhalved p c.args.self.now c.len-size.result c.len-size.ensures))
+loop-size-init g c = (
+  omega arith,
+  omega arith,
+  search of_calls,
+  λ p h. (h, unhalved p c.args.self.now c.len-size.result c.len-size.ensures),
+)
 
 pub loop-size-preserved-then-pred : goal.loop-size-preserved-then-pred
 loop-size-preserved-then-pred g c =
-    let xs = c.args.self.now in let base = c.loop-size.base in let size = c.loop-size.size in let mid = base + size / 2 in
+    let xs = c.args.self.now in let base = c.loop-size.base in let size = c.loop-size.size in
+    let mid = base + size / 2 in
     let k = called g.P.FnMut c.if-pred.ensures refl in (
       omega arith,
       omega arith,
@@ -30,7 +36,8 @@ loop-size-preserved-then-pred g c =
 
 pub loop-size-preserved : goal.loop-size-preserved
 loop-size-preserved g c =
-    let xs = c.args.self.now in let base = c.loop-size.base in let size = c.loop-size.size in let mid = base + size / 2 in
+    let xs = c.args.self.now in let base = c.loop-size.base in let size = c.loop-size.size in
+    let mid = base + size / 2 in
     let k = called g.P.FnMut c.if-pred.ensures refl in (
       omega arith,
       omega arith,
