@@ -1,0 +1,3 @@
+pub mod Items
+pub mod Shapes
+pub mod internal
