@@ -6,12 +6,13 @@
 //! - `built`: the tree of a vector's items
 //! - `items`: the items one by one
 //! - `search`: where the items stop that a test takes
-//! - `copied`: copies
+//! - `copied`, `item`: copies, and a value that they share
 #![tactic(auto)]
 
 mod branch;
 mod built;
 pub mod copied;
+pub mod item;
 pub mod items;
 mod leaf;
 mod search;
