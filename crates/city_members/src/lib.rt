@@ -17,4 +17,4 @@ pub mod shared;
 pub mod text;
 
 /// The one error for being out of memory, the same unit type in all crates.
-pub use city_trees::OutOfMemory;
+pub use std::alloc::AllocError as OutOfMemory;

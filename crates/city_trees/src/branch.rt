@@ -3,7 +3,7 @@ ghost use Rattle.std.specs.Prelude.{◌≡◌, ◌++◌, ◌<◌, length, IfOk, 
 ghost use Rattle.std.specs.Arc.{arc_value};
 
 use crate::OutOfMemory;
-use crate::copied::Copied;
+use crate::item::Item;
 use crate::leaf::{JOINED_LENGTH, leaf_of, of_leaf, owned};
 use crate::tree::{Node, Pair, Tree};
 use std::alloc::Global;
@@ -61,8 +61,8 @@ pub(crate) fn parted<E: Drop>(pair: &mut Arc<Pair<E>>) -> Result<Pair<E>, OutOfM
         };
         return Ok(mem::replace(sides, empty));
     }
-    let left = pair.left.shared()?;
-    let right = pair.right.shared()?;
+    let left = pair.left.copy()?;
+    let right = pair.right.copy()?;
     Ok(Pair { left, right })
 }
 
@@ -83,7 +83,7 @@ fn refill<E: Drop>(pair: &mut Arc<Pair<E>>, sides: Pair<E>) -> Result<(), Pair<E
 
 /// The items of two trees, balanced as `balanced` does, in a branch that was parted if it can be.
 #[inline(always)]
-pub(crate) fn settled<E: Copied + Drop>(
+pub(crate) fn settled<E: Drop>(
     alloc: Global,
     pair: Arc<Pair<E>>,
     left: Tree<E>,
@@ -153,7 +153,7 @@ fn sides<E: Drop>(tree: Tree<E>) -> Result<Pair<E>, OutOfMemory>
 
 /// The items of two trees. If each is balanced and one is higher than the other by two at most, it
 /// is balanced too.
-pub(crate) fn balanced<E: Copied + Drop>(
+pub(crate) fn balanced<E: Drop>(
     alloc: Global,
     left: Tree<E>,
     right: Tree<E>,
@@ -234,11 +234,7 @@ fn four<E: Drop>(
 }
 
 /// The items of two trees, in one leaf if that has few.
-fn joined<E: Copied + Drop>(
-    alloc: Global,
-    left: Tree<E>,
-    right: Tree<E>,
-) -> Result<Tree<E>, OutOfMemory>
+fn joined<E: Drop>(alloc: Global, left: Tree<E>, right: Tree<E>) -> Result<Tree<E>, OutOfMemory>
     ensures { IfOk result (λ tree. tree ≡ left ++ right) }
 {
     if left.count.saturating_add(right.count) > JOINED_LENGTH {
@@ -251,9 +247,9 @@ fn joined<E: Copied + Drop>(
 }
 
 /// The items of a leaf and of a tree, in one leaf if the tree is one.
-fn with_leaf<E: Copied + Drop>(
+fn with_leaf<E: Drop>(
     alloc: Global,
-    items: Arc<Vec<E>>,
+    items: Arc<Vec<Item<E>>>,
     right: Tree<E>,
 ) -> Result<Tree<E>, OutOfMemory>
     ensures { IfOk result (λ tree. tree ≡ (arc_value items).items ++ right) }
@@ -265,10 +261,10 @@ fn with_leaf<E: Copied + Drop>(
 }
 
 /// The items of two leaves in one.
-fn one_leaf<E: Copied + Drop>(
+fn one_leaf<E: Drop>(
     alloc: Global,
-    items: Arc<Vec<E>>,
-    others: Arc<Vec<E>>,
+    items: Arc<Vec<Item<E>>>,
+    others: Arc<Vec<Item<E>>>,
 ) -> Result<Tree<E>, OutOfMemory>
     ensures { IfOk result (λ tree. tree ≡ (arc_value items).items ++ (arc_value others).items) }
 {
@@ -279,7 +275,7 @@ fn one_leaf<E: Copied + Drop>(
 }
 
 /// The items of a tree that is one leaf, or else the tree. Doesn't allocate.
-fn into_leaf<E>(tree: Tree<E>) -> Result<Arc<Vec<E>>, Tree<E>>
+fn into_leaf<E>(tree: Tree<E>) -> Result<Arc<Vec<Item<E>>>, Tree<E>>
     ensures ok { IfOk result (λ items. (arc_value items).items ≡ tree) }
     ensures err { IfErr result (λ same. same ≡ tree) }
 {

@@ -3,6 +3,7 @@ ghost use Rattle.std.specs.Prelude.{◌≡◌, ◌++◌, ◌≤◌, length, IfOk
 
 use crate::OutOfMemory;
 use crate::branch::branch;
+use crate::item::Item;
 use crate::leaf::{LEAF_LENGTH, leaf_of};
 use crate::tree::Tree;
 use std::alloc::Global;
@@ -10,7 +11,7 @@ use std::alloc::Global;
 /// Takes so many items off the end of a vector, and makes a tree of them.
 pub(crate) fn taken_off<E: Drop>(
     alloc: Global,
-    items: &mut Vec<E>,
+    items: &mut Vec<Item<E>>,
     count: usize,
 ) -> Result<Tree<E>, OutOfMemory>
     requires { count ≤ length items.old.items }

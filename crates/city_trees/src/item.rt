@@ -2,7 +2,6 @@
 ghost use Rattle.std.specs.Prelude.{◌≡◌, IfOk};
 
 use crate::OutOfMemory;
-use crate::copied::Copied;
 use std::alloc::Global;
 use std::marker::Model;
 use std::sync::Arc;
@@ -38,10 +37,13 @@ impl<T> Item<T> {
     {
         &self.value
     }
-}
 
-impl<T: Drop> Copied for Item<T> {
-    fn copy(&self, _alloc: Global) -> Result<Item<T>, OutOfMemory> {
+    /// The same value, shared. Fails only when out of memory.
+    pub fn copy(&self) -> Result<Self, OutOfMemory>
+    where
+        T: Drop,
+        ensures { IfOk result (λ item. item ≡ self.now) }
+    {
         let value = self.value.clone()?;
         Ok(Item { value })
     }

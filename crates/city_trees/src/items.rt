@@ -3,26 +3,27 @@ ghost use Rattle.std.specs.Prelude.{◌≡◌, ◌++◌, [], drop};
 ghost use Rattle.std.specs.Iterator.{YieldsFirstRef, item_count};
 ghost use Rattle.city_trees.specs.Items.{items_left};
 
+use crate::item::Item;
 use crate::tree::Tree;
 
 /// The items of a tree, in order. Doesn't allocate.
 #[derive(Drop)]
 pub struct Items<'a, E> {
     /// The items left of a leaf.
-    pub(crate) slice: &'a [E],
+    pub(crate) slice: &'a [Item<E>],
     pub(crate) tree: &'a Tree<E>,
     /// Where the next leaf begins.
     pub(crate) at: usize,
 }
 
 impl<'a, E> Iterator for Items<'a, E> {
-    type Item = &'a E;
+    type Item = &'a Item<E>;
 
     ghost next_gives = { YieldsFirstRef items_left };
 
     ghost remaining = { item_count items_left };
 
-    fn next(&mut self) -> Option<&'a E> {
+    fn next(&mut self) -> Option<&'a Item<E>> {
         if let Some((first, others)) = self.slice.split_first() {
             self.slice = others;
             return Some(first);
@@ -36,7 +37,7 @@ impl<'a, E> Iterator for Items<'a, E> {
 }
 
 /// The items of the leaf at a place, and where the next one begins.
-fn next_leaf<E>(tree: &Tree<E>, at: usize) -> (&[E], usize)
+fn next_leaf<E>(tree: &Tree<E>, at: usize) -> (&[Item<E>], usize)
     ensures items { result.0.now ++ drop result.1 tree.now ≡ drop at tree.now }
     ensures end { result.0.now ≡ [] → drop at tree.now ≡ [] }
 {

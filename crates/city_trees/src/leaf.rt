@@ -4,7 +4,7 @@ ghost use Rattle.std.specs.Arc.{arc_value};
 
 use crate::OutOfMemory;
 use crate::branch::branch;
-use crate::copied::Copied;
+use crate::item::Item;
 use crate::tree::{Node, Tree};
 use std::alloc::Global;
 use std::sync::Arc;
@@ -16,7 +16,7 @@ pub(crate) const LEAF_LENGTH: usize = 64;
 pub(crate) const JOINED_LENGTH: usize = 48;
 
 /// The tree of a leaf. Doesn't allocate.
-pub(crate) fn of_leaf<E>(items: Arc<Vec<E>>) -> Tree<E>
+pub(crate) fn of_leaf<E>(items: Arc<Vec<Item<E>>>) -> Tree<E>
     ensures { result ≡ (arc_value items).items }
 {
     Tree {
@@ -27,7 +27,7 @@ pub(crate) fn of_leaf<E>(items: Arc<Vec<E>>) -> Tree<E>
 }
 
 /// The tree of one leaf, or none.
-pub(crate) fn leaf_of<E: Drop>(alloc: Global, items: Vec<E>) -> Result<Tree<E>, OutOfMemory>
+pub(crate) fn leaf_of<E: Drop>(alloc: Global, items: Vec<Item<E>>) -> Result<Tree<E>, OutOfMemory>
     ensures { IfOk result (λ tree. tree ≡ items.items) }
 {
     if items.is_empty() {
@@ -38,10 +38,10 @@ pub(crate) fn leaf_of<E: Drop>(alloc: Global, items: Vec<E>) -> Result<Tree<E>, 
 }
 
 /// The items of a leaf: copies, if other trees hold it too.
-pub(crate) fn owned<E: Copied + Drop>(
+pub(crate) fn owned<E: Drop>(
     alloc: Global,
-    items: Arc<Vec<E>>,
-) -> Result<Vec<E>, OutOfMemory>
+    items: Arc<Vec<Item<E>>>,
+) -> Result<Vec<Item<E>>, OutOfMemory>
     ensures { IfOk result (λ owned. owned.items ≡ (arc_value items).items) }
 {
     match Arc::try_unwrap(items) {
@@ -51,22 +51,22 @@ pub(crate) fn owned<E: Copied + Drop>(
 }
 
 /// Copies of the items, with room for one more.
-fn copies<E: Copied + Drop>(alloc: Global, items: &[E]) -> Result<Vec<E>, OutOfMemory>
+fn copies<E: Drop>(alloc: Global, items: &[Item<E>]) -> Result<Vec<Item<E>>, OutOfMemory>
     ensures { IfOk result (λ copies. copies.items ≡ items.now) }
 {
     let mut copies = Vec::with_capacity(alloc, items.len().saturating_add(1))?;
     for item in items {
-        copies.push(item.copy(alloc)?)?;
+        copies.push(item.copy()?)?;
     }
     Ok(copies)
 }
 
 /// The items of a leaf, and one more at a place: in two leaves, if one is too small for them.
-pub(crate) fn with_item<E: Copied + Drop>(
+pub(crate) fn with_item<E: Drop>(
     alloc: Global,
-    items: Arc<Vec<E>>,
+    items: Arc<Vec<Item<E>>>,
     at: usize,
-    item: E,
+    item: Item<E>,
 ) -> Result<Tree<E>, OutOfMemory>
     requires { at ≤ length (arc_value items).items }
     ensures { IfOk result (λ tree. tree ≡ take at (arc_value items).items ++ item ∷ drop at (arc_value items).items) }
@@ -80,11 +80,11 @@ pub(crate) fn with_item<E: Copied + Drop>(
 }
 
 /// The items of a leaf, with another in place of the one at a place.
-pub(crate) fn with_other<E: Copied + Drop>(
+pub(crate) fn with_other<E: Drop>(
     alloc: Global,
-    items: Arc<Vec<E>>,
+    items: Arc<Vec<Item<E>>>,
     at: usize,
-    item: E,
+    item: Item<E>,
 ) -> Result<Tree<E>, OutOfMemory>
     requires { at < length (arc_value items).items }
     ensures { IfOk result (λ tree. tree
@@ -97,7 +97,7 @@ pub(crate) fn with_other<E: Copied + Drop>(
 }
 
 /// Puts an item into a place.
-fn put<E: Drop>(items: &mut [E], at: usize, item: E)
+fn put<E: Drop>(items: &mut [Item<E>], at: usize, item: Item<E>)
     requires { at < length items.old }
     ensures { items.new ≡ take at items.old ++ item ∷ drop (at + 1) items.old }
 {
@@ -105,7 +105,12 @@ fn put<E: Drop>(items: &mut [E], at: usize, item: E)
 }
 
 /// The items, and one more at a place, in two leaves.
-fn halves<E: Drop>(alloc: Global, items: Vec<E>, at: usize, item: E) -> Result<Tree<E>, OutOfMemory>
+fn halves<E: Drop>(
+    alloc: Global,
+    items: Vec<Item<E>>,
+    at: usize,
+    item: Item<E>,
+) -> Result<Tree<E>, OutOfMemory>
     requires { at ≤ length items.items }
     ensures { IfOk result (λ tree. tree ≡ take at items.items ++ item ∷ drop at items.items) }
 {
@@ -123,7 +128,11 @@ fn halves<E: Drop>(alloc: Global, items: Vec<E>, at: usize, item: E) -> Result<T
 }
 
 /// The tree of two leaves.
-fn two<E: Drop>(alloc: Global, left: Vec<E>, right: Vec<E>) -> Result<Tree<E>, OutOfMemory>
+fn two<E: Drop>(
+    alloc: Global,
+    left: Vec<Item<E>>,
+    right: Vec<Item<E>>,
+) -> Result<Tree<E>, OutOfMemory>
     ensures { IfOk result (λ tree. tree ≡ left.items ++ right.items) }
 {
     let left = leaf_of(alloc, left)?;

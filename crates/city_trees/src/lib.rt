@@ -5,17 +5,14 @@
 //! - `leaf`: the items of a leaf
 //! - `built`: the tree of a vector's items
 //! - `items`: the items one by one
-//! - `search`: where the items stop that a test takes
-//! - `copied`, `item`: copies, and a value that they share
+//! - `item`: an item, shared by copies
 #![tactic(auto)]
 
 mod branch;
 mod built;
-pub mod copied;
 pub mod item;
 pub mod items;
 mod leaf;
-mod search;
 pub mod tree;
 
 /// The one error for being out of memory, the same unit type in all crates.

@@ -7,7 +7,7 @@ ghost use Rattle.city_trees.specs.Shapes.{shape_items, HasParts};
 use crate::OutOfMemory;
 use crate::branch::{parted, settled};
 use crate::built::taken_off;
-use crate::copied::Copied;
+use crate::item::Item;
 use crate::leaf::{LEAF_LENGTH, leaf_of, owned, with_item, with_other};
 use std::alloc::Global;
 use std::marker::Model;
@@ -28,7 +28,7 @@ pub struct Tree<E> {
 #[derive(Drop)]
 pub(crate) enum Node<E> {
     Empty,
-    Leaf(Arc<Vec<E>>),
+    Leaf(Arc<Vec<Item<E>>>),
     Branch(Arc<Pair<E>>),
 }
 
@@ -43,7 +43,7 @@ pub(crate) struct Pair<E> {
 /// What a tree is made of.
 pub enum Shape<'a, E> {
     /// All items.
-    Leaf(&'a [E]),
+    Leaf(&'a [Item<E>]),
     /// The trees of the first items and of the others. Each has some.
     Sides(&'a Tree<E>, &'a Tree<E>),
 }
@@ -79,7 +79,7 @@ impl<E> Tree<E> {
     }
 
     /// The tree of a vector's items. Takes them over. Fails only when out of memory.
-    pub fn from_vec(alloc: Global, items: Vec<E>) -> Result<Self, OutOfMemory>
+    pub fn from_vec(alloc: Global, items: Vec<Item<E>>) -> Result<Self, OutOfMemory>
     where
         E: Drop,
         ensures { IfOk result (λ tree. tree ≡ items.items) }
@@ -108,7 +108,7 @@ impl<E> Tree<E> {
     }
 
     /// The items from a place on, up to the end of a leaf. Doesn't allocate.
-    pub fn leaf_at(&self, at: usize) -> &[E]
+    pub fn leaf_at(&self, at: usize) -> &[Item<E>]
         ensures items { result.now ≡ take (length result.now) (drop at self.now) }
         ensures some { at < length self.now → 0 < length result.now }
     {
@@ -128,14 +128,14 @@ impl<E> Tree<E> {
     }
 
     /// The item at a place, if there is one. Doesn't allocate.
-    pub fn get(&self, at: usize) -> Option<&E>
+    pub fn get(&self, at: usize) -> Option<&Item<E>>
         ensures { option_copied result ≡ slice_get self.now at }
     {
         self.leaf_at(at).first()
     }
 
     /// The first item, if there is one. Doesn't allocate.
-    pub fn first(&self) -> Option<&E>
+    pub fn first(&self) -> Option<&Item<E>>
         ensures { option_copied result ≡ slice_get self.now 0 }
     {
         self.get(0)
@@ -143,7 +143,7 @@ impl<E> Tree<E> {
 
     /// The last item, if there is one. Doesn't allocate.
     #[tactic(auto, using(std::proofs::lemmas::Option::slice_get_past))]
-    pub fn last(&self) -> Option<&E>
+    pub fn last(&self) -> Option<&Item<E>>
         ensures { option_copied result ≡ slice_get self.now (length self.now - 1) }
     {
         match self.len().checked_sub(1) {
@@ -153,9 +153,9 @@ impl<E> Tree<E> {
     }
 
     /// The items, and one more at a place.
-    pub fn with(self, alloc: Global, at: usize, item: E) -> Result<Self, OutOfMemory>
+    pub fn with(self, alloc: Global, at: usize, item: Item<E>) -> Result<Self, OutOfMemory>
     where
-        E: Copied + Drop,
+        E: Drop,
         requires { at ≤ length self }
         ensures { IfOk result (λ tree. tree ≡ take at self ++ item ∷ drop at self) }
     {
@@ -186,9 +186,9 @@ impl<E> Tree<E> {
     }
 
     /// The items, and one more at the end.
-    pub fn push(self, alloc: Global, item: E) -> Result<Self, OutOfMemory>
+    pub fn push(self, alloc: Global, item: Item<E>) -> Result<Self, OutOfMemory>
     where
-        E: Copied + Drop,
+        E: Drop,
         ensures { IfOk result (λ tree. tree ≡ self ++ item ∷ []) }
     {
         let at = self.len();
@@ -199,7 +199,7 @@ impl<E> Tree<E> {
     /// The items but the one at a place.
     pub fn without(self, alloc: Global, at: usize) -> Result<Self, OutOfMemory>
     where
-        E: Copied + Drop,
+        E: Drop,
         requires { at < length self }
         ensures { IfOk result (λ tree. tree ≡ take at self ++ drop (at + 1) self) }
     {
@@ -229,9 +229,9 @@ impl<E> Tree<E> {
     }
 
     /// The items, with another in place of the one at a place.
-    pub fn replaced(self, alloc: Global, at: usize, item: E) -> Result<Self, OutOfMemory>
+    pub fn replaced(self, alloc: Global, at: usize, item: Item<E>) -> Result<Self, OutOfMemory>
     where
-        E: Copied + Drop,
+        E: Drop,
         requires { at < length self }
         ensures { IfOk result (λ tree. tree ≡ take at self ++ item ∷ drop (at + 1) self) }
     {
@@ -276,8 +276,8 @@ impl<E> Tree<E> {
         }
     }
 
-    /// The same items, shared.
-    pub(crate) fn shared(&self) -> Result<Self, OutOfMemory>
+    /// The same items, shared. Fails only when out of memory.
+    pub fn copy(&self) -> Result<Self, OutOfMemory>
     where
         E: Drop,
         ensures { IfOk result (λ tree. tree ≡ self.now) }
@@ -296,7 +296,7 @@ impl<E> Tree<E> {
 }
 
 /// A tree of one item.
-fn one<E>(alloc: Global, item: E) -> Result<Tree<E>, OutOfMemory>
+fn one<E>(alloc: Global, item: Item<E>) -> Result<Tree<E>, OutOfMemory>
 where
     E: Drop,
     ensures { IfOk result (λ tree. tree ≡ item ∷ []) }
@@ -304,10 +304,4 @@ where
     let mut items = Vec::new(alloc);
     items.push(item)?;
     leaf_of(alloc, items)
-}
-
-impl<E: Drop> Copied for Tree<E> {
-    fn copy(&self, _alloc: Global) -> Result<Tree<E>, OutOfMemory> {
-        self.shared()
-    }
 }
