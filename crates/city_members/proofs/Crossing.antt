@@ -4,7 +4,7 @@ use Rattle.std.proofs.Crossing as values
 use Rattle.std.proofs.MapsCrossing as maps
 use Rattle.serde_json.proofs.value.Value.TheLaws.TheKnot as json
 use Rattle.city_members.proofs.kept.few_members.FewMembers.TheLaws.TheKnot as kept
-use Rattle.city_members.specs.contracts.kept.member_list.MemberList as MemberList
+use Rattle.city_trees.proofs.Crossing.{tree_sends, tree_syncs}
 use Rattle.city_members.specs.contracts.kept.shared_extra.SharedExtra as SharedExtra
 use Rattle.city_members.specs.contracts.kept.shared_members.SharedMembers as SharedMembers
 use Rattle.city_members.specs.contracts.text.Text as Text
@@ -15,25 +15,19 @@ text_sends = search (maps.crosses, values.crosses, sendable) depth 60 fits 20000
 pub text_syncs : IsSync Text.the_field.row
 text_syncs = search (maps.crosses, values.crosses, sendable) depth 60 fits 20000
 
--- the kept members of an object, list by list
-list_sends : IsSend MemberList.the_field.row
-list_sends = search (values.crosses, kept.crosses, sendable) depth 60 fits 20000
-
-list_syncs : IsSync MemberList.the_field.row
-list_syncs = search (values.crosses, kept.crosses, sendable) depth 60 fits 20000
-
+-- the kept members of an object
 members_sends : IsSend SharedMembers.the_field.row
-members_sends = search (list_sends, list_syncs, values.crosses, sendable) depth 60 fits 20000
+members_sends = search (tree_sends, values.crosses, kept.crosses, sendable) depth 60 fits 20000
 
 members_syncs : IsSync SharedMembers.the_field.row
-members_syncs = search (list_sends, list_syncs, values.crosses, sendable) depth 60 fits 20000
+members_syncs = search (tree_syncs, values.crosses, kept.crosses, sendable) depth 60 fits 20000
 
 pub extra_sends : IsSend SharedExtra.the_field.row
 extra_sends =
-    search (members_sends, members_syncs, maps.crosses, values.crosses, json.crosses, kept.crosses, sendable)
+    search (members_sends, maps.crosses, values.crosses, json.crosses, kept.crosses, sendable)
     depth 60 fits 20000
 
 pub extra_syncs : IsSync SharedExtra.the_field.row
 extra_syncs =
-    search (members_sends, members_syncs, maps.crosses, values.crosses, json.crosses, kept.crosses, sendable)
+    search (members_syncs, maps.crosses, values.crosses, json.crosses, kept.crosses, sendable)
     depth 60 fits 20000

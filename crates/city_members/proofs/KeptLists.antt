@@ -1,7 +1,8 @@
 -- The lists of kept values: read, pushed, and put in their places.
 use Rattle.city_members.proofs.Prelude.{◌≡◌, ℕ, ◌<◌, ◌≤◌, ◌+◌, ◌==◌, List, [], ◌∷◌, ◌++◌, length, get_or, drop, map}
 use Rattle.city_members.proofs.Prelude.{take}
-use Rattle.city_members.proofs.Prelude.{refl, sym, ap, ◌∙◌, arith, member, no_members, string_bytes}
+use Rattle.city_members.proofs.Prelude.{refl, sym, ap, ◌∙◌, arith, member, no_members, None, option_map, string_bytes}
+use Rattle.city_members.proofs.Prelude.{Some}
 use Rattle.city_members.proofs.Prelude.{Less, Equal, Ordering, exact_bytes, nat_cmp, slice_cmp, subst}
 use Rattle.std.proofs.Common.{Greater, String, Global, length-append}
 use Rattle.std.specs.BTreeMap.{insert_entry}
@@ -10,6 +11,7 @@ use Rattle.std.specs.List.Sorted.{IsStrictlySortedBy}
 use Rattle.std.specs.Map.{keys_of}
 use Rattle.std.specs.Ordering.{match_ordering}
 use Rattle.std.specs.String.{string_cmp}
+use Rattle.std.proofs.lemmas.Option.{slice_get_read}
 use Rattle.std.proofs.lemmas.List.{drop_at, drop_more, length-take-le, take_at, take_more, take-append-drop}
 use Rattle.serde_json.specs.Data.{Data, Members, put}
 use Rattle.serde_json.specs.View.{items_of}
@@ -20,6 +22,9 @@ use Rattle.city_members.specs.internal.MemberPlaces.{IsAt, IsPlaceFor}
 use Rattle.city_members.specs.Kept.{has_no_member}
 use Rattle.city_members.specs.Members.{without, AllAbove, AreOrdered}
 use Rattle.city_members.proofs.Ids.{same_id_itself}
+use Rattle.serde_json.specs.Find.{get_member}
+use Rattle.city_members.proofs.AttributeLaws.{put-without}
+use Rattle.city_members.proofs.MemberLists.{get_member-above, get_member-joined_below}
 use Rattle.city_members.proofs.MemberLists.{above_below, ordered_right, put-above, put-joined_below}
 use Rattle.city_members.proofs.MemberLists.{without-above, without-joined_below}
 use Rattle.city_members.proofs.Puts.{back}
@@ -83,6 +88,10 @@ below_last (y ∷ xs) x name h below = (h.0, below_last xs x name h.1 below)
 without_same : (name k : List ℕ) (d : Data) (ms : Members) → k ≡ name → without name (member k d ms) ≡ without name ms
 without_same name k d ms same = rw (same, same_id_itself name) refl
 
+first_value : (name k : List ℕ) (d : Data) (ms : Members) → slice_cmp nat_cmp name k ≡ Equal
+    → get_member name (member k d ms) ≡ Some d
+first_value name k d ms equal = rw equal refl
+
 pub below_next : (xs : List Pair) (i : ℕ) (x : Pair) (name : List ℕ) → i < length xs → x ≡ get_or xs i x
     → slice_cmp nat_cmp name (string_bytes x.0) ≡ Greater → AllBelow (members_data (take i xs)) name
     → AllBelow (members_data (take (i + 1) xs)) name
@@ -122,6 +131,10 @@ module _ (xs : List Pair) (name : List ℕ) (i : ℕ) (below : AllBelow (members
           within = within;
           below = below;
           above = above;
+          value =
+              ap (get_member name) (sym (split_pairs xs i)) ∙ get_member-joined_below name (members_data (take i xs)) _ below
+              ∙ ap (get_member name) (next_pair xs i x within is) ∙ first_value name (string_bytes x.0) _ _ equal
+              ∙ sym (ap (option_map (λ m. value_data m.1)) (slice_get_read xs (length xs) i x refl within is));
           without_it =
               without_behind
               ∙ ap (joined (members_data (take i xs)))
@@ -140,6 +153,11 @@ module _ (xs : List Pair) (name : List ℕ) (i : ℕ) where
       ∙ sym (put-above name (value_data x.1) _ h.above))
       ∙ sym (put-joined_below name (value_data x.1) (members_data (take i xs)) _ h.below)
       ∙ ap (put name (value_data x.1)) (split_pairs xs i)
+
+  pub value_free : IsPlaceFor xs name i → get_member name (members_data xs) ≡ None
+  value_free h =
+      ap (get_member name) (sym (split_pairs xs i)) ∙ get_member-joined_below name (members_data (take i xs)) _ h.below
+      ∙ get_member-above name _ h.above
 
   pub without_free : IsPlaceFor xs name i → members_data xs ≡ without name (members_data xs)
   without_free h =
@@ -167,6 +185,19 @@ module _ (xs : List Pair) (name : List ℕ) (i : ℕ) where
 
     pub data_left : members_data left ≡ without name (members_data xs)
     data_left = members_data-append (take i xs) (drop (i + 1) xs) ∙ sym h.without_it
+
+-- replaced
+pub put_at : (xs : List Pair) (name : List ℕ) (i : ℕ) → IsAt xs name i → (x : Pair) → string_bytes x.0 ≡ name
+    → AreOrdered (members_data xs)
+    → members_data (take i xs ++ x ∷ drop (i + 1) xs) ≡ put name (value_data x.1) (members_data xs)
+put_at xs name i h x named ordered =
+    let left : List Pair = take i xs ++ drop (i + 1) xs in
+    let first : length (take i xs) ≡ i = length-take-le i xs (omega (arith, h.within)) in
+    ap (λ ys. members_data (ys ++ x ∷ drop (i + 1) xs)) (sym (take_at (take i xs) (drop (i + 1) xs) i first))
+    ∙ ap (λ ys. members_data (take i left ++ x ∷ ys)) (sym (drop_at (take i xs) (drop (i + 1) xs) i first))
+    ∙ put_free left name i x named (place_left xs name i h)
+    ∙ ap (put name (value_data x.1)) (data_left xs name i h)
+    ∙ put-without name (value_data x.1) (members_data xs) ordered
 
 -- ---- no members
 

@@ -3,9 +3,9 @@ pub mod Crossing
 pub mod Ids
 pub mod KeptIn
 mod KeptLists
-pub mod ListPlaces
 pub mod MemberLaws
 pub mod MemberLists
+mod MemberSides
 pub mod Prelude
 pub mod Puts
 pub mod SameValues

@@ -1,20 +1,14 @@
--- Lists of members one behind the other: finding, putting and taking out a name at the list that reaches it.
-use Rattle.city_members.proofs.Prelude.{◌≡◌, ℕ, ◌<◌, ◌==◌, ◌-◌, List, [], ◌∷◌, ◌++◌, Bool, true, false, length}
-use Rattle.city_members.proofs.Prelude.{get_or}
-use Rattle.city_members.proofs.Prelude.{take, drop, refl, sym, ap, ◌∙◌, arith, None, Ordering, Less, Equal}
-use Rattle.city_members.proofs.Prelude.{no_members, member, slice_cmp, nat_cmp, is_lt, nat_list_cmp_total, same_id}
-use Rattle.city_members.proofs.Prelude.{arc_value, string_bytes, not, ◌||◌, exact_bytes, subst}
-use Rattle.std.proofs.Common.{String, Global, Greater}
-use Rattle.std.specs.Ordering.{ordering_reverse, is_ge}
-use Rattle.std.specs.declared.sync.Arc.{Arc}
-use Rattle.city_members.specs.Kept.{has_no_member}
-use Rattle.std.proofs.lemmas.List.{take-append-drop}
+-- Members, some behind others: finding, putting and taking out a name.
+use Rattle.city_members.proofs.Prelude.{◌≡◌, ℕ, List, Bool, true, false}
+use Rattle.city_members.proofs.Prelude.{refl, sym, ap, ◌∙◌, arith, None, Ordering, Less, Equal}
+use Rattle.city_members.proofs.Prelude.{no_members, member, slice_cmp, nat_cmp, nat_list_cmp_total, same_id}
+use Rattle.city_members.proofs.Prelude.{exact_bytes}
+use Rattle.std.proofs.Common.{Greater}
+use Rattle.std.specs.Ordering.{ordering_reverse}
 use Rattle.serde_json.specs.Data.{Data, Members, put}
-use Rattle.city_members.specs.declared.kept.kept_value.KeptValue.{KeptValue}
-use Rattle.city_members.specs.internal.KeptValues.{value_data}
 use Rattle.serde_json.specs.Find.{get_member}
 use Rattle.city_members.specs.Members.{without, AllAbove, AreOrdered}
-use Rattle.city_members.specs.internal.MemberLists.{Entries, entries_view, joined, reaches, AllBelow}
+use Rattle.city_members.specs.internal.MemberLists.{joined, AllBelow}
 
 -- ---- one list behind another
 
@@ -25,21 +19,6 @@ joined-none (member k d ms) = ap (member k d) (joined-none ms)
 pub joined-assoc : (ls ms ns : Members) → joined (joined ls ms) ns ≡ joined ls (joined ms ns)
 joined-assoc no_members ms ns = refl
 joined-assoc (member k d ls) ms ns = ap (member k d) (joined-assoc ls ms ns)
-
-pub entries_view-append : (xs ys : Entries) → entries_view (xs ++ ys) ≡ joined (entries_view xs) (entries_view ys)
-entries_view-append [] ys = refl
-entries_view-append (x ∷ xs) ys = grind (arith, entries_view-append xs ys)
-
-pub split_entries : (es : Entries) (n : ℕ) → joined (entries_view (take n es)) (entries_view (drop n es))
-    ≡ entries_view es
-split_entries es n = sym (entries_view-append (take n es) (drop n es)) ∙ ap entries_view (take-append-drop n es)
-
--- an entry behind others
-pub entry_last : (es : Entries) (e : Arc (String Global × KeptValue) Global) (ms : Members)
-    → joined (entries_view (es ++ e ∷ [])) ms
-    ≡ joined (entries_view es) (member (string_bytes (arc_value e).0) (value_data (arc_value e).1) ms)
-entry_last [] e ms = refl
-entry_last (x ∷ es) e ms = grind (arith, entry_last es e ms)
 
 -- ---- the order of names
 
@@ -84,40 +63,7 @@ pub below_second : (ms ns : Members) (k : List ℕ) → AllBelow (joined ms ns) 
 below_second no_members ns k h = h
 below_second (member l d ms) ns k h = below_second ms ns k h.1
 
--- ---- names not reached, and names reached
-
-is_less : (o : Ordering) → is_lt o ≡ true → o ≡ Less
-is_less o h = grind arith
-
-pub not_reached : (ms : Members) (k : List ℕ) → reaches ms k ≡ false → AllBelow ms k
-not_reached no_members k h = tt
-not_reached (member l d ms) k h = (grind (arith, is_less), not_reached ms k (grind arith))
-
--- if l isn't below k, and is below i, then k is below i
-above_at : (o : Ordering) (k l i : List ℕ) → slice_cmp nat_cmp l k ≡ o → is_lt o ≡ false
-    → slice_cmp nat_cmp l i ≡ Less → slice_cmp nat_cmp k i ≡ Less
-above_at Less k l i is not_less h = grind arith
-above_at Equal k l i is not_less h = subst (λ q. slice_cmp nat_cmp q i ≡ Less) (exact_bytes l k is) h
-above_at Greater k l i is not_less h =
-    nat_list_cmp_total.trans k l i (nat_list_cmp_total.antisymm k l ∙ ap ordering_reverse is) h
-
-above_from : (k l : List ℕ) (ms : Members) → is_lt (slice_cmp nat_cmp l k) ≡ false → AllAbove l ms → AllAbove k ms
-above_from k l no_members h all = tt
-above_from k l (member i e ms) h all =
-    (above_at (slice_cmp nat_cmp l k) k l i refl h all.0, above_from k l ms h all.1)
-
-reached_at : (b : Bool) (k l : List ℕ) (ms ns : Members) → is_lt (slice_cmp nat_cmp l k) ≡ b
-    → AllAbove l (joined ms ns) → (not b || reaches ms k) ≡ true → (reaches ms k ≡ true → AllAbove k ns)
-    → AllAbove k ns
-reached_at true k l ms ns is all h later = later h
-reached_at false k l ms ns is all h later = above_from k l ns is (above_right l ms ns all)
-
-pub above_rest : (ms ns : Members) (k : List ℕ) → AreOrdered (joined ms ns) → reaches ms k ≡ true → AllAbove k ns
-above_rest no_members ns k h reached = grind arith
-above_rest (member l d ms) ns k h reached =
-    reached_at (is_lt (slice_cmp nat_cmp l k)) k l ms ns refl h.0 reached (above_rest ms ns k h.1)
-
--- ---- found, put and taken out in the list that reaches the name
+-- ---- found, put and taken out on one side
 
 pub get_member-above : (k : List ℕ) (ns : Members) → AllAbove k ns → get_member k ns ≡ None
 get_member-above k no_members h = refl
@@ -225,52 +171,3 @@ pub put_last : (k : List ℕ) (d : Data) (ms ns : Members) → AreOrdered (joine
 put_last k d no_members ns h = refl
 put_last k d (member l e ms) ns h =
     rw (turned l k (above_right l ms (member k d ns) h.0).0) (ap (member l e) (put_last k d ms ns h.1))
-
--- ---- the last name says whether a name is reached
-
--- if k isn't below the name, nor is l, above k
-kept_reached : (name k l : List ℕ) → slice_cmp nat_cmp k l ≡ Less → is_lt (slice_cmp nat_cmp k name) ≡ false
-    → is_lt (slice_cmp nat_cmp l name) ≡ false
-kept_reached name k l below not_less = at (slice_cmp nat_cmp l name) refl
-  where
-    at : (o : Ordering) → slice_cmp nat_cmp l name ≡ o → is_lt (slice_cmp nat_cmp l name) ≡ false
-    at Less is = grind (arith, nat_list_cmp_total.trans k l name below is)
-    at Equal is = rw is refl
-    at Greater is = rw is refl
-
-above_last : (k : List ℕ) (es : Entries) (e : Arc (String Global × KeptValue) Global) → 0 < length es
-    → e ≡ get_or es (length es - 1) e → AllAbove k (entries_view es)
-    → slice_cmp nat_cmp k (string_bytes (arc_value e).0) ≡ Less
-above_last k [] e some is h = absurd (omega arith)
-above_last k (x ∷ []) e some is h = grind arith
-above_last k (x ∷ (y ∷ es)) e some is h = above_last k (y ∷ es) e (omega arith) (grind arith) h.1
-
-reaches_more : (b c : Bool) (x y name : List ℕ) (rest : Bool) → is_lt (slice_cmp nat_cmp x name) ≡ b
-    → rest ≡ c → (b ≡ false → c ≡ true) → (not b || rest) ≡ c
-reaches_more true c x y name rest is h g = h
-reaches_more false c x y name rest is h g = sym (g refl)
-
-pub reaches_last : (name : List ℕ) (es : Entries) (e : Arc (String Global × KeptValue) Global) → 0 < length es
-    → e ≡ get_or es (length es - 1) e → AreOrdered (entries_view es)
-    → reaches (entries_view es) name ≡ not (is_lt (slice_cmp nat_cmp (string_bytes (arc_value e).0) name))
-reaches_last name [] e some is h = absurd (omega arith)
-reaches_last name (x ∷ []) e some is h = grind arith
-reaches_last name (x ∷ (y ∷ es)) e some is h =
-    let same : e ≡ get_or (y ∷ es) (length (y ∷ es) - 1) e = grind arith in
-    let above : slice_cmp nat_cmp (string_bytes (arc_value x).0) (string_bytes (arc_value e).0) ≡ Less =
-    above_last (string_bytes (arc_value x).0) (y ∷ es) e (omega arith) same h.0 in
-    reaches_more _ _ (string_bytes (arc_value x).0) (string_bytes (arc_value e).0) name _ refl
-    (reaches_last name (y ∷ es) e (omega arith) same h.1)
-    (λ not_less. ap not (kept_reached name (string_bytes (arc_value x).0)
-    (string_bytes (arc_value e).0) above not_less))
-
-pub ge_is : (o : Ordering) → is_ge o ≡ not (is_lt o)
-ge_is Less = refl
-ge_is Equal = refl
-ge_is Greater = refl
-
--- ---- no members
-
-pub has_no_member-entries : (es : Entries) → has_no_member (entries_view es) ≡ (length es == 0)
-has_no_member-entries [] = refl
-has_no_member-entries (e ∷ es) = grind arith

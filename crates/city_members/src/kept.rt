@@ -4,7 +4,6 @@ pub mod extra;
 pub mod few_members;
 pub mod kept_items;
 pub mod kept_value;
-pub mod member_list;
 pub mod members_builder;
 pub mod shared_extra;
 pub mod shared_members;

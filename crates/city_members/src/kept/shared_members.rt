@@ -1,39 +1,38 @@
-//! The members of a JSON object, in lists shared by copies.
-ghost use Rattle.std.specs.Prelude.{◌≡◌, ◌∷◌, ◌<◌, [], List, suc, take, drop, option_map, string_bytes, length, IfOk};
-ghost use Rattle.std.specs.Prelude.{OnOk, IfSome, IfNone};
-ghost use Rattle.std.specs.Arc.{arc_value};
-ghost use Rattle.serde_json.specs.Data.{Members, no_members, member, put};
+//! The members of a JSON object, in a tree shared by copies.
+ghost use Rattle.std.specs.Prelude.{◌≡◌, ◌∷◌, ◌++◌, ◌+◌, option_map, length, string_bytes, IfOk, IfErr, IsTrue, IsFalse};
+ghost use Rattle.serde_json.specs.Data.{put};
 ghost use Rattle.serde_json.specs.Find.{get_member};
 ghost use Rattle.serde_json.specs.View.{members_view};
+ghost use Rattle.city_trees.specs.Items.{items_left};
 ghost use Rattle.city_members.specs.Attributes.{are_among, put_each};
 ghost use Rattle.city_members.specs.Kept.{has_no_member};
-ghost use Rattle.city_members.specs.Members.{without, without_each, AreOrdered};
-ghost use Rattle.city_members.specs.internal.KeptValues.{value_data};
-ghost use Rattle.city_members.specs.internal.MemberLists.{joined, all_joined, IsPlace};
+ghost use Rattle.city_members.specs.Members.{without, without_each, AllAbove, AreOrdered};
+ghost use Rattle.city_members.specs.internal.KeptValues.{value_data, members_data};
+ghost use Rattle.city_members.specs.internal.MemberLists.{joined, AllBelow};
+ghost use Rattle.city_members.specs.internal.MemberPlaces.{IsAt, IsPlaceFor};
 
 use crate::OutOfMemory;
 use crate::copied::Copied;
 use crate::kept::few_members::FewMembers;
 use crate::kept::kept_value::KeptValue;
-use crate::kept::member_list::MemberList;
 use crate::text::Text;
+use city_trees::item::Item;
+use city_trees::items::Items;
+use city_trees::tree::{Shape, Tree};
 use serde_json::{Map, Value};
 use std::alloc::Global;
+use std::cmp::Ordering;
 use std::marker::Model;
-use std::mem;
-use std::sync::Arc;
 
-/// A list of members, shared by objects.
-pub type List = Arc<MemberList>;
+/// A name, and its value.
+pub type Member = (String, KeptValue);
 
-/// The members of a JSON object. A copy shares them, and a change copies one of the lists: an
-/// object may have many attributes, and each command that sets one writes all of them anew.
+/// The members of a JSON object, their names ascending. A copy shares them, and a change copies
+/// none but those of one leaf: an object may have many attributes, and each command that sets one
+/// writes the object anew.
 #[derive(Drop)]
 pub struct SharedMembers {
-    lists: Vec<List>,
-    /// The length of a list at first: about as many members as there are lists, so that a change
-    /// copies as little as can be.
-    room: usize,
+    tree: Tree<Member>,
 }
 
 impl Model for SharedMembers {
@@ -45,71 +44,48 @@ impl Model for SharedMembers {
 
     ghost coded = { coded_members };
 
-    ghost use Rattle.city_members.specs.internal.KeptValues.{value_data};
-    ghost use Rattle.city_members.specs.internal.MemberLists.{all_joined};
+    ghost use Rattle.city_members.specs.internal.KeptValues.{members_data};
 
-    ghost view = { λ a. all_joined a.lists.items };
+    ghost view = { λ a. members_data a.tree };
 
     ghost use Rattle.city_members.specs.Members.{AreOrdered};
 
-    ghost invariant = { λ a. AreOrdered (all_joined a.lists.items) };
-}
-
-/// How long the lists of so many members are.
-fn room_for(count: usize) -> usize {
-    if count <= 1_024 {
-        32
-    } else if count <= 16_384 {
-        128
-    } else if count <= 262_144 {
-        512
-    } else {
-        2048
-    }
+    ghost invariant = { λ a. AreOrdered (members_data a.tree) };
 }
 
 impl SharedMembers {
-    /// The members of one list. Takes over its values.
+    /// The same members, for copies to share. Takes them over.
     pub fn from_few(alloc: Global, few: FewMembers) -> Result<Self, OutOfMemory>
         ensures { IfOk result (λ members. members ≡ few) }
     {
-        let room = room_for(few.len());
-        let mut lists = Vec::new(alloc);
-        let mut last = MemberList::new(alloc);
-        for (name, value) in few.into_vec() {
-            push_last(alloc, &mut lists, &mut last, room, name, value)?;
+        let mut items = Vec::with_capacity(alloc, few.len())?;
+        for member in few.into_vec() {
+            items.push(Item::new(alloc, member)?)?;
         }
-        closed(alloc, lists, last, room)
+        let tree = Tree::from_vec(alloc, items)?;
+        Ok(SharedMembers { tree })
     }
 
-    /// The lists, one behind the other. Doesn't allocate.
-    pub fn lists(&self) -> &[List]
-        ensures members { all_joined result.now ≡ self.now }
+    /// The members by their names. Doesn't allocate.
+    pub fn iter(&self) -> Items<'_, Member>
+        ensures members { members_data (items_left result) ≡ self.now }
         ensures ordered { AreOrdered self.now }
     {
-        self.lists.as_slice()
+        self.tree.iter()
     }
 
     /// Whether there is no member. Doesn't allocate.
     pub fn is_empty(&self) -> bool
         ensures { result ≡ has_no_member self.now }
     {
-        for list in &self.lists {
-            if !list.is_empty() {
-                return false;
-            }
-        }
-        true
+        self.tree.is_empty()
     }
 
     /// The value of a name. Doesn't allocate.
     pub fn get(&self, name: &str) -> Option<&KeptValue>
         ensures { option_map (λ v. value_data v.now) result ≡ get_member name.now self.now }
     {
-        match place(self.lists.as_slice(), name) {
-            Some(at) => self.lists[at].get(name),
-            None => None,
-        }
+        find(&self.tree, name)
     }
 
     /// Whether each of the named members is among these, with the same value. Doesn't allocate.
@@ -126,25 +102,25 @@ impl SharedMembers {
     }
 
     /// The members, and one of this name in its place.
-    pub fn with(self, alloc: Global, name: &str, value: KeptValue) -> Result<Self, OutOfMemory>
-        ensures { IfOk result (λ members. members ≡ put name.now (value_data value) self) }
+    pub fn with(self, alloc: Global, name: String, value: KeptValue) -> Result<Self, OutOfMemory>
+        ensures { IfOk result (λ members. members ≡ put (string_bytes name) (value_data value) self) }
     {
-        let SharedMembers { lists, room } = self;
-        match place(lists.as_slice(), name) {
-            Some(at) => put_at(alloc, lists, room, at, name, value),
-            None => put_first(alloc, lists, room, name, value),
-        }
+        let SharedMembers { tree } = self;
+        let place = place(&tree, name.as_str());
+        let member = Item::new(alloc, (name, value))?;
+        let tree = put_at(alloc, tree, place, member)?;
+        Ok(SharedMembers { tree })
     }
 
     /// The members without the name.
     pub fn without(self, alloc: Global, name: &str) -> Result<Self, OutOfMemory>
         ensures { IfOk result (λ members. members ≡ without name.now self) }
     {
-        let SharedMembers { lists, room } = self;
-        match place(lists.as_slice(), name) {
-            Some(at) => without_at(alloc, lists, room, at, name),
-            None => Ok(SharedMembers { lists, room }),
-        }
+        let Ok(at) = place(&self.tree, name) else {
+            return Ok(self);
+        };
+        let tree = self.tree.without(alloc, at)?;
+        Ok(SharedMembers { tree })
     }
 
     /// The members, and each of the named ones in its place.
@@ -154,7 +130,7 @@ impl SharedMembers {
         let mut members = self;
         for (name, value) in named.iter() {
             let value = KeptValue::from_value(alloc, value.clone()?)?;
-            members = members.with(alloc, name.as_str(), value)?;
+            members = members.with(alloc, name.clone()?, value)?;
         }
         Ok(members)
     }
@@ -173,174 +149,86 @@ impl SharedMembers {
 
 impl Copied for SharedMembers {
     fn copy(&self, _alloc: Global) -> Result<SharedMembers, OutOfMemory> {
-        Ok(SharedMembers {
-            lists: self.lists.clone()?,
-            room: self.room,
-        })
+        let tree = self.tree.copy()?;
+        Ok(SharedMembers { tree })
     }
 }
 
-/// Adds a member behind all others: at the end of the last list, or of a new one if that is full.
-fn push_last(
-    alloc: Global,
-    lists: &mut Vec<List>,
-    last: &mut MemberList,
-    room: usize,
-    name: String,
-    value: KeptValue,
-) -> Result<(), OutOfMemory>
-    ensures { OnOk result ((rest : Members) → joined (all_joined lists.new.items) (joined last.new rest)
-        ≡ joined (all_joined lists.old.items) (joined last.old (member (string_bytes name) (value_data value) rest))) }
-{
-    make_room(alloc, lists, last, room)?;
-    last.push(alloc, name, value)
-}
-
-/// If the last list is full, puts it to the others, and begins another one.
-fn make_room(
-    alloc: Global,
-    lists: &mut Vec<List>,
-    last: &mut MemberList,
-    room: usize,
-) -> Result<(), OutOfMemory>
-    ensures { OnOk result ((rest : Members) → joined (all_joined lists.new.items) (joined last.new rest)
-        ≡ joined (all_joined lists.old.items) (joined last.old rest)) }
-{
-    if last.len() < room {
-        return Ok(());
-    }
-    let full = mem::replace(last, MemberList::new(alloc));
-    let full = Arc::new(alloc, full)?;
-    lists.push(full)?;
-    Ok(())
-}
-
-/// The list with the member of this name, or, if none has it, the list for it. `None` if there is
-/// no list. Doesn't allocate.
-fn place(lists: &[List], name: &str) -> Option<usize>
-    requires { AreOrdered (all_joined lists.now) }
-    ensures some { IfSome result (IsPlace lists.now name.now) }
-    ensures none { IfNone result (lists.now ≡ []) }
-{
-    for (at, list) in lists.iter().enumerate() {
-        if list.reaches(name) {
-            return Some(at);
-        }
-    }
-    last_place(lists)
-}
-
-/// The last list, if there is one.
-fn last_place(lists: &[List]) -> Option<usize>
-    ensures some { IfSome result (λ at. suc at ≡ length lists.now) }
-    ensures none { IfNone result (lists.now ≡ []) }
-{
-    lists.len().checked_sub(1)
-}
-
-/// The members of the lists and of a last one.
-fn closed(
-    alloc: Global,
-    mut lists: Vec<List>,
-    last: MemberList,
-    room: usize,
-) -> Result<SharedMembers, OutOfMemory>
-    requires { AreOrdered (joined (all_joined lists.items) last) }
-    ensures { IfOk result (λ members. members ≡ joined (all_joined lists.items) last) }
-{
-    let last = Arc::new(alloc, last)?;
-    lists.push(last)?;
-    Ok(SharedMembers { lists, room })
-}
-
-/// The members of no list, and one.
-fn put_first(
-    alloc: Global,
-    lists: Vec<List>,
-    room: usize,
-    name: &str,
-    value: KeptValue,
-) -> Result<SharedMembers, OutOfMemory>
-    requires { lists.items ≡ [] }
-    ensures { IfOk result (λ members. members ≡ put name.now (value_data value) (all_joined lists.items)) }
-{
-    let list = MemberList::new(alloc).with(alloc, name, value)?;
-    closed(alloc, lists, list, room)
-}
-
-/// The members of the lists, with this one in the list of its place.
+/// The members, and one at the place of its name.
 fn put_at(
     alloc: Global,
-    lists: Vec<List>,
-    room: usize,
-    at: usize,
-    name: &str,
-    value: KeptValue,
-) -> Result<SharedMembers, OutOfMemory>
-    requires place { IsPlace lists.items name.now at }
-    requires ordered { AreOrdered (all_joined lists.items) }
-    ensures { IfOk result (λ members. members ≡ put name.now (value_data value) (all_joined lists.items)) }
+    tree: Tree<Member>,
+    place: Result<usize, usize>,
+    member: Item<Member>,
+) -> Result<Tree<Member>, OutOfMemory>
+    requires ordered { AreOrdered (members_data tree) }
+    requires found { IfOk place (IsAt tree (string_bytes member.0)) }
+    requires free { IfErr place (IsPlaceFor tree (string_bytes member.0)) }
+    ensures { IfOk result (λ others. members_data others
+        ≡ put (string_bytes member.0) (value_data member.1) (members_data tree)) }
 {
-    let list = lists[at].with(alloc, name, value)?;
-    let lists = replaced(alloc, lists, room, at, list)?;
-    Ok(SharedMembers { lists, room })
-}
-
-/// The members of the lists without the name, at its given place.
-fn without_at(
-    alloc: Global,
-    lists: Vec<List>,
-    room: usize,
-    at: usize,
-    name: &str,
-) -> Result<SharedMembers, OutOfMemory>
-    requires place { IsPlace lists.items name.now at }
-    requires ordered { AreOrdered (all_joined lists.items) }
-    ensures { IfOk result (λ members. members ≡ without name.now (all_joined lists.items)) }
-{
-    let list = lists[at].without(alloc, name)?;
-    let lists = replaced(alloc, lists, room, at, list)?;
-    Ok(SharedMembers { lists, room })
-}
-
-/// The lists with another one in the place of one, or two if it has grown too long.
-fn replaced(
-    alloc: Global,
-    lists: Vec<List>,
-    room: usize,
-    at: usize,
-    list: MemberList,
-) -> Result<Vec<List>, OutOfMemory>
-    requires { at < length lists.items }
-    ensures { IfOk result (λ others. all_joined others.items ≡ joined (all_joined (take at lists.items))
-        (joined list (all_joined (drop (suc at) lists.items)))) }
-{
-    let mut others = lists;
-    let mut first = list;
-    cut_long(alloc, &mut others, room, at, &mut first)?;
-    others[at] = Arc::new(alloc, first)?;
-    Ok(others)
-}
-
-/// If a list has grown too long, cuts it, and puts its second part behind the place.
-fn cut_long(
-    alloc: Global,
-    lists: &mut Vec<List>,
-    room: usize,
-    at: usize,
-    list: &mut MemberList,
-) -> Result<(), OutOfMemory>
-    requires { at < length lists.old.items }
-    ensures within { OnOk result (at < length lists.new.items) }
-    ensures before { OnOk result (take at lists.new.items ≡ take at lists.old.items) }
-    ensures behind { OnOk result (joined list.new (all_joined (drop (suc at) lists.new.items))
-        ≡ joined list.old (all_joined (drop (suc at) lists.old.items))) }
-{
-    if list.len() / 2 <= room {
-        return Ok(());
+    match place {
+        Ok(at) => tree.replaced(alloc, at, member),
+        Err(at) => tree.with(alloc, at, member),
     }
-    let others = list.split_off(room)?;
-    let others = Arc::new(alloc, others)?;
-    lists.insert(at + 1, others)?;
-    Ok(())
+}
+
+/// The value of a name.
+fn find<'a>(tree: &'a Tree<Member>, name: &str) -> Option<&'a KeptValue>
+    requires { AreOrdered (members_data tree.now) }
+    ensures { option_map (λ v. value_data v.now) result ≡ get_member name.now (members_data tree.now) }
+{
+    match place(tree, name) {
+        Ok(at) => tree.get(at).map(|member| &member.get().1),
+        Err(_) => None,
+    }
+}
+
+/// Where the member of a name is, or else where its place is.
+fn place(tree: &Tree<Member>, name: &str) -> Result<usize, usize>
+    requires { AreOrdered (members_data tree.now) }
+    ensures found { IfOk result (λ at. IsAt tree.now name.now at) }
+    ensures free { IfErr result (λ at. IsPlaceFor tree.now name.now at) }
+{
+    match tree.shape() {
+        Shape::Leaf(members) => place_in(members, name),
+        Shape::Sides(left, right) => {
+            if is_in_left(left, right, name) {
+                return place(left, name);
+            }
+            let before = tree.len() - right.len();
+            match place(right, name) {
+                Ok(at) => Ok(before + at),
+                Err(at) => Err(before + at),
+            }
+        }
+    }
+}
+
+/// Whether a name has its place in the first of two sides: it comes before the other's first name.
+fn is_in_left(left: &Tree<Member>, right: &Tree<Member>, name: &str) -> bool
+    requires { AreOrdered (joined (members_data left.now) (members_data right.now)) }
+    ensures yes { IsTrue result → AllAbove name.now (members_data right.now) }
+    ensures no { IsFalse result → AllBelow (members_data left.now) name.now }
+{
+    match right.first() {
+        Some(first) => name.cmp(first.get().0.as_str()).is_lt(),
+        None => true,
+    }
+}
+
+/// The same of a leaf.
+fn place_in(members: &[Item<Member>], name: &str) -> Result<usize, usize>
+    requires { AreOrdered (members_data members.now) }
+    ensures found { IfOk result (λ at. IsAt members.now name.now at) }
+    ensures free { IfErr result (λ at. IsPlaceFor members.now name.now at) }
+{
+    for (at, member) in members.iter().enumerate() {
+        match name.cmp(member.get().0.as_str()) {
+            Ordering::Less => return Err(at),
+            Ordering::Equal => return Ok(at),
+            Ordering::Greater => {}
+        }
+    }
+    Err(members.len())
 }

@@ -1,28 +1,20 @@
-use Rattle.city_members.proofs.Prelude.{◌∙◌, ap, arc_value, drop, subst, suc, sym, take}
-use Rattle.serde_json.specs.Data.{put}
-use Rattle.city_members.specs.Members.{AreOrdered}
-use Rattle.city_members.specs.internal.KeptValues.{value_data}
-use Rattle.city_members.specs.internal.MemberLists.{all_joined, joined}
-use Rattle.city_members.proofs.ListPlaces.{put_place}
-use Rattle.city_members.proofs.MemberLists.{ordered_put}
+use Rattle.city_members.proofs.Prelude.{◌∙◌, ap, refl, string_bytes, subst}
+use Rattle.std.proofs.lemmas.Result.{IfOk-weaker}
+use Rattle.std.specs.Result.{IfOk, IfErr}
+use Rattle.city_members.specs.internal.KeptValues.{members_data}
+use Rattle.city_members.specs.internal.MemberPlaces.{IsAt, IsPlaceFor}
+use Rattle.city_members.proofs.KeptLists.{put_at, put_free}
 use Rattle.city_members.proofs.kept.shared_members.put_at.Goals as goal
 
-pub invariant_of-result : goal.invariant_of-result
-invariant_of-result c =
-    let lists = c.args.lists.items in
-    let name = c.args.name.now in
-    let made =
-    c.in_ok-lists.ensures
-    ∙ ap (λ list. joined (all_joined (take c.args.at lists)) (joined list (all_joined (drop (suc c.args.at) lists))))
-    (c.in_ok-list.ensures ∙ ap (put name (value_data c.args.value)) (c.deref.ensures ∙ ap arc_value c.index.ensures))
-    ∙ put_place lists name c.args.at c.index.result.now c.requires.place (value_data c.args.value) in
-    subst AreOrdered (sym made) (ordered_put name (value_data c.args.value) (all_joined lists) c.requires.ordered)
+pub returns-in-Ok : goal.returns-in-Ok
+returns-in-Ok c =
+    let found = subst (λ r. IfOk r (IsAt c.args.tree (string_bytes c.args.member.0))) c.in-Ok.is c.requires.found in
+    IfOk-weaker c.replaced.result _ _
+    (λ others is. ap members_data is
+    ∙ put_at c.args.tree _ c.in-Ok.at found c.args.member refl c.requires.ordered) c.replaced.ensures
 
-pub returns : goal.returns
-returns c =
-    let lists = c.args.lists.items in
-    let name = c.args.name.now in
-    c.in_ok-lists.ensures
-    ∙ ap (λ list. joined (all_joined (take c.args.at lists)) (joined list (all_joined (drop (suc c.args.at) lists))))
-    (c.in_ok-list.ensures ∙ ap (put name (value_data c.args.value)) (c.deref.ensures ∙ ap arc_value c.index.ensures))
-    ∙ put_place lists name c.args.at c.index.result.now c.requires.place (value_data c.args.value)
+pub returns-in-Err : goal.returns-in-Err
+returns-in-Err c =
+    let free = subst (λ r. IfErr r (IsPlaceFor c.args.tree (string_bytes c.args.member.0))) c.in-Err.is c.requires.free in
+    IfOk-weaker c.with.result _ _
+    (λ others is. ap members_data is ∙ put_free c.args.tree _ c.in-Err.at c.args.member refl free) c.with.ensures
