@@ -8,17 +8,19 @@ Without names the crates are all that have edits there. With --changed only thos
 commit BASE, or whose src, specs or proofs do, and those above the latter, whose contracts rest on them. What isn't
 committed counts too. N checks run side by side: two if it isn't said, each of up to 5 GB.
 
-The crates, and those below them, are copied into a folder of their own, which is removed at the end. There `rt all
-check` proves them, over what checks on this machine kept, and `rt must-fail` tries the edits. Those in the crates' own
-must-fail folders are left out: the gate tries them. For each edit a line says what refused it: a clause of a contract,
-or another goal that was left open. An edit fails if it isn't refused or wasn't tried, if it can't be applied or read
-(BAD EDIT), if a proof file names what it took away (MISSING NAME), or if the prover met a limit (LIMIT).
+The crates, and those below them, are copied into a folder of their own, which is removed at the end. There `rt ci`
+proves them and tries the edits: what the gate proved on this machine, of the same files, is kept, so after a gate only
+the edits take time. Those in the crates' own must-fail folders are left out: the gate tries them. For each edit a line
+says what refused it: a clause of a contract, or another goal that was left open. An edit fails if it isn't refused or
+wasn't tried, if it can't be applied or read (BAD EDIT), if a proof file names what it took away (MISSING NAME), or if
+the prover met a limit (LIMIT).
 
 With --apply nothing is proved: it looks whether each edit can be applied, those in must-fail too. It needs no
 toolchain, and takes a second. The last line counts, and the status is 1 where an edit failed.
 """
 
 import argparse
+import contextlib
 import os
 import re
 import shutil
@@ -26,7 +28,6 @@ import signal
 import subprocess
 import sys
 import tempfile
-import time
 from collections import namedtuple
 from pathlib import Path
 
@@ -181,47 +182,17 @@ def copy(room, names, edits):
         shutil.copyfile(edit.path, folder / edit.path.name)
 
 
-def begun(room, log, lanes, *words):
-    """A command of the toolchain, begun, whose words go into a file; its must-fail tries so many edits side by side."""
-    given = {"cwd": room, "env": {**os.environ, "RT_JOBS": str(lanes)}, "stdin": subprocess.DEVNULL}
-    with open(room / log, "wb") as file:
-        return subprocess.Popen(["rt", *words], stdout=file, stderr=subprocess.STDOUT, **given)
-
-
-def said_in(room, log):
-    """The lines that a command wrote."""
-    return (room / log).read_text(encoding="utf-8", errors="replace").splitlines()
-
-
-def side_by_side(room, names, jobs):
-    """Has rt must-fail try the edits of crates, some at a time, and gives each crate when it is done."""
-    left, running, lanes = list(names), {}, max(1, jobs // max(1, len(names)))
-    try:
-        while left or running:
-            while left and len(running) < jobs:
-                name = left.pop(0)
-                running[name] = begun(room, f"{name}.log", lanes, "must-fail", name)
-            time.sleep(0.2)
-            for name in [it for it, ran in running.items() if ran.poll() is not None]:
-                del running[name]
-                yield name
-    finally:
-        for ran in running.values():
-            ran.kill()
-
-
-def proved(room, jobs):
-    """The crates of the copy that are proved as they stand: of any other each edit would be refused."""
-    ran = begun(room, "check.log", jobs, "all", "check", "--jobs", str(jobs))
-    try:
-        ran.wait()
-    finally:
-        ran.kill()
-    lines = said_in(room, "check.log")
-    if "== summary" not in lines:
-        print("rt all check ended without a summary:", *lines[-10:], sep="\n  ")
-        return set()
-    return {line.removesuffix(": ok") for line in lines[lines.index("== summary") :] if line.endswith(": ok")}
+def gate(room, jobs):
+    """Runs the gate in the copy, and gives the lines that it prints."""
+    given = {"cwd": room, "env": {**os.environ, "RT_JOBS": str(jobs)}, "stdin": subprocess.DEVNULL}
+    with open(room / "gate.log", "wb") as file:
+        ran = subprocess.Popen(["rt", "ci"], stdout=file, stderr=subprocess.STDOUT, start_new_session=True, **given)
+        try:
+            ran.wait()
+        finally:
+            with contextlib.suppress(ProcessLookupError):
+                os.killpg(ran.pid, signal.SIGKILL)
+    return (room / "gate.log").read_text(encoding="utf-8", errors="replace").splitlines()
 
 
 def verdict(said):
@@ -270,32 +241,21 @@ def said_of_edits(lines):
     return said
 
 
-def told_of(room, crate, edits):
-    """The name of each edit of a crate, whether it is refused, and what is told of it."""
-    lines = said_in(room, f"{crate}.log")
-    said = said_of_edits(lines)
-    last = "\n  ".join(["NOT TRIED: rt says nothing of it. Its last lines:", *lines[-5:]])
-    return [(label(edit), *verdict(said.get(f"{crate}/{edit.path.name}", last))) for edit in edits]
-
-
 def tried(edits, uses, jobs):
     """Tries edits, tells what came of each, and returns whether each was refused."""
     if shutil.which("rt") is None:
         raise Stop("there is no command rt: the edits are tried by the Rattle toolchain, whose bin/ has to be in PATH")
-    names = [name for name in uses if any(it.crate == name for it in edits)]
-    below, well = reached(uses, names), []
+    below = reached(uses, [name for name in uses if any(it.crate == name for it in edits)])
     with tempfile.TemporaryDirectory(prefix="edits-") as folder:
-        room = Path(folder)
-        copy(room, below, edits)
-        print("proving", *below, flush=True)
-        holds = proved(room, jobs)
-        for edit in [it for it in edits if it.crate not in holds]:
-            print(f"{label(edit)}: NOT TRIED: {edit.crate} isn't proved as it stands; rt check there says why")
-            well.append(False)
-        for name in side_by_side(room, [it for it in names if it in holds], jobs):
-            for which, is_refused, told in told_of(room, name, [it for it in edits if it.crate == name]):
-                print(f"{which}: {told}", flush=True)
-                well.append(is_refused)
+        copy(Path(folder), below, edits)
+        print("trying the edits over", *below, flush=True)
+        lines = gate(Path(folder), jobs)
+    said, well = said_of_edits(lines), []
+    last = "\n  ".join(["NOT TRIED: rt says nothing of it. Its last lines:", *lines[-5:]])
+    for edit in edits:
+        is_refused, told = verdict(said.get(f"{edit.crate}/{edit.path.name}", last))
+        print(f"{label(edit)}: {told}", flush=True)
+        well.append(is_refused)
     return well
 
 

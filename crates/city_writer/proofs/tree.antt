@@ -4,7 +4,6 @@ pub mod Appended
 pub mod Beside
 pub mod CompactJson
 pub mod Integers
-pub mod JoinedLists
 pub mod KeptSizes
 pub mod ReadBack
 pub mod TextsJoined

@@ -2,17 +2,15 @@
 ghost use Rattle.std.specs.Prelude.{◌≡◌, ◌++◌, OnOk, true};
 ghost use Rattle.city_members.specs.Integral.{is_integral, members_integral};
 ghost use Rattle.city_members.specs.Members.{AreOrdered};
-ghost use Rattle.city_members.specs.internal.MemberLists.{all_joined};
 ghost use Rattle.city_writer.specs.internal.tree.MembersLeft.{value_of};
-ghost use Rattle.city_writer.specs.internal.tree.PartTokens.{closing_members, tokens_of_members};
+ghost use Rattle.city_writer.specs.internal.tree.PartTokens.{closing_members};
 ghost use Rattle.city_writer.specs.internal.tree.ReadsBack.{ReadsBack, MembersReadBack};
 ghost use Rattle.city_writer.specs.tree.Tokens.{tokens_of};
 
 use crate::tree::kept_value::{write_kept, write_members};
 use crate::tree::text::write_value;
 use city_members::kept::few_members::FewMembers;
-use city_members::kept::member_list::MemberList;
-use city_members::kept::shared_members::{List, SharedMembers};
+use city_members::kept::shared_members::SharedMembers;
 use city_model::OutOfMemory;
 use json::Writer;
 use serde_json::Value;
@@ -41,35 +39,24 @@ impl MemberValue<'_> {
             }
             MemberValue::Shared(members) => {
                 out.begin_object()?;
-                write_lists(members.lists(), out)
+                write_shared(members, out)
             }
         }
     }
 }
 
-/// Writes the members of a list.
-fn write_list(list: &MemberList, out: &mut Writer) -> Result<(), OutOfMemory>
-    requires integral { members_integral list.now ≡ true }
+/// Writes the members, and the closing brace.
+fn write_shared(members: &SharedMembers, out: &mut Writer) -> Result<(), OutOfMemory>
+    requires integral { members_integral members.now ≡ true }
     ensures before { OnOk result (out.new.before ≡ out.old.before) }
-    ensures tokens { OnOk result (out.new.tokens ≡ out.old.tokens ++ tokens_of_members list.now) }
-    ensures reads { OnOk result (MembersReadBack list.now) }
+    ensures tokens { OnOk result (out.new.tokens ≡ out.old.tokens ++ closing_members members.now) }
+    ensures reads { OnOk result (MembersReadBack members.now) }
+    ensures ordered { AreOrdered members.now }
 {
-    for entry in list.entries() {
-        out.key(entry.0.as_str())?;
-        write_kept(&entry.1, out)?;
-    }
-    Ok(())
-}
-
-/// Writes the members of all lists, and the closing brace.
-fn write_lists(lists: &[List], out: &mut Writer) -> Result<(), OutOfMemory>
-    requires integral { members_integral (all_joined lists.now) ≡ true }
-    ensures before { OnOk result (out.new.before ≡ out.old.before) }
-    ensures tokens { OnOk result (out.new.tokens ≡ out.old.tokens ++ closing_members (all_joined lists.now)) }
-    ensures reads { OnOk result (MembersReadBack (all_joined lists.now)) }
-{
-    for list in lists {
-        write_list(list, out)?;
+    for member in members.iter() {
+        let (key, value) = member.get();
+        out.key(key.as_str())?;
+        write_kept(value, out)?;
     }
     out.end_object()
 }

@@ -10,6 +10,5 @@ returns-in_ok-begin_object-in-Few-clause-reads c =
 
 pub returns-in_ok-begin_object-in-Shared-clause-reads : goal.returns-in_ok-begin_object-in-Shared-clause-reads
 returns-in_ok-begin_object-in-Shared-clause-reads c =
-    on_ok_weaker c.write_lists.result (λ h. rw c.in-Shared.is
-    (object_reads _ c.lists.ensures.ordered (subst MembersReadBack c.lists.ensures.members h)))
-    c.write_lists.ensures.reads
+    on_ok_weaker c.write_shared.result (λ h. rw c.in-Shared.is (object_reads _ c.write_shared.ensures.ordered h))
+    c.write_shared.ensures.reads
