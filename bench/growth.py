@@ -1,17 +1,19 @@
 #!/usr/bin/env python3
 """Measures how processor time grows with the text: each kind of text at a size, and at four times the size.
 
-    python3 bench/growth.py PROGRAM [--only KIND]
+    python3 bench/growth.py PROGRAM [--only KIND] [--times N] [--counted]
 
 PROGRAM is a built cityed. Prints for each kind both lengths and times, less the time of an empty model, and how
-many times the second is the first. Four times the text should take at most six times the time. Kinds with many
-faults are given to `--check`, which tells each of them.
+many times the second is the first. Four times the text may take six times the time, or, with --counted, five times the
+instructions, which valgrind counts (some fifty times slower); if one takes more, the status is 1. With --times the
+texts are so many times as long. Kinds with many faults are given to `--check`, which tells each of them.
 """
 
 import argparse
 import json
 import os
 import random
+import re
 import resource
 import subprocess
 import sys
@@ -175,6 +177,101 @@ def many_sets(count):
     return document, [script([{"set": "a", "attributes": {names[7_919 * n % len(names)]: n}}]) for n in range(count)]
 
 
+def scripts_of(commands, most=1_000):
+    """The commands in order, so many a script."""
+    return [script(commands[at : at + most]) for at in range(0, len(commands), most)]
+
+
+def attributes_of(count):
+    """An object of so many attributes, and their names in no order."""
+    names = shuffled(count)
+    return model({"a": {"type": "Road", "attributes": dict.fromkeys(sorted(names), 1)}}), names
+
+
+def on_attributes(command, value=None, absent=False):
+    """One command that names each attribute of an object, or as many that it hasn't."""
+
+    def kind(count):
+        document, names = attributes_of(count)
+        named = [f"x{name}" for name in names] if absent else names
+        return document, [script([{command: "a", "attributes": named if value is None else dict.fromkeys(named, value)}])]
+
+    return kind
+
+
+set_there, set_new = on_attributes("set", 2), on_attributes("set", 2, absent=True)
+unset_there, unset_absent = on_attributes("unset"), on_attributes("unset", absent=True)
+expected = on_attributes("expect", 1)
+
+
+def sets_of(names):
+    return [{"set": "a", "attributes": {name: 2}} for name in names]
+
+
+def single_sets(count):
+    """Each attribute of an object is set by a command of its own."""
+    document, names = attributes_of(count)
+    return document, scripts_of(sets_of(names))
+
+
+def rising_sets(count):
+    document, names = attributes_of(count)
+    return document, scripts_of(sets_of(f"x{name}" for name in sorted(names)))
+
+
+def falling_sets(count):
+    document, names = attributes_of(count)
+    return document, scripts_of(sets_of(f"x{name}" for name in sorted(names, reverse=True)))
+
+
+def set_and_unset(count):
+    document, names = attributes_of(count)
+    pairs = [({"set": "a", "attributes": {f"x{name}": 2}}, {"unset": "a", "attributes": [name]}) for name in names]
+    return document, scripts_of([command for pair in pairs for command in pair])
+
+
+def sets_under_marks(count):
+    """After each ten sets a script goes back over half of them."""
+    document, names = attributes_of(count)
+    sets = sets_of(names)
+    commands = []
+    for at in range(0, count, 10):
+        commands += [*sets[at : at + 5], {"mark": "m"}, *sets[at + 5 : at + 10], {"back": "m"}]
+    return document, scripts_of(commands, 960)
+
+
+def on_parts(commands_of):
+    """Commands on each part of a building, the parts in no order."""
+
+    def kind(count):
+        document, _ = unordered_children(count)
+        parts = document["CityObjects"]["building"]["children"]
+        document["CityObjects"]["other"] = {"type": "Building"}
+        return document, scripts_of([command for part in parts for command in commands_of(part)])
+
+    return kind
+
+
+moved_parts = on_parts(lambda it: [{"attach": it, "parent": "other"}, {"detach": it, "parent": "building"}])
+returned_parts = on_parts(
+    lambda it: [
+        {"attach": it, "parent": "other"},
+        {"detach": it, "parent": "building"},
+        {"attach": it, "parent": "building"},
+        {"detach": it, "parent": "other"},
+    ]
+)
+deleted_parts = on_parts(lambda it: [{"delete": it}])
+sets_beside_parts = on_parts(lambda it: [{"set": "building", "attributes": {it: 1}}])
+
+
+def attached_parts(count):
+    """Parts that are put, and attached to one building."""
+    puts = [{"put": name, "object": {"type": "BuildingPart"}} for name in shuffled(count)]
+    commands = [command for put in puts for command in (put, {"attach": put["put"], "parent": "building"})]
+    return model({"building": {"type": "Building"}}), scripts_of(commands)
+
+
 def unlisted_children(count):
     """Each part has a parent that doesn't list it."""
     parts = {name: {"type": "BuildingPart", "parents": ["building"]} for name in shuffled(count)}
@@ -243,6 +340,25 @@ KINDS = {
     many_sets: 320,
 }
 
+# long lists of attributes and of ids
+LONG = {
+    "set_there": (set_there, 30_000),
+    "set_new": (set_new, 30_000),
+    "unset_there": (unset_there, 30_000),
+    "unset_absent": (unset_absent, 30_000),
+    "expected": (expected, 30_000),
+    "single_sets": (single_sets, 15_000),
+    "rising_sets": (rising_sets, 15_000),
+    "falling_sets": (falling_sets, 15_000),
+    "set_and_unset": (set_and_unset, 10_000),
+    "sets_under_marks": (sets_under_marks, 15_000),
+    "moved_parts": (moved_parts, 8_000),
+    "returned_parts": (returned_parts, 5_000),
+    "deleted_parts": (deleted_parts, 12_000),
+    "attached_parts": (attached_parts, 8_000),
+    "sets_beside_parts": (sets_beside_parts, 10_000),
+}
+
 
 # what --check tells is long, or is found among many others
 CHECKED = {
@@ -257,38 +373,67 @@ CHECKED = {
 }
 
 
-def processor_time(program, document, scripts, *options):
-    with tempfile.TemporaryDirectory() as folder:
-        names = [os.path.join(folder, name) for name in ("model", "scripts")]
-        for name, tree in zip(names, (document, scripts)):
-            with open(name, "w", encoding="utf-8") as file:
-                json.dump(tree, file, separators=(",", ":"))
-        length = sum(map(os.path.getsize, names))
+def kinds():
+    """The name of each kind, the kind, its size, and the options of its runs."""
+    yield from ((kind.__name__, kind, count, []) for kind, count in KINDS.items())
+    yield from ((name, kind, count, []) for name, (kind, count) in LONG.items())
+    yield ("single_sets --decimals", single_sets, 15_000, ["--decimals"])
+    yield from ((kind.__name__, kind, count, ["--check"]) for kind, count in CHECKED.items())
+
+
+def written(document, scripts, folder):
+    """The files of a model and of scripts, and their length."""
+    names = [os.path.join(folder, name) for name in ("model", "scripts")]
+    for name, tree in zip(names, (document, scripts)):
+        with open(name, "w", encoding="utf-8") as file:
+            json.dump(tree, file, separators=(",", ":"))
+    return names, sum(map(os.path.getsize, names))
+
+
+def processor_time(words):
+    """The processor seconds of a run, the least of three."""
+
+    def once():
         before = resource.getrusage(resource.RUSAGE_CHILDREN)
-        subprocess.run([program, *options, *names], stdout=subprocess.DEVNULL, stderr=subprocess.DEVNULL, check=False)
+        subprocess.run(words, stdout=subprocess.DEVNULL, stderr=subprocess.DEVNULL, check=False)
         after = resource.getrusage(resource.RUSAGE_CHILDREN)
-    return length, after.ru_utime + after.ru_stime - before.ru_utime - before.ru_stime
+        return after.ru_utime + after.ru_stime - before.ru_utime - before.ru_stime
+
+    return min(once() for _ in range(3))
+
+
+def instructions(words):
+    """The instructions of a run, in thousands of millions, by valgrind's count."""
+    counted = ["valgrind", "--tool=callgrind", "--callgrind-out-file=/dev/null", *words]
+    ran = subprocess.run(counted, stdout=subprocess.DEVNULL, stderr=subprocess.PIPE, check=False)
+    return int(re.search(rb"Collected : (\d+)", ran.stderr)[1]) / 1e9
 
 
 def main():
     asked = argparse.ArgumentParser(description=__doc__, formatter_class=argparse.RawDescriptionHelpFormatter)
     asked.add_argument("program")
-    asked.add_argument("--only")
+    asked.add_argument("--only", metavar="KIND")
+    asked.add_argument("--times", type=int, default=1, metavar="N")
+    asked.add_argument("--counted", action="store_true")
     asked = asked.parse_args()
-    idle = min(processor_time(asked.program, model({}), [])[1] for _ in range(3))
-    for kind, count in [*KINDS.items(), *CHECKED.items()]:
-        options = ["--check"] if kind in CHECKED else []
-        if asked.only not in (None, kind.__name__):
-            continue
-        told = []
-        for size in (count, 4 * count):
-            document, scripts = kind(size)
-            runs = (processor_time(asked.program, document, scripts, *options) for _ in range(3))
-            length, time = min(runs, key=lambda one: one[1])
-            told.append((length, max(time - idle, 0.001)))
-        (short, quick), (long, slow) = told
-        print(f"{kind.__name__}: {short:,} bytes {quick:.3f} s, {long:,} bytes {slow:.3f} s, {slow / quick:.1f} times", flush=True)
-    return 0
+    measure, unit, most = (instructions, "Gi", 5) if asked.counted else (processor_time, "s", 6)
+    well = True
+    with tempfile.TemporaryDirectory() as folder:
+
+        def measured(texts, options):
+            names, length = written(*texts, folder)
+            return length, measure([asked.program, *options, *names])
+
+        _, idle = measured((model({}), []), [])
+        for name, kind, count, options in kinds():
+            if asked.only not in (None, name):
+                continue
+            (short, quick), (long, slow) = (measured(kind(asked.times * size), options) for size in (count, 4 * count))
+            quick, slow = max(quick - idle, 0.001), max(slow - idle, 0.001)
+            told = f"{short:,} bytes {quick:.3f} {unit}, {long:,} bytes {slow:.3f} {unit}, {slow / quick:.1f} times"
+            well = well and slow <= most * quick * long / (4 * short)
+            print(f"{name}: {told}", flush=True)
+    return 0 if well else 1
 
 
 if __name__ == "__main__":
