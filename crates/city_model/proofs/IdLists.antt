@@ -81,7 +81,7 @@ distinct_more (x ∷ xs) id d h = grind (arith, list_any-append, same_id_back, d
 
 -- ---- lists of ids in byte order: none recurs, and an id found by a binary search is there
 
-is_less : (o : Ordering) → is_lt o ≡ true → o ≡ Less
+pub is_less : (o : Ordering) → is_lt o ≡ true → o ≡ Less
 is_less o h = grind arith
 
 -- an id below the first one isn't among them

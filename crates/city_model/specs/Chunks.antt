@@ -1,8 +1,16 @@
--- Ids in chunks.
-use Rattle.std.specs.Prelude.{ℕ, List, ◌++◌, flat_map}
-use Rattle.std.specs.Arc.{arc_value}
+-- Ids of a slice or of a tree.
+use Rattle.std.specs.Prelude.{ℕ, List, [], ◌++◌, map, drop, Option, Some, None, option_copied}
 use Rattle.city_model.specs.declared.id_list.Ids.{Ids}
+use Rattle.city_model.specs.declared.id_tree.Entry.{Entry}
 
--- the ids left of a slice and the chunks after it
+abbrev pub ids_of : List Entry → List (List ℕ)
+ids_of entries = map (λ e. e.id) entries
+
+-- the entries of a tree from a place on, if there is a tree
+abbrev pub entries_from : Option (List Entry) → ℕ → List Entry
+entries_from None at = []
+entries_from (Some entries) at = drop at entries
+
+-- the ids left of a slice, of a leaf and of the leaves after it
 abbrev pub ids_left : Ids → List (List ℕ)
-ids_left left = left.ids.now ++ flat_map arc_value left.chunks.now
+ids_left left = left.ids.now ++ ids_of (left.leaf.now ++ entries_from (option_copied left.tree) left.at)

@@ -2,22 +2,27 @@
 ghost use Rattle.std.specs.Prelude.{◌≡◌, ◌==◌, length, IsTrue, IfOk};
 ghost use Rattle.std.specs.Iterator.{YieldsFirstRef, item_count};
 ghost use Rattle.city_model.specs.CityMap.{same_id, has_id};
-ghost use Rattle.city_model.specs.Chunks.{ids_left};
+ghost use Rattle.city_model.specs.Chunks.{ids_left, ids_of};
 ghost use Rattle.city_model.specs.Actions.{without_id};
 ghost use Rattle.city_model.specs.internal.RelationTests.{are_distinct, are_increasing};
 
 use crate::OutOfMemory;
-use crate::shared_ids::Chunk;
+use crate::id_tree::{Entries, Entry, leaf_from};
 use city_members::copied::Copied;
 use city_members::sequence::Sequence;
 use city_members::text::Id;
+use city_trees::item::Item;
 use std::alloc::Global;
 
 /// The ids of a list, in its order. Copying it copies no id.
 #[derive(Clone, Copy, Drop)]
 pub struct Ids<'a> {
     pub(crate) ids: &'a [Id],
-    pub(crate) chunks: &'a [Chunk],
+    /// The entries left of a leaf.
+    pub(crate) leaf: &'a [Item<Entry>],
+    pub(crate) tree: Option<&'a Entries>,
+    /// Where the next leaf of the tree begins.
+    pub(crate) at: usize,
 }
 
 impl<'a> Ids<'a> {
@@ -25,7 +30,24 @@ impl<'a> Ids<'a> {
     pub fn of(ids: &'a [Id]) -> Self
         ensures { ids_left result ≡ ids.now }
     {
-        Ids { ids, chunks: &[] }
+        Ids {
+            ids,
+            leaf: &[],
+            tree: None,
+            at: 0,
+        }
+    }
+
+    /// The ids of a tree's entries. Doesn't allocate.
+    pub(crate) fn in_tree(entries: &'a Entries) -> Self
+        ensures { ids_left result ≡ ids_of entries.now }
+    {
+        Ids {
+            ids: &[],
+            leaf: &[],
+            tree: Some(entries),
+            at: 0,
+        }
     }
 
     /// Whether no id is left. Doesn't allocate.
@@ -45,14 +67,19 @@ impl<'a> Iterator for Ids<'a> {
     ghost remaining = { item_count ids_left };
 
     fn next(&mut self) -> Option<&'a Id> {
-        while self.ids.is_empty() {
-            let (chunk, others) = self.chunks.split_first()?;
-            self.ids = chunk.as_slice();
-            self.chunks = others;
+        if let Some((first, others)) = self.ids.split_first() {
+            self.ids = others;
+            return Some(first);
         }
-        let (first, others) = self.ids.split_first()?;
-        self.ids = others;
-        Some(first)
+        if let Some((first, others)) = self.leaf.split_first() {
+            self.leaf = others;
+            return Some(&first.get().id);
+        }
+        let (leaf, at) = leaf_from(self.tree?, self.at);
+        let (first, others) = leaf.split_first()?;
+        self.leaf = others;
+        self.at = at;
+        Some(&first.get().id)
     }
 }
 

@@ -19,6 +19,8 @@ mod edges;
 pub mod end;
 pub mod frame;
 pub mod id_list;
+mod id_tree;
+mod indexed_ids;
 pub mod is_lawful;
 pub mod mode;
 pub mod object;

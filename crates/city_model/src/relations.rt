@@ -8,7 +8,7 @@ ghost use Rattle.city_model.specs.internal.RelationTests.{children_fit, is_in_or
 ghost use Rattle.city_model.specs.Relations.{IsRelated, is_second_level, same_family};
 
 use crate::city::City;
-use crate::id_list::{are_distinct, is_same_id};
+use crate::id_list::is_same_id;
 use crate::object::Object;
 use crate::object_type::{self, ObjectType, family, level};
 use crate::orphans::is_orphan;
@@ -68,7 +68,7 @@ fn is_in_order(city: &City, id: &Id, object: &Object) -> bool
 fn relatives_once(object: &Object) -> bool
     ensures { result ≡ relatives_once object.now }
 {
-    are_distinct(object.parents.iter()) && are_distinct(object.children.iter())
+    object.parents.are_distinct() && object.children.are_distinct()
 }
 
 /// Whether the object is second-level or has no parent.

@@ -1,5 +1,5 @@
 //! Objects with other relations or another body.
-ghost use Rattle.std.specs.Prelude.{◌≡◌, [], ◌∷◌, ◌++◌, None, Some, IfOk};
+ghost use Rattle.std.specs.Prelude.{◌≡◌, IfOk};
 ghost use Rattle.city_model.specs.Relations.{AreDistinct};
 ghost use Rattle.city_model.specs.Actions.{new_object, with_parent, with_child, without_parent, without_child};
 ghost use Rattle.city_model.specs.Actions.{without_id};
@@ -42,7 +42,7 @@ pub fn with_parent(alloc: Global, parent: &Id, object: &Object) -> Result<Object
     ensures { IfOk result (λ o. o ≡ with_parent parent.now object.now) }
 {
     let body = object.body.copy(alloc)?;
-    let parents = with_id(alloc, &object.parents, parent)?;
+    let parents = object.parents.with(alloc, parent)?;
     let children = object.children.copy(alloc)?;
     Ok(Object {
         body,
@@ -58,7 +58,7 @@ pub fn with_child(alloc: Global, child: &Id, object: &Object) -> Result<Object, 
     Ok(Object {
         body: object.body.copy(alloc)?,
         parents: object.parents.copy(alloc)?,
-        children: with_id(alloc, &object.children, child)?,
+        children: object.children.with(alloc, child)?,
     })
 }
 
@@ -68,7 +68,7 @@ pub fn without_parent(alloc: Global, parent: &Id, object: &Object) -> Result<Obj
     ensures { IfOk result (λ o. o ≡ without_parent parent.now object.now) }
 {
     let body = object.body.copy(alloc)?;
-    let parents = object.parents.without(parent)?;
+    let parents = object.parents.without(alloc, parent)?;
     let children = object.children.copy(alloc)?;
     Ok(Object {
         body,
@@ -85,15 +85,6 @@ pub fn without_child(alloc: Global, child: &Id, object: &Object) -> Result<Objec
     Ok(Object {
         body: object.body.copy(alloc)?,
         parents: object.parents.copy(alloc)?,
-        children: object.children.without(child)?,
+        children: object.children.without(alloc, child)?,
     })
-}
-
-/// The ids, and one more at their end.
-fn with_id(alloc: Global, ids: &SharedIds, id: &Id) -> Result<SharedIds, OutOfMemory>
-    ensures { IfOk result (λ all. all ≡ ids.now ++ id.now ∷ []) }
-{
-    let mut all = ids.copy(alloc)?;
-    all.push(id.copy(alloc)?)?;
-    Ok(all)
 }
