@@ -1,13 +1,13 @@
 -- The ids of a list in another order: how often each stands in them.
-use Rattle.city_model.proofs.Prelude.{◌≡◌, ℕ, ◌+◌, ◌<◌, ◌≤◌, List, [], ◌∷◌, ◌++◌, Bool, true, false, refl, sym, ap, ◌∙◌}
+use Rattle.city_model.proofs.Prelude.{◌≡◌, ℕ, ◌+◌, ◌≤◌, List, [], ◌∷◌, ◌++◌, Bool, true, false, refl, sym, ap, ◌∙◌}
 use Rattle.city_model.proofs.Prelude.{subst, suc, cond, length, take, drop, arith, false≢true, and_from, and_parts}
-use Rattle.city_model.proofs.Prelude.{filter-append, same_id, has_id, is_lt, slice_cmp, nat_cmp, are_distinct}
+use Rattle.city_model.proofs.Prelude.{filter-append, same_id, has_id, are_distinct}
 use Rattle.city_model.proofs.Prelude.{are_increasing, are_increasing_from, or_parts, not}
 use Rattle.city_model.proofs.Prelude.{AreDistinct, without_id}
-use Rattle.city_model.proofs.IdLists.{not_both, same_truth, increasing_distinct, without_absent}
+use Rattle.city_model.proofs.IdLists.{same_truth, increasing_distinct, without_absent}
 use Rattle.city_model.proofs.IdOrders.{ascends_with, ascends_without, below_other, none_below_after, not_back}
 use Rattle.city_model.proofs.IdOrders.{without_stands}
-use Rattle.city_model.proofs.IdTrees.{ids_with, ids_pushed, ids_without}
+use Rattle.city_model.proofs.IdTrees.{ids_with, ids_without}
 use Rattle.std.proofs.lemmas.Bool.{or_from, not_from_false}
 use Rattle.std.proofs.lemmas.List.{take-append-drop, length-append}
 use Rattle.std.specs.List.{filter}
@@ -70,23 +70,11 @@ index_with index id at a p =
     record {
       ascends = ascends_with index id at a p;
       as_often = λ q.
-        let m = times_middle before id after q in
-        let n = times_append index (id ∷ []) q in
-        let w : times_in (before ++ after) q ≡ times_in index q = ap (λ l. times_in l q) (take-append-drop at index) in
-        omega (arith, m, n, w);
+          let m = times_middle before id after q in
+          let n = times_append index (id ∷ []) q in
+          let w : times_in (before ++ after) q ≡ times_in index q = ap (λ l. times_in l q) (take-append-drop at index) in
+          omega (arith, m, n, w);
     }
-
-pub index_more : (more index ids : List (List ℕ)) (id : List ℕ) → IsIndex index ids → IsIndex more (index ++ id ∷ [])
-    → IsIndex more (ids ++ id ∷ [])
-index_more more index ids id i m = record {
-  ascends = m.ascends;
-  as_often = λ q.
-    let a = times_append index (id ∷ []) q in
-    let b = times_append ids (id ∷ []) q in
-    let c = i.as_often q in
-    let d = m.as_often q in
-    omega (arith, a, b, c, d);
-}
 
 -- an id less in both
 pub index_without : (index ids : List (List ℕ)) (id : List ℕ) (at place : ℕ) → IsIndex index ids
@@ -95,12 +83,12 @@ pub index_without : (index ids : List (List ℕ)) (id : List ℕ) (at place : �
 index_without index ids id at place i s t = record {
   ascends = ascends_without (take at index) id (drop (suc at) index) (subst Ascends s.is i.ascends);
   as_often = λ q.
-    let a = times_middle (take at index) id (drop (suc at) index) q in
-    let b = times_middle (take place ids) id (drop (suc place) ids) q in
-    let c : times_in index q ≡ times_in (take at index ++ id ∷ drop (suc at) index) q = ap (λ l. times_in l q) s.is in
-    let d : times_in ids q ≡ times_in (take place ids ++ id ∷ drop (suc place) ids) q = ap (λ l. times_in l q) t.is in
-    let e = i.as_often q in
-    omega (arith, a, b, c, d, e);
+      let a = times_middle (take at index) id (drop (suc at) index) q in
+      let b = times_middle (take place ids) id (drop (suc place) ids) q in
+      let c : times_in index q ≡ times_in (take at index ++ id ∷ drop (suc at) index) q = ap (λ l. times_in l q) s.is in
+      let d : times_in ids q ≡ times_in (take place ids ++ id ∷ drop (suc place) ids) q = ap (λ l. times_in l q) t.is in
+      let e = i.as_often q in
+      omega (arith, a, b, c, d, e);
 }
 
 -- ---- ids in byte order are their own index
@@ -185,13 +173,6 @@ entry_with by_id more entry id at a e p h =
     subst (λ ids. IsIndex ids (ids_of by_id ++ entry.id ∷ [])) (sym (ids_with by_id more entry at h))
     (index_with (ids_of by_id) entry.id at a (subst (λ q. IsPlace (ids_of by_id) q at) e p))
 
-pub entry_more : (by_id by_place more_id more_place : List Entry) (entry : Entry) → IsIndex (ids_of by_id) (ids_of by_place)
-    → IsIndex (ids_of more_id) (ids_of by_id ++ entry.id ∷ []) → more_place ≡ by_place ++ entry ∷ []
-    → IsIndex (ids_of more_id) (ids_of more_place)
-entry_more by_id by_place more_id more_place entry i m h =
-    subst (IsIndex (ids_of more_id)) (sym (ids_pushed by_place more_place entry h))
-    (index_more (ids_of more_id) (ids_of by_id) (ids_of by_place) entry.id i m)
-
 pub entry_less : (by_id by_place less_id less_place : List Entry) (id : List ℕ) (at place : ℕ)
     → IsIndex (ids_of by_id) (ids_of by_place) → StandsAt (ids_of by_id) id at → StandsAt (ids_of by_place) id place
     → less_id ≡ take at by_id ++ drop (at + 1) by_id → less_place ≡ take place by_place ++ drop (place + 1) by_place
@@ -222,9 +203,9 @@ pub indexing_none : (by_id left by_place : List Entry) → by_id ≡ [] → left
 indexing_none by_id left by_place e f = record {
   ascends = subst (λ es. Ascends (ids_of es)) (sym e) tt;
   as_often = λ id.
-    let a : times_in (ids_of by_id) id ≡ 0 = ap (λ es. times_in (ids_of es) id) e in
-    let b : times_in (ids_of left) id ≡ times_in (ids_of by_place) id = ap (λ es. times_in (ids_of es) id) f in
-    omega (arith, a, b);
+      let a : times_in (ids_of by_id) id ≡ 0 = ap (λ es. times_in (ids_of es) id) e in
+      let b : times_in (ids_of left) id ≡ times_in (ids_of by_place) id = ap (λ es. times_in (ids_of es) id) f in
+      omega (arith, a, b);
 }
 
 pub indexing_more : (by_id more left rest by_place : List Entry) (entry copy : Entry) → IsIndexing by_id left by_place
@@ -232,13 +213,13 @@ pub indexing_more : (by_id more left rest by_place : List Entry) (entry copy : E
 indexing_more by_id more left rest by_place entry copy i e f m = record {
   ascends = m.ascends;
   as_often = λ id.
-    let a = i.as_often id in
-    let b = m.as_often id in
-    let c = times_append (ids_of by_id) (copy.id ∷ []) id in
-    let d = times_append (entry.id ∷ []) (ids_of rest) id in
-    let g : times_in (ids_of left) id ≡ times_in (entry.id ∷ ids_of rest) id = ap (λ es. times_in (ids_of es) id) e in
-    let h : times_in (copy.id ∷ []) id ≡ times_in (entry.id ∷ []) id = ap (λ (w : Entry). times_in (w.id ∷ []) id) f in
-    omega (arith, a, b, c, d, g, h);
+      let a = i.as_often id in
+      let b = m.as_often id in
+      let c = times_append (ids_of by_id) (copy.id ∷ []) id in
+      let d = times_append (entry.id ∷ []) (ids_of rest) id in
+      let g : times_in (ids_of left) id ≡ times_in (entry.id ∷ ids_of rest) id = ap (λ es. times_in (ids_of es) id) e in
+      let h : times_in (copy.id ∷ []) id ≡ times_in (entry.id ∷ []) id = ap (λ (w : Entry). times_in (w.id ∷ []) id) f in
+      omega (arith, a, b, c, d, g, h);
 }
 
 pub indexing_all : (by_id left by_place : List Entry) → IsIndexing by_id left by_place → left ≡ []
@@ -246,7 +227,7 @@ pub indexing_all : (by_id left by_place : List Entry) → IsIndexing by_id left 
 indexing_all by_id left by_place i e = record {
   ascends = i.ascends;
   as_often = λ id.
-    let a = i.as_often id in
-    let b : times_in (ids_of left) id ≡ 0 = ap (λ es. times_in (ids_of es) id) e in
-    omega (arith, a, b);
+      let a = i.as_often id in
+      let b : times_in (ids_of left) id ≡ 0 = ap (λ es. times_in (ids_of es) id) e in
+      omega (arith, a, b);
 }

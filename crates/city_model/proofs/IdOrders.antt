@@ -1,6 +1,6 @@
 -- Ids in byte order: the place of an id, and an id put in or taken out.
-use Rattle.city_model.proofs.Prelude.{◌≡◌, ℕ, ◌+◌, ◌<◌, ◌≤◌, List, [], ◌∷◌, ◌++◌, Bool, true, false, refl, sym, ap, ◌∙◌}
-use Rattle.city_model.proofs.Prelude.{subst, suc, length, take, drop, arith, Ordering, Less, Equal, false≢true, or_parts}
+use Rattle.city_model.proofs.Prelude.{◌≡◌, ℕ, ◌+◌, List, [], ◌∷◌, ◌++◌, Bool, true, false, refl, sym, ap, ◌∙◌}
+use Rattle.city_model.proofs.Prelude.{subst, suc, length, take, drop, arith, Ordering, or_parts}
 use Rattle.city_model.proofs.Prelude.{and_from, and_parts, list_any-append, list_all, same_id, has_id, nat_cmp, is_eq, is_lt}
 use Rattle.city_model.proofs.Prelude.{slice_cmp, nat_list_cmp_total, slice_get, Some, without_id, AreDistinct}
 use Rattle.city_model.proofs.Prelude.{Option, None, is_some}
@@ -84,9 +84,9 @@ pub place_right : (xs : List (List ℕ)) (y : List ℕ) (ys : List (List ℕ)) (
 place_right xs y ys id n h a p = record {
   within = omega (arith, length-append xs (y ∷ ys), p.within);
   before =
-    ap (list_all (λ q. is_below q id)) (take-append-add xs (y ∷ ys) n)
-    ∙ list_all-append (λ q. is_below q id) xs (take n (y ∷ ys))
-    ∙ and_from (list_all (λ q. is_below q id) xs) (list_all (λ q. is_below q id) (take n (y ∷ ys)))
+      ap (list_all (λ q. is_below q id)) (take-append-add xs (y ∷ ys) n)
+      ∙ list_all-append (λ q. is_below q id) xs (take n (y ∷ ys))
+      ∙ and_from (list_all (λ q. is_below q id) xs) (list_all (λ q. is_below q id) (take n (y ∷ ys)))
       (all_below xs y ys id a h) p.before;
   after = ap (λ l. has_below l id) (drop-append-add xs (y ∷ ys) n) ∙ p.after;
 }
@@ -100,8 +100,8 @@ place_left xs y ys id n h a p =
       within = omega (arith, length-append xs (y ∷ ys), p.within);
       before = ap (list_all (λ q. is_below q id)) (take-append-le n xs (y ∷ ys) p.within) ∙ p.before;
       after =
-        ap (λ l. has_below l id) (drop-append-le n xs (y ∷ ys) p.within)
-        ∙ none_below_joined (drop n xs) (y ∷ ys) id p.after none;
+          ap (λ l. has_below l id) (drop-append-le n xs (y ∷ ys) p.within)
+          ∙ none_below_joined (drop n xs) (y ∷ ys) id p.after none;
     }
 
 -- ---- an id put in, and one taken out
@@ -159,7 +159,7 @@ absent_from ids id at a p f =
     let whole = take-append-drop at ids in
     ap (λ l. has_id l id) (sym whole) ∙ list_any-append (same_id id) (take at ids) (drop at ids)
     ∙ or_from (has_id (take at ids) id) (has_id (drop at ids) id) (none_among_below (take at ids) id p.before)
-      (none_behind (drop at ids) id (later_ascends (take at ids) (drop at ids) (subst Ascends (sym whole) a)) p.after f)
+    (none_behind (drop at ids) id (later_ascends (take at ids) (drop at ids) (subst Ascends (sym whole) a)) p.after f)
 
 -- ---- an id that stands at a place
 

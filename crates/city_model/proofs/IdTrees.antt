@@ -1,8 +1,7 @@
 -- Entries and their ids: the place of an id among them, and an entry put in or taken out.
 use Rattle.city_model.proofs.Prelude.{◌≡◌, ℕ, ◌+◌, ◌-◌, ◌<◌, ◌≤◌, List, [], ◌∷◌, ◌++◌, Bool, true, false, refl, sym, ap, ◌∙◌}
-use Rattle.city_model.proofs.Prelude.{subst, suc, length, take, drop, map, get_or, arith, false≢true, and_from, or_parts}
-use Rattle.city_model.proofs.Prelude.{list_all, list_any, same_id, has_id, slice_get, Option, Some, None, option_map}
-use Rattle.city_model.proofs.IdLists.{not_both}
+use Rattle.city_model.proofs.Prelude.{subst, suc, length, take, drop, get_or, arith, and_from, or_parts}
+use Rattle.city_model.proofs.Prelude.{list_all, same_id, has_id, slice_get, Option, Some, None, option_map}
 use Rattle.city_model.proofs.IdOrders.{below_after, later_ascends, first_ascends, place_right, place_left, absent_from}
 use Rattle.std.proofs.Common.{IfSome, zero}
 use Rattle.std.specs.List.{AllWithin}
@@ -17,7 +16,7 @@ use Rattle.city_model.specs.internal.IdTrees.{is_below, has_below, Ascends, IsPl
 
 -- ---- entries joined, put in and taken out
 
-pub ids_joined : (xs ys : List Entry) → ids_of (xs ++ ys) ≡ ids_of xs ++ ids_of ys
+ids_joined : (xs ys : List Entry) → ids_of (xs ++ ys) ≡ ids_of xs ++ ids_of ys
 ids_joined xs ys = map-append (λ (e : Entry). e.id) xs ys
 
 entries_long : (es : List Entry) → length (ids_of es) ≡ length es
@@ -35,9 +34,6 @@ ids_with es more e at h =
     ap ids_of h ∙ ids_joined (take at es) (e ∷ drop at es)
     ∙ ap (λ l. l ++ e.id ∷ ids_of (drop at es)) (ids_taken at es)
     ∙ ap (λ l. take at (ids_of es) ++ e.id ∷ l) (ids_dropped at es)
-
-pub ids_pushed : (es more : List Entry) (e : Entry) → more ≡ es ++ e ∷ [] → ids_of more ≡ ids_of es ++ e.id ∷ []
-ids_pushed es more e h = ap ids_of h ∙ ids_joined es (e ∷ [])
 
 pub ids_without : (es less : List Entry) (at : ℕ) → less ≡ take at es ++ drop (at + 1) es
     → ids_of less ≡ take at (ids_of es) ++ drop (suc at) (ids_of es)

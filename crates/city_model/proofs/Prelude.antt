@@ -1,6 +1,6 @@
 -- The words shared by the proofs of this crate: from std, from the libraries and from its own definitions.
 pub use Rattle.std.proofs.Common.{Bool, Equal, Less, List, None, Option, Ordering, Some, [], ap, append_assoc, arith}
-pub use Rattle.std.proofs.Common.{cond, drop, drop-cons, false, flat_map, get_or, inl, length, map, not, refl, rules}
+pub use Rattle.std.proofs.Common.{cond, drop, drop-cons, false, get_or, inl, length, map, not, refl, rules}
 pub use Rattle.std.proofs.Common.{subst, suc, sym, take, true, ℕ, ◌++◌, ◌+◌, ◌-◌, ◌<◌, ◌||◌, ◌∙◌, ◌∷◌, ◌≡◌, ◌≤◌}
 pub use Rattle.std.proofs.lemmas.Bool.{and_from, and_parts, false≢true, or_parts}
 pub use Rattle.std.proofs.lemmas.Cmp.{nat_list_cmp_total}
@@ -10,13 +10,12 @@ pub use Rattle.std.proofs.lemmas.List.Folds.{list_any-append}
 pub use Rattle.std.proofs.lemmas.Map.{lookup-none}
 pub use Rattle.std.proofs.lemmas.Map.Keys.{IsDistinct-from_sorted}
 pub use Rattle.std.proofs.lemmas.Map.Lookups.{exact_bytes}
-pub use Rattle.std.specs.Arc.{arc_value}
 pub use Rattle.std.specs.BTreeMap.{is_at}
 pub use Rattle.std.specs.Bool.{Decides}
 pub use Rattle.std.specs.Cmp.{IsTotalOrder, eq_by_cmp_equiv}
 pub use Rattle.std.specs.Cmp.Lexicographic.{slice_cmp}
 pub use Rattle.std.specs.FinMap.{entries, find, is_sorted}
-pub use Rattle.std.specs.List.{AllAdjacentBelow, AllByRecursion, AllZip, list_all, list_any, zip}
+pub use Rattle.std.specs.List.{AllAdjacentBelow, AllByRecursion, list_all, list_any, zip}
 pub use Rattle.std.specs.List.Sorted.{IsPermutation, IsSorted, IsStrictlySortedBy}
 pub use Rattle.std.specs.Map.{keys_of, lookup}
 pub use Rattle.std.specs.Ordering.{eq_by_cmp, is_eq, is_lt, nat_cmp}

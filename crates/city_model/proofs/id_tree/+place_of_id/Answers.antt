@@ -1,4 +1,4 @@
-use Rattle.city_model.proofs.Prelude.{◌≡◌, ◌<◌, length, ap, Bool, true, false, sym, subst, arith, rules}
+use Rattle.city_model.proofs.Prelude.{◌≡◌, ◌<◌, length, ap, true, false, sym, subst, arith, rules}
 use Rattle.city_model.proofs.IdTrees.{place_in_leaf, place_in_left, place_in_right, left_ascends, right_ascends, parted}
 use Rattle.city_model.proofs.IdTrees.{from_end}
 use Rattle.std.proofs.lemmas.List.{length-append}

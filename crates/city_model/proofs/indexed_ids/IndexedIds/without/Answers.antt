@@ -2,7 +2,6 @@ use Rattle.city_model.proofs.Prelude.{◌≡◌, ◌∙◌, sym, ap, subst, with
 use Rattle.city_model.proofs.IdLists.{without_absent}
 use Rattle.city_model.proofs.IdIndexes.{alike, entry_less, ids_less, ids_kept}
 use Rattle.city_model.specs.Chunks.{ids_of}
-use Rattle.city_model.specs.internal.IdTrees.{IsIndex}
 use Rattle.city_model.proofs.indexed_ids.IndexedIds.without.Goals as goal
 
 pub returns-in_default : goal.returns-in_default
