@@ -1,6 +1,6 @@
 -- The ids of a list in another order: how often each stands in them.
 use Rattle.city_model.proofs.Prelude.{◌≡◌, ℕ, ◌+◌, ◌≤◌, List, [], ◌∷◌, ◌++◌, Bool, true, false, refl, sym, ap, ◌∙◌}
-use Rattle.city_model.proofs.Prelude.{subst, suc, cond, length, take, drop, arith, false≢true, and_from, and_parts}
+use Rattle.city_model.proofs.Prelude.{subst, suc, cond, length, take, drop, arith, and_from, and_parts}
 use Rattle.city_model.proofs.Prelude.{filter-append, same_id, has_id, are_distinct}
 use Rattle.city_model.proofs.Prelude.{are_increasing, are_increasing_from, or_parts, not}
 use Rattle.city_model.proofs.Prelude.{AreDistinct, without_id}
@@ -72,7 +72,7 @@ index_with index id at a p =
       as_often = λ q.
           let m = times_middle before id after q in
           let n = times_append index (id ∷ []) q in
-          let w : times_in (before ++ after) q ≡ times_in index q = ap (λ l. times_in l q) (take-append-drop at index) in
+          let w = ap (λ l. times_in l q) (take-append-drop at index) in
           omega (arith, m, n, w);
     }
 
@@ -110,6 +110,9 @@ own_index ids h = record { ascends = increasing_ascends ids h; as_often = λ id.
 
 -- ---- no id twice
 
+not_true_false : (b : Bool) → not b ≡ true → b ≡ false
+not_true_false b h = grind arith
+
 distinct_once : (ids : List (List ℕ)) → are_distinct ids ≡ true → (id : List ℕ) → times_in ids id ≤ 1
 distinct_once [] h id = omega arith
 distinct_once (x ∷ xs) h id =
@@ -117,7 +120,7 @@ distinct_once (x ∷ xs) h id =
     let rest = distinct_once xs parts.1 id in
     bool_cases (same_id id x)
     (λ e.
-    let none = there_never xs x (bool_cases (has_id xs x) (λ t. absurd (false≢true (sym (ap not t) ∙ parts.0))) (λ f. f)) in
+    let none = there_never xs x (not_true_false (has_id xs x) parts.0) in
     let other : times_in xs id ≡ times_in xs x = ap (times_in xs) (same_id_true id x e) in
     let t = times_here id x xs e in
     omega (arith, t, none, other))
@@ -143,7 +146,7 @@ distinct_increasing_from : (x : List ℕ) (xs : List (List ℕ)) → Ascends (x 
 distinct_increasing_from x [] a h = refl
 distinct_increasing_from x (y ∷ ys) a h =
     let parts = and_parts (not (has_id (y ∷ ys) x)) (are_distinct (y ∷ ys)) h in
-    let none = bool_cases (has_id (y ∷ ys) x) (λ t. absurd (false≢true (sym (ap not t) ∙ parts.0))) (λ f. f) in
+    let none = not_true_false (has_id (y ∷ ys) x) parts.0 in
     let apart = (or_parts (same_id x y) (has_id ys x) none).0 in
     let above = (or_parts (is_below y x) (has_below ys x) a.0).0 in
     and_from (is_below x y) (are_increasing_from y ys) (below_other x y apart above)
@@ -155,7 +158,9 @@ distinct_increasing (x ∷ xs) a h = distinct_increasing_from x xs a h
 
 pub index_distinct : (index ids : List (List ℕ)) → IsIndex index ids → are_increasing index ≡ are_distinct ids
 index_distinct index ids i = same_truth (are_increasing index) (are_distinct ids)
-    (λ h. once_distinct ids (λ id. subst (λ n. n ≤ 1) (i.as_often id) (distinct_once index (increasing_distinct index h) id)))
+    (λ h.
+    let once = distinct_once index (increasing_distinct index h) in
+    once_distinct ids (λ id. subst (λ n. n ≤ 1) (i.as_often id) (once id)))
     (λ h. distinct_increasing index i.ascends
     (once_distinct index (λ id. subst (λ n. n ≤ 1) (sym (i.as_often id)) (distinct_once ids h id))))
 
@@ -164,7 +169,8 @@ index_distinct index ids i = same_truth (are_increasing index) (are_distinct ids
 pub alike : (by_id id_copy by_place place_copy : List Entry) → IsIndex (ids_of by_id) (ids_of by_place)
     → id_copy ≡ by_id → place_copy ≡ by_place → IsIndex (ids_of id_copy) (ids_of place_copy)
 alike by_id id_copy by_place place_copy i e f =
-    subst (λ es. IsIndex (ids_of id_copy) (ids_of es)) (sym f) (subst (λ es. IsIndex (ids_of es) (ids_of by_place)) (sym e) i)
+    subst (λ es. IsIndex (ids_of id_copy) (ids_of es)) (sym f)
+    (subst (λ es. IsIndex (ids_of es) (ids_of by_place)) (sym e) i)
 
 pub entry_with : (by_id more : List Entry) (entry : Entry) (id : List ℕ) (at : ℕ) → Ascends (ids_of by_id)
     → id ≡ entry.id → IsPlace (ids_of by_id) id at → more ≡ take at by_id ++ entry ∷ drop at by_id
@@ -179,7 +185,8 @@ pub entry_less : (by_id by_place less_id less_place : List Entry) (id : List ℕ
     → IsIndex (ids_of less_id) (ids_of less_place)
 entry_less by_id by_place less_id less_place id at place i s t e f =
     subst (λ ids. IsIndex ids (ids_of less_place)) (sym (ids_without by_id less_id at e))
-    (subst (IsIndex (take at (ids_of by_id) ++ drop (suc at) (ids_of by_id))) (sym (ids_without by_place less_place place f))
+    (subst (IsIndex (take at (ids_of by_id) ++ drop (suc at) (ids_of by_id)))
+    (sym (ids_without by_place less_place place f))
     (index_without (ids_of by_id) (ids_of by_place) id at place i s t))
 
 pub ids_less : (by_place less : List Entry) (id : List ℕ) (place : ℕ) → AreDistinct (ids_of by_place)
@@ -209,7 +216,8 @@ indexing_none by_id left by_place e f = record {
 }
 
 pub indexing_more : (by_id more left rest by_place : List Entry) (entry copy : Entry) → IsIndexing by_id left by_place
-    → left ≡ entry ∷ rest → copy ≡ entry → IsIndex (ids_of more) (ids_of by_id ++ copy.id ∷ []) → IsIndexing more rest by_place
+    → left ≡ entry ∷ rest → copy ≡ entry → IsIndex (ids_of more) (ids_of by_id ++ copy.id ∷ [])
+    → IsIndexing more rest by_place
 indexing_more by_id more left rest by_place entry copy i e f m = record {
   ascends = m.ascends;
   as_often = λ id.
@@ -218,7 +226,7 @@ indexing_more by_id more left rest by_place entry copy i e f m = record {
       let c = times_append (ids_of by_id) (copy.id ∷ []) id in
       let d = times_append (entry.id ∷ []) (ids_of rest) id in
       let g : times_in (ids_of left) id ≡ times_in (entry.id ∷ ids_of rest) id = ap (λ es. times_in (ids_of es) id) e in
-      let h : times_in (copy.id ∷ []) id ≡ times_in (entry.id ∷ []) id = ap (λ (w : Entry). times_in (w.id ∷ []) id) f in
+      let h = ap (λ (w : Entry). times_in (w.id ∷ []) id) f in
       omega (arith, a, b, c, d, g, h);
 }
 

@@ -1,7 +1,8 @@
 -- Ids in byte order: the place of an id, and an id put in or taken out.
 use Rattle.city_model.proofs.Prelude.{◌≡◌, ℕ, ◌+◌, List, [], ◌∷◌, ◌++◌, Bool, true, false, refl, sym, ap, ◌∙◌}
 use Rattle.city_model.proofs.Prelude.{subst, suc, length, take, drop, arith, Ordering, or_parts}
-use Rattle.city_model.proofs.Prelude.{and_from, and_parts, list_any-append, list_all, same_id, has_id, nat_cmp, is_eq, is_lt}
+use Rattle.city_model.proofs.Prelude.{and_from, and_parts, list_any-append, list_all, same_id, has_id, is_eq, is_lt}
+use Rattle.city_model.proofs.Prelude.{nat_cmp}
 use Rattle.city_model.proofs.Prelude.{slice_cmp, nat_list_cmp_total, slice_get, Some, without_id, AreDistinct}
 use Rattle.city_model.proofs.Prelude.{Option, None, is_some}
 use Rattle.city_model.proofs.IdLists.{not_both, without_middle, is_less}
@@ -120,7 +121,8 @@ pub ascends_with : (ids : List (List ℕ)) (id : List ℕ) (at : ℕ) → Ascend
 ascends_with ids id at a p =
     put_in (take at ids) (drop at ids) id (subst Ascends (sym (take-append-drop at ids)) a) p.before p.after
 
-pub ascends_without : (xs : List (List ℕ)) (y : List ℕ) (ys : List (List ℕ)) → Ascends (xs ++ y ∷ ys) → Ascends (xs ++ ys)
+pub ascends_without : (xs : List (List ℕ)) (y : List ℕ) (ys : List (List ℕ)) → Ascends (xs ++ y ∷ ys)
+    → Ascends (xs ++ ys)
 ascends_without [] y ys a = a.1
 ascends_without (x ∷ xs) y ys a =
     let none = none_below_both xs (y ∷ ys) x a.0 in
@@ -128,7 +130,8 @@ ascends_without (x ∷ xs) y ys a =
 
 -- ---- an id that isn't there
 
-none_among_below : (ids : List (List ℕ)) (id : List ℕ) → list_all (λ q. is_below q id) ids ≡ true → has_id ids id ≡ false
+none_among_below : (ids : List (List ℕ)) (id : List ℕ) → list_all (λ q. is_below q id) ids ≡ true
+    → has_id ids id ≡ false
 none_among_below [] id h = refl
 none_among_below (x ∷ xs) id h =
     let below = and_parts (is_below x id) (list_all (λ q. is_below q id) xs) h in
@@ -140,8 +143,8 @@ none_among_above [] y id h k = refl
 none_among_above (x ∷ xs) y id h k =
     let parts = or_parts (is_below x y) (has_below xs y) k in
     or_from (same_id id x) (has_id xs id)
-    (bool_cases (same_id id x) (λ e. not_both (is_below x y) (sym (ap (λ q. is_below q y) (same_id_true id x e)) ∙ h) parts.0)
-    (λ e. e))
+    (bool_cases (same_id id x)
+    (λ e. not_both (is_below x y) (sym (ap (λ q. is_below q y) (same_id_true id x e)) ∙ h) parts.0) (λ e. e))
     (none_among_above xs y id h parts.1)
 
 none_behind : (ids : List (List ℕ)) (id : List ℕ) → Ascends ids → has_below ids id ≡ false

@@ -1,5 +1,6 @@
 -- Entries and their ids: the place of an id among them, and an entry put in or taken out.
-use Rattle.city_model.proofs.Prelude.{◌≡◌, ℕ, ◌+◌, ◌-◌, ◌<◌, ◌≤◌, List, [], ◌∷◌, ◌++◌, Bool, true, false, refl, sym, ap, ◌∙◌}
+use Rattle.city_model.proofs.Prelude.{◌≡◌, ℕ, ◌+◌, ◌-◌, ◌<◌, ◌≤◌, List, [], ◌∷◌, ◌++◌, Bool, true, false, refl, sym}
+use Rattle.city_model.proofs.Prelude.{ap, ◌∙◌}
 use Rattle.city_model.proofs.Prelude.{subst, suc, length, take, drop, get_or, arith, and_from, or_parts}
 use Rattle.city_model.proofs.Prelude.{list_all, same_id, has_id, slice_get, Option, Some, None, option_map}
 use Rattle.city_model.proofs.IdOrders.{below_after, later_ascends, first_ascends, place_right, place_left, absent_from}
@@ -67,8 +68,8 @@ place_in_left left (e ∷ es) all id n below whole some h is a p =
     (place_left (ids_of left) e.id (ids_of es) id n (sym h ∙ is) (subst Ascends joined a) p)
 
 -- the place, counted from the end of both sides
-pub from_end : (left right all : List Entry) (id : List ℕ) (n k m : ℕ) → left ++ right ≡ all → IsPlace (ids_of right) id n
-    → k ≡ length right → m ≡ length all → length left + n ≡ m - (k - n)
+pub from_end : (left right all : List Entry) (id : List ℕ) (n k m : ℕ) → left ++ right ≡ all
+    → IsPlace (ids_of right) id n → k ≡ length right → m ≡ length all → length left + n ≡ m - (k - n)
 from_end left right all id n k m whole p e f =
     omega (arith, p.within, entries_long right, ap length whole, length-append left right)
 
@@ -134,7 +135,9 @@ pub entry_stands : (es : List Entry) (id : List ℕ) (at : ℕ) (e : Entry) → 
     → same_id id e.id ≡ true → StandsAt (ids_of es) id at
 entry_stands es id at e h same = record {
   within = omega (arith, slice_get_within es at e h, entries_long es);
-  is = cut_at es at e h ∙ ap (λ w. take at (ids_of es) ++ w ∷ drop (suc at) (ids_of es)) (sym (same_id_true id e.id same));
+  is =
+      cut_at es at e h
+      ∙ ap (λ w. take at (ids_of es) ++ w ∷ drop (suc at) (ids_of es)) (sym (same_id_true id e.id same));
 }
 
 first_of_rest : {X : Type 0} (i : ℕ) (xs : List X) → slice_get (drop i xs) 0 ≡ slice_get xs i

@@ -1,4 +1,4 @@
--- Ids of a slice or of a tree.
+-- Ids of a slice, or of a tree with a leaf for each chunk of them.
 use Rattle.std.specs.Prelude.{ℕ, List, [], ◌++◌, map, drop, Option, Some, None, option_copied}
 use Rattle.city_model.specs.declared.id_list.Ids.{Ids}
 use Rattle.city_model.specs.declared.id_tree.Entry.{Entry}

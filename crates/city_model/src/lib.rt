@@ -1,7 +1,7 @@
 //! The city model: its types, its rules and the meaning of each command.
 //!
 //! - `object`, `object_type`, `frame`, `city`: the parts of a city
-//! - `shared_ids`: ids shared by copies
+//! - `shared_ids`: ids shared by copies; `indexed_ids`, `id_tree`: many of them
 //! - `shape`, `shape_type`: the boundaries of a shape of any type, and the types
 //! - `copied`: copies of a city and its parts
 //! - `rings`, `edges`, `shells`, `body_fault`: the faults of a body

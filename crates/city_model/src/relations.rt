@@ -17,9 +17,8 @@ use city_members::text::Id;
 /// The least id, in byte order, of an object out of order or of an orphan; `None` if all relations
 /// agree. Doesn't allocate.
 ///
-/// Each parent and each child is looked up once, and one list of it is searched. A list in byte
-/// order is read once for repeats, and gets a binary search; any other list of n ids takes up to n²
-/// / 2 comparisons.
+/// Each parent and each child is looked up once, and one list of it is searched. A short list is
+/// compared id by id for repeats, and a long one is read once in byte order.
 pub fn relations_fault(city: &City) -> Option<&Id>
     ensures fault { IfSome result (λ id. IsLeastMisrelated (object_at city.now.1) id.now) }
     ensures none { IfNone result (IsRelated (object_at city.now.1)) }

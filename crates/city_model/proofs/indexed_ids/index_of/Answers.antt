@@ -18,15 +18,17 @@ returns-then-are_increasing c =
 pub loop-item-init : goal.loop-item-init
 loop-item-init c =
     let left : items_left c.into_iter-item-iterator.result ≡ c.args.by_place.now = search rules in
-    indexing_none c.new-by_id.result (items_left c.into_iter-item-iterator.result) c.args.by_place.now c.new-by_id.ensures left
+    indexing_none c.new-by_id.result (items_left c.into_iter-item-iterator.result) c.args.by_place.now
+    c.new-by_id.ensures left
 
 pub with_item-requires : goal.with_item-requires
 with_item-requires c = c.loop-item.invariant.ascends
 
 pub loop-item-preserved : goal.loop-item-preserved
 loop-item-preserved c =
-    indexing_more c.loop-item.by_id c.in_ok-by_id.by_id (items_left c.loop-item.item-iterator) (items_left c.next.new.self)
-    c.args.by_place.now c.in-Some.item.now c.in_ok-copy.field-0 c.loop-item.invariant c.in-Some.ensures.steps
+    indexing_more c.loop-item.by_id c.in_ok-by_id.by_id (items_left c.loop-item.item-iterator)
+    (items_left c.next.new.self) c.args.by_place.now
+    c.in-Some.item.now c.in_ok-copy.field-0 c.loop-item.invariant c.in-Some.ensures.steps
     c.in_ok-copy.ensures c.in_ok-by_id.ensures
 
 pub returns : goal.returns
