@@ -55,14 +55,6 @@ pub below_joined : (ms ns : Members) (k : List ℕ) → AllBelow ms k → AllBel
 below_joined no_members ns k h g = g
 below_joined (member l d ms) ns k h g = (h.0, below_joined ms ns k h.1 g)
 
-pub below_first : (ms ns : Members) (k : List ℕ) → AllBelow (joined ms ns) k → AllBelow ms k
-below_first no_members ns k h = tt
-below_first (member l d ms) ns k h = (h.0, below_first ms ns k h.1)
-
-pub below_second : (ms ns : Members) (k : List ℕ) → AllBelow (joined ms ns) k → AllBelow ns k
-below_second no_members ns k h = h
-below_second (member l d ms) ns k h = below_second ms ns k h.1
-
 -- ---- found, put and taken out on one side
 
 pub get_member-above : (k : List ℕ) (ns : Members) → AllAbove k ns → get_member k ns ≡ None
@@ -87,18 +79,6 @@ put-above k d (member l e ns) h = rw h.0 refl
 pub put_equal : (k : List ℕ) (d : Data) (l : List ℕ) (e : Data) (ms : Members) → slice_cmp nat_cmp k l ≡ Equal
     → put k d (member l e ms) ≡ member k d ms
 put_equal k d l e ms is = rw is (ap (λ q. member q d ms) (sym (exact_bytes k l is)))
-
-put-joined_at : (o : Ordering) (k : List ℕ) (d : Data) (l : List ℕ) (e : Data) (ms ns : Members)
-    → slice_cmp nat_cmp k l ≡ o → put k d (joined ms ns) ≡ joined (put k d ms) ns
-    → put k d (joined (member l e ms) ns) ≡ joined (put k d (member l e ms)) ns
-put-joined_at Less k d l e ms ns is later = rw is refl
-put-joined_at Equal k d l e ms ns is later = rw is refl
-put-joined_at Greater k d l e ms ns is later = rw is (ap (member l e) later)
-
-pub put-joined_above : (k : List ℕ) (d : Data) (ms ns : Members) → AllAbove k ns
-    → put k d (joined ms ns) ≡ joined (put k d ms) ns
-put-joined_above k d no_members ns h = put-above k d ns h
-put-joined_above k d (member l e ms) ns h = put-joined_at _ k d l e ms ns refl (put-joined_above k d ms ns h)
 
 pub put-joined_below : (k : List ℕ) (d : Data) (ms ns : Members) → AllBelow ms k
     → put k d (joined ms ns) ≡ joined ms (put k d ns)
