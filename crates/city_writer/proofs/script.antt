@@ -1,0 +1,3 @@
+-- Lemmas for several functions of src/script/.
+pub mod Parts
+pub mod ScriptTexts
