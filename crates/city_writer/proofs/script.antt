@@ -1,3 +1,4 @@
 -- Lemmas for several functions of src/script/.
+mod ExampleScript
 pub mod Parts
-pub mod ScriptTexts
+pub mod TextsOfScripts

@@ -1,4 +1,4 @@
-//! Writes the texts of city models and the reports of runs.
+//! Writes the texts of city models, the reports of runs, and scripts.
 //!
 //! Each thing has a folder. `specs/` and `proofs/` have the same folders.
 //!
@@ -29,4 +29,4 @@ pub use pool::{FIXED_SEED, VertexPool};
 pub use report::in_pieces::append_report_in_pieces;
 pub use report::write::{append_report, write_report};
 pub use script::text::write_script;
-pub use script::write::append_script;
+pub use script::write::append_scripts;

@@ -2,10 +2,9 @@
 use Rattle.city_writer.proofs.Prelude.{◌≡◌, ℕ, List, ◌∷◌, Option, Some, refl, sym, ap, ◌∙◌, Less, nat_cmp, [], arith}
 use Rattle.city_writer.proofs.Prelude.{slice_cmp, entries, Data, string, object, Members, put, CityValue, name_of}
 use Rattle.city_writer.proofs.Prelude.{Frame}
-use Rattle.city_writer.proofs.Prelude.{Body, Point, Object, Geometry, shape_name, triple_data, transform_data, numbered_tree}
-use Rattle.city_writer.proofs.Prelude.{vertices_data, boundaries_data, geometry_data, put_list, object_data}
-use Rattle.city_writer.proofs.Prelude.{objects_data}
-use Rattle.city_writer.proofs.Prelude.{listed}
+use Rattle.city_writer.proofs.Prelude.{Body, Point, Object, Geometry, shape_name, triple_data, transform_data}
+use Rattle.city_writer.proofs.Prelude.{numbered_tree, vertices_data, boundaries_data, geometry_data, put_list}
+use Rattle.city_writer.proofs.Prelude.{object_data, objects_data, listed}
 use Rattle.std.proofs.Common.{codes}
 use Rattle.city_writer.specs.internal.document.Pieces.{frame_own}
 use Rattle.city_writer.specs.internal.tree.OwnMembers.{Own}

@@ -1,9 +1,9 @@
 -- Commands and scripts written part by part.
-use Rattle.city_writer.proofs.Prelude.{◌≡◌, List, [], ◌∷◌, ◌++◌, ℕ, Option, Some, None, refl, sym, ap, ◌∙◌, append_assoc}
-use Rattle.city_writer.proofs.Prelude.{Less, nat_cmp, slice_cmp, rules, Token, begin_object, end_object, key, Data}
-use Rattle.city_writer.proofs.Prelude.{string, object, Members, no_members, AreOrdered, Point, list_data, listed}
-use Rattle.city_writer.proofs.Prelude.{tokens_of, tokens_of_members, tokens_of_own, vertex_data, ReadsBack}
-use Rattle.city_writer.proofs.Prelude.{MembersReadBack}
+use Rattle.city_writer.proofs.Prelude.{◌≡◌, List, [], ◌∷◌, ◌++◌, ℕ, Option, Some, None, refl, sym, ap, ◌∙◌}
+use Rattle.city_writer.proofs.Prelude.{append_assoc, Less, nat_cmp, slice_cmp, rules, Token, begin_object}
+use Rattle.city_writer.proofs.Prelude.{end_object, key, Data, string, object, Members, no_members, AreOrdered, Point}
+use Rattle.city_writer.proofs.Prelude.{list_data, listed, tokens_of, tokens_of_members, tokens_of_own, vertex_data}
+use Rattle.city_writer.proofs.Prelude.{ReadsBack, MembersReadBack}
 use Rattle.std.proofs.Common.{codes}
 use Rattle.city_model.specs.Runs.{Scripted}
 use Rattle.city_writer.specs.internal.tree.OwnMembers.{Own}

@@ -1,4 +1,4 @@
--- A script as it is written: one item of a text of scripts, with vertices of its own if it has points.
+-- Scripts as they are written, each with vertices of its own if it has points.
 use Rattle.std.specs.Prelude.{ℕ, List, codes, flat_map}
 use Rattle.serde_json.specs.Data.{Data, string, object, no_members, put}
 use Rattle.serde_json.specs.Written.{compact_text}
@@ -26,5 +26,11 @@ numbered_script pool s =
 abbrev pub script_tree : Scripted → Data
 script_tree s = numbered_script (script_pool s) s
 
-unfoldable pub script_text : Scripted → List ℕ
-script_text s = compact_text (script_tree s)
+-- ---- texts
+
+-- the tree of a text of scripts
+abbrev pub scripts_tree : List Scripted → Data
+scripts_tree scripts = list_data script_tree scripts
+
+unfoldable pub scripts_text : List Scripted → List ℕ
+scripts_text scripts = compact_text (scripts_tree scripts)

@@ -11,4 +11,6 @@ returns-clause-tokens c =
     (one_written c.args.verb.now (string c.args.text.now) c.args.out.now.tokens))
 
 pub returns-clause-reads : goal.returns-clause-reads
-returns-clause-reads c = on_ok c.end_object.result c.end_object.ensures.ok (λ e. one_read c.args.verb.now (string c.args.text.now) (string_reads _))
+returns-clause-reads c =
+    on_ok c.end_object.result c.end_object.ensures.ok
+    (λ e. one_read c.args.verb.now (string c.args.text.now) (string_reads _))
