@@ -4,5 +4,6 @@ pub mod document
 pub mod internal
 pub mod object
 pub mod report
+pub mod script
 pub mod shape
 pub mod tree

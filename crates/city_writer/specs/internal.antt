@@ -6,5 +6,6 @@ pub mod Pool
 pub mod Reports
 pub mod document
 pub mod object
+pub mod script
 pub mod shape
 pub mod tree

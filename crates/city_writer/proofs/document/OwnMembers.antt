@@ -2,13 +2,13 @@
 use Rattle.city_writer.proofs.Prelude.{◌≡◌, ℕ, List, ◌∷◌, Option, Some, refl, sym, ap, ◌∙◌, Less, nat_cmp, [], arith}
 use Rattle.city_writer.proofs.Prelude.{slice_cmp, entries, Data, string, object, Members, put, CityValue, name_of}
 use Rattle.city_writer.proofs.Prelude.{Frame}
-use Rattle.city_writer.proofs.Prelude.{Point, Object, Geometry, shape_name, triple_data, transform_data, numbered_tree}
-use Rattle.city_writer.proofs.Prelude.{vertices_data, boundaries_data, geometry_data, put_list, object_data}
-use Rattle.city_writer.proofs.Prelude.{objects_data}
-use Rattle.city_writer.proofs.Prelude.{listed}
+use Rattle.city_writer.proofs.Prelude.{Body, Point, Object, Geometry, shape_name, triple_data, transform_data}
+use Rattle.city_writer.proofs.Prelude.{numbered_tree, vertices_data, boundaries_data, geometry_data, put_list}
+use Rattle.city_writer.proofs.Prelude.{object_data, objects_data, listed}
 use Rattle.std.proofs.Common.{codes}
 use Rattle.city_writer.specs.internal.document.Pieces.{frame_own}
 use Rattle.city_writer.specs.internal.tree.OwnMembers.{Own}
+use Rattle.city_writer.specs.script.Commands.{body_data}
 use Rattle.city_writer.proofs.tree.Among.{puts, put_if}
 use Rattle.city_members.proofs.Puts.{put-swap}
 
@@ -25,7 +25,7 @@ object_own pool o =
     ∷ (codes "parents", listed string o.parents)
     ∷ (codes "type", Some (string (name_of o.body.kind))) ∷ []
 
-put_listed : {A : Type 0} (name : List ℕ) (f : A → Data) (xs : List A) (ms : Members)
+pub put_listed : {A : Type 0} (name : List ℕ) (f : A → Data) (xs : List A) (ms : Members)
     → put_list name f xs ms ≡ put_if name (listed f xs) ms
 put_listed name f xs ms = grind arith
 
@@ -35,6 +35,13 @@ swap_if a b x y ms less = grind (arith, put-swap)
 
 pub object_puts : (pool : List Point) (o : Object) → object_data pool o ≡ object (puts (object_own pool o) o.body.extra)
 object_puts pool o = simp (put_listed, ← swap_if)
+
+abbrev pub unrelated_own : List Point → Body → Own
+unrelated_own pool b =
+    (codes "geometry", listed (geometry_data pool) b.geometry) ∷ (codes "type", Some (string (name_of b.kind))) ∷ []
+
+pub unrelated_puts : (pool : List Point) (b : Body) → body_data pool b ≡ object (puts (unrelated_own pool b) b.extra)
+unrelated_puts pool b = ap object (put_listed (codes "geometry") (geometry_data pool) b.geometry _)
 
 abbrev pub transform_own : Frame → Own
 transform_own f = (codes "scale", Some (triple_data f.scale)) ∷ (codes "translate", Some (triple_data f.translate)) ∷ []

@@ -16,7 +16,9 @@ use Rattle.city_writer.proofs.pool.Repeats.{pool_is_without_repeats}
 use Rattle.city_writer.proofs.document.Lacking.{transform_members_lacking, top_members_lacking}
 pub use Rattle.city_writer.specs.internal.tree.OwnMembers.{written}
 use Rattle.city_writer.specs.internal.tree.OwnMembers.{Own, part}
+use Rattle.city_writer.specs.script.Commands.{body_data}
 use Rattle.city_writer.proofs.document.OwnMembers.{geometry_own, object_own, object_puts, transform_own}
+use Rattle.city_writer.proofs.document.OwnMembers.{unrelated_own, unrelated_puts}
 use Rattle.city_writer.proofs.document.OwnMembers.{transform_puts, city_own, city_puts}
 
 -- its own names ascend, and no kept member has one of them
@@ -102,6 +104,12 @@ object_put pool o body kept is same ordered keeps =
       ordered = ordered;
       apart = search rules;
     })
+
+pub unrelated_put : (pool : List Point) (body : Body) (kept : Members) → kept ≡ body.extra → AreOrdered body.extra
+    → kept_at_object body.extra ≡ true → IsPut kept (unrelated_own pool body) (body_data pool body)
+unrelated_put pool body kept same ordered keeps =
+    let lacks = object_members_lacking body.extra keeps in
+    rw same (record { is = unrelated_puts pool body; ordered = ordered; apart = search rules })
 
 pub transform_put : (f : Frame) (kept : Members) → kept ≡ f.more → AreOrdered f.more
     → kept_at_transform f.more ≡ true → IsPut kept (transform_own f) (transform_data f)

@@ -7,7 +7,7 @@ use Rattle.std.proofs.Common.{IfSome, ap₂, cond, take}
 use Rattle.std.specs.List.{IsDistinct}
 use Rattle.city_writer.specs.internal.Pieces.{joined}
 use Rattle.city_writer.specs.internal.Pool.{AreNew}
-use Rattle.city_writer.proofs.pool.NumberedPoints.{is_in, same_point-is, in_pool}
+use Rattle.city_writer.proofs.pool.NumberedPoints.{is_in, in_pool}
 use Rattle.city_writer.proofs.pool.PointsAgain.{AreOnce}
 use Rattle.city_writer.proofs.pool.Repeats.{differs, with_points-is, pool_is_without_repeats}
 use Rattle.city_writer.proofs.pool.Walks.{with_points-append}

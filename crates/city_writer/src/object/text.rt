@@ -12,6 +12,7 @@ ghost use Rattle.city_writer.specs.object.Canonical.{object_data, objects_data};
 ghost use Rattle.city_writer.specs.internal.document.KeptMembers.{is_kept_object, are_kept_objects};
 ghost use Rattle.city_writer.specs.Pool.{object_points, city_points};
 ghost use Rattle.city_writer.specs.internal.Pool.{with_points};
+ghost use Rattle.city_writer.specs.script.Commands.{unrelated, body_data};
 ghost use Rattle.city_writer.specs.tree.Tokens.{tokens_of};
 ghost use Rattle.city_writer.specs.internal.tree.PartTokens.{tokens_of_members, tokens_of_own, listed};
 ghost use Rattle.city_writer.specs.internal.tree.ReadsBack.{ReadsBack, OwnReadsBack};
@@ -26,7 +27,7 @@ use city_members::text::Id;
 use city_model::OutOfMemory;
 use city_model::city::City;
 use city_model::id_list::Ids;
-use city_model::object::Object;
+use city_model::object::{Body, Object};
 use city_model::object_type::name;
 use json::Writer;
 use std::collections::btree_map::Iter;
@@ -116,6 +117,29 @@ pub fn write_object(
     write_relatives(&mut kept, "children", object.children.iter(), out)?;
     write_list(&mut kept, "geometry", body.geometry.get(), pool, out)?;
     write_relatives(&mut kept, "parents", object.parents.iter(), out)?;
+    kept.write_name("type", out)?;
+    out.string(name(body.kind))?;
+    kept.write_last(out)
+}
+
+/// Writes an object of this body, without relations. New points are added to the pool as they are met.
+#[tactic(auto, unfolding(crate::specs::internal::document::KeptMembers::is_kept_object))]
+pub fn write_unrelated(
+    body: &Body,
+    pool: &mut PointNumbers<'_>,
+    out: &mut Writer,
+) -> Result<(), OutOfMemory>
+    ensures pool { OnOk result (pool.new ≡ with_points pool.old (object_points (unrelated body.now))) }
+    ensures before { OnOk result (out.new.before ≡ out.old.before) }
+    ensures tokens { OnOk result ((later : List p.Point) → out.new.tokens
+        ≡ out.old.tokens ++ tokens_of (body_data (with_points pool.new later) body.now)) }
+    ensures reads { OnOk result (ReadsBackNumbered (λ ps. body_data ps body.now)) }
+    ensures kept { OnOk result (is_kept_object (unrelated body.now) ≡ true) }
+{
+    let lent = body.extra.lend();
+    let mut kept = KeptMembers::of_object(&lent);
+    out.begin_object()?;
+    write_list(&mut kept, "geometry", body.geometry.get(), pool, out)?;
     kept.write_name("type", out)?;
     out.string(name(body.kind))?;
     kept.write_last(out)

@@ -1,0 +1,20 @@
+use Rattle.city_writer.proofs.Prelude.{string}
+use Rattle.std.proofs.Common.{codes}
+use Rattle.city_writer.proofs.tree.Among.{string_reads}
+use Rattle.city_writer.proofs.document.PutMembers.{on_ok}
+use Rattle.city_writer.proofs.script.Parts.{two_written, two_read}
+use Rattle.city_writer.proofs.script.command.write_relation.Goals as goal
+
+pub returns-clause-tokens : goal.returns-clause-tokens
+returns-clause-tokens c =
+    on_ok c.end_object.result c.end_object.ensures.ok (λ e.
+    rw (e, c.in_ok-string-2.ensures.ok, c.as_str-2.ensures, c.in_ok-key-2.ensures.ok, c.in_ok-string.ensures.ok)
+    (rw (c.as_str.ensures, c.in_ok-key.ensures.ok, c.in_ok-begin_object.ensures.ok)
+    (two_written c.args.verb.now (string c.args.child.now) (codes "parent") (string c.args.parent.now) c.requires.first
+    c.args.out.now.tokens)))
+
+pub returns-clause-reads : goal.returns-clause-reads
+returns-clause-reads c =
+    on_ok c.end_object.result c.end_object.ensures.ok
+    (λ e. two_read c.args.verb.now (string c.args.child.now) (codes "parent") (string c.args.parent.now)
+    c.requires.first (string_reads _) (string_reads _))

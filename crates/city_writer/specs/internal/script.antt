@@ -1,0 +1,2 @@
+-- Words for how scripts are written.
+pub mod KeptMembers

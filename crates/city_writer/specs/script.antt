@@ -1,0 +1,4 @@
+-- Definitions of scripts as they are written.
+pub mod Canonical
+pub mod Commands
+pub mod Texts

@@ -1,0 +1,5 @@
+//! Scripts, with their commands and vertices.
+
+pub mod command;
+pub mod text;
+pub mod write;
