@@ -107,11 +107,6 @@ impl Talks {
         &self.table
     }
 
-    /// The hand of a work, if there is one. Doesn't allocate.
-    pub fn hand(&self, stamp: u64) -> Option<Name> {
-        self.table.hand(stamp)
-    }
-
     /// Whether the work of the stamp is a whole script. Doesn't allocate.
     pub fn is_script(&self, stamp: u64) -> bool {
         self.table.is_script(stamp)
@@ -146,6 +141,7 @@ impl Talks {
     pub fn begin(
         &mut self,
         hand: Name,
+        seat: usize,
         name: Text,
         task: Task,
         kept: Option<u64>,
@@ -155,7 +151,7 @@ impl Talks {
     {
         let kept = self.table.free(kept);
         let stamp = begin_under(&mut self.session, kept)?;
-        let work = Work::new(hand, name, task);
+        let work = Work::new(hand, seat, name, task);
         if self.table.add(stamp, work).is_err() {
             if self.session.is_open(stamp) {
                 self.session.forget(stamp);

@@ -1,8 +1,8 @@
 //! The work of a hand: a script, or a transaction with commands one by one.
-ghost use Rattle.std.specs.Prelude.{◌≡◌, None, Some, MatchOption, IfSome, IsTrue, length};
+ghost use Rattle.std.specs.Prelude.{◌≡◌, None, Some, MatchOption, IfSome, IsTrue};
 ghost use Rattle.std.specs.Arc.{arc_value};
 ghost use Rattle.city_live.specs.declared.task.Task.TheVariants as task;
-ghost use Rattle.city_live.specs.Works.{next_of, asking, requested, answered, again, is_whole, replies_so_far};
+ghost use Rattle.city_live.specs.Works.{next_of, asking, requested, answered, again, is_whole};
 ghost use Rattle.city_live.specs.Works.{after_taking, with_script, IsAtCommit};
 
 use crate::answer::Name;
@@ -36,6 +36,8 @@ pub enum Place {
 #[derive(Drop)]
 pub struct Work {
     hand: Name,
+    /// Its hand's seat among the known ones.
+    seat: usize,
     name: Text,
     task: Task,
     /// The tag of the unanswered request.
@@ -65,11 +67,12 @@ impl Model for Work {
 
 impl Work {
     /// A work without commands done.
-    pub fn new(hand: Name, name: Text, task: Task) -> Work
+    pub fn new(hand: Name, seat: usize, name: Text, task: Task) -> Work
         ensures { result ≡ record { by = arc_value hand; name = name; task = task; tag = None } }
     {
         Work {
             hand,
+            seat,
             name,
             task,
             tag: None,
@@ -86,11 +89,9 @@ impl Work {
         &self.hand
     }
 
-    /// Its commands. Doesn't allocate.
-    pub fn task(&self) -> &Task
-        ensures { result.now ≡ self.now.task }
-    {
-        &self.task
+    /// Its hand's seat among the known ones. Doesn't allocate.
+    pub fn seat(&self) -> usize {
+        self.seat
     }
 
     /// The name of the script or the transaction. Doesn't allocate.
@@ -135,16 +136,6 @@ impl Work {
         ensures { result ≡ is_whole self.now.task }
     {
         matches!(self.task, Task::Script(_, _, _))
-    }
-
-    /// How many commands of a whole script were answered. Doesn't allocate.
-    pub fn replies(&self) -> usize
-        ensures { result ≡ length (replies_so_far self.now.task) }
-    {
-        match &self.task {
-            Task::Script(_, replies, _) => replies.len(),
-            Task::Single(_) => 0,
-        }
     }
 
     /// Whether a request is still to be answered. Doesn't allocate.

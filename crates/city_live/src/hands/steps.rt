@@ -218,10 +218,9 @@ impl Hands {
         ensures { Follows self.old self.new }
     {
         let blocked = self.blocked(&way)?;
-        let hand = self.talks.hand(stamp);
         self.release(stamp);
-        self.talks.die(stamp, blocked);
-        self.keep_age(hand, stamp, way);
+        let seat = self.talks.die(stamp, blocked);
+        self.keep_age(seat, stamp, way);
         Ok(())
     }
 }
