@@ -1,13 +1,13 @@
 #!/usr/bin/env python3
 """Counts the processor instructions of a request of live editing, and holds them against limits.
 
-    python3 testing/live_costs.py CITYED CITY_SCENARIOS
+    python3 testing/live_costs.py CITY_SCENARIOS
 
-The programs are those of unproved.py, which keeps the functions whole that are counted, by valgrind's callgrind. A set
-by a script may cost Hands::handle so many times the same set in a run of cityed with one worker: from the read texts to
-the ends, the report and the model not yet written. What twice as many scripts take more is counted, so that the start
-and the end of a run cancel. A request of each kind is counted at a size and at four times the size: of the objects, of
-the hands that are idle, of those that wait elsewhere, and of the transactions that ended before. It may cost hardly
+The program is that of unproved.py, which keeps the functions whole that are counted, by valgrind's callgrind. A set by
+a script may cost Hands::handle so many times the same set in a run by one worker: from the read texts to the ends, the
+report and the model not yet written. What twice as many scripts take more is counted, so that the start and the end of
+a run cancel. A request of each kind is counted at a size and at four times the size: of the objects, of the hands with
+an idle transaction, of those that wait for other objects, and of the transactions that ended before. It may cost hardly
 more. live_engine.py foretells all answers, and city_scenarios has to give the same ones. Prints a line for each kind,
 and ends with status 1 if a limit is broken. Python 3 and valgrind.
 """
@@ -28,15 +28,16 @@ from random_runs import HEAD
 
 HANDLE = "city_live::hands::*handle"
 NAMED = re.compile(r"c?fn=(\(\d+\)) city_live::hands::\S*handle$")  # gives the number that stands for the name
-RUN, GATHER = "city_crew::run::*run_crew_read*", "city_crew::run::*gather*"
+RUN = "city_scheduler::in_turn::*run_each"
 MOST_OF_A_SET = 1.3
 MOST_OF_A_SIZE = 1.1
 TIMES = 4  # a size, and so many times that size
 SCRIPTS = 100  # the scripts whose sets are counted
 SETS = (1, 40)  # the sets of a script
 ROUNDS = 40  # how often each kind of request is counted at a size
-# The objects; hands with a transaction that has set an object; hands that wait for such a one; ended transactions.
-FEW = {"objects": 1_000, "idle hands": 200, "hands that wait": 200, "ended transactions": 200}
+ROADS = 1_000
+# The objects; hands with a transaction that has added one; hands that wait for such a one; ended transactions.
+FEW = {"objects": ROADS, "idle hands": 200, "hands that wait": 200, "ended transactions": 200}
 
 
 class Wrong(Exception):
@@ -55,7 +56,7 @@ def document(objects):
 
 def script(number, sets):
     """A script of so many sets of one attribute, each of another object."""
-    roads = [spread("road", (number * sets + at) % 997) for at in range(sets)]
+    roads = [spread("road", (number * sets + at) % ROADS) for at in range(sets)]
     return {"name": f"s{number:06}", "commands": [*[{"set": it, "attributes": {"length": number}} for it in roads], "commit"]}
 
 
@@ -77,10 +78,10 @@ class Session:
 
 
 class Counted:
-    """The two programs, with what they take."""
+    """The program, and a folder for what it takes."""
 
-    def __init__(self, cityed, scenarios, folder):
-        self.cityed, self.scenarios, self.folder = os.path.abspath(cityed), os.path.abspath(scenarios), folder
+    def __init__(self, scenarios, folder):
+        self.scenarios, self.folder = os.path.abspath(scenarios), folder
 
     def written(self, name, text):
         path = os.path.join(self.folder, name)
@@ -88,28 +89,30 @@ class Counted:
             file.write(text)
         return path
 
-    def callgrind(self, options, words):
+    def callgrind(self, option, text, status):
+        """Plays a file of scenarios, and returns the name of what callgrind writes, and how much it has counted."""
         out = os.path.join(self.folder, "parts")
-        words = ["valgrind", "--tool=callgrind", f"--callgrind-out-file={out}", *options, *words]
-        ran = subprocess.run(words, stdin=subprocess.DEVNULL, capture_output=True, timeout=600, check=False)
-        if ran.returncode:
-            raise Wrong(f"status {ran.returncode}: {' '.join(words)}", ran.stdout.decode()[:2000], ran.stderr.decode()[-500:])
+        words = ["valgrind", "--tool=callgrind", f"--callgrind-out-file={out}", option, self.scenarios]
+        ran = subprocess.run(
+            [*words, self.written("played.txt", text)], stdin=subprocess.DEVNULL, capture_output=True, timeout=600
+        )
+        if ran.returncode != status:
+            raise Wrong(f"status {ran.returncode}", ran.stdout.decode()[:2000], ran.stderr.decode()[-500:])
         return out, int(re.search(rb"Collected : (\d+)", ran.stderr)[1])
 
-    def of_scripts(self, scripts):
-        """The instructions by which a run of cityed brings these scripts to their ends."""
-        paths = [self.written("model.json", document(1_000)), self.written("scripts.json", json.dumps(scripts))]
-        counted = [f"--toggle-collect={name}" for name in (RUN, GATHER)]
-        return self.callgrind(counted, [self.cityed, "--workers", "1", *paths])[1]
+    def of_run(self, scripts):
+        """The instructions by which one worker brings these scripts to their ends."""
+        texts = ["let the city", document(ROADS), "", "let the scripts", json.dumps(scripts), ""]
+        text = "\n".join([*texts, "A run", "crew 1x0", "$the city", "$the scripts", "----", "nothing", ""])
+        return self.callgrind(f"--toggle-collect={RUN}", text, 1)[1]
 
     def of_session(self, session):
         """The instructions of all requests of a session."""
-        return self.callgrind([f"--toggle-collect={HANDLE}"], [self.scenarios, self.written("live.txt", session.scenario())])[1]
+        return self.callgrind(f"--toggle-collect={HANDLE}", session.scenario(), 0)[1]
 
     def of_each(self, session):
         """The instructions of each request of a session."""
-        words = [self.scenarios, self.written("live.txt", session.scenario())]
-        out, _ = self.callgrind([f"--dump-before={HANDLE}"], words)
+        out, _ = self.callgrind(f"--dump-before={HANDLE}", session.scenario(), 0)
         parts = [*[f"{out}.{number}" for number in range(2, len(session.lines) + 1)], out]
         counts = [of_part(path) for path in parts]
         for path in glob.glob(out + "*"):
@@ -142,10 +145,10 @@ def sets_are_cheap(program, sets):
     batch, live = [], []
     for count in (SCRIPTS, 2 * SCRIPTS):
         scripts = [script(number, sets) for number in range(count)]
-        session = Session(1_000)
+        session = Session(ROADS)
         for it in scripts:
             session.ask("me", "script " + print_tree(it))
-        batch.append(program.of_scripts(scripts))
+        batch.append(program.of_run(scripts))
         live.append(program.of_session(session))
     run, handled = ((last - first) / (SCRIPTS * sets) for first, last in (batch, live))
     told = f"a set by a script of {sets}: {run:,.0f} instructions in a run, {handled:,.0f} by a hand, {handled / run:.3f} times"
@@ -214,14 +217,14 @@ def sizes_cost_little(program):
 
 
 def main():
-    if len(sys.argv) != 3:
+    if len(sys.argv) != 2:
         print(__doc__)
         return 2
     if shutil.which("valgrind") is None:
         print("nothing is counted: valgrind isn't installed")
         return 2
     with tempfile.TemporaryDirectory(prefix="live-costs-") as folder:
-        program = Counted(*sys.argv[1:], folder)
+        program = Counted(sys.argv[1], folder)
         try:
             kept = [sets_are_cheap(program, sets) for sets in SETS]
             kept += [sizes_cost_little(program)]

@@ -249,8 +249,9 @@ impl Hands {
         requires { IsFresh task }
         ensures { Follows self.old self.new }
     {
+        let is_script = matches!(task, Task::Script(_, _, _));
         match self.open(sender, seat, name, task) {
-            Ok(stamp) => self.begun(sender, tag, stamp),
+            Ok(stamp) => self.begun(sender, tag, stamp, is_script),
             Err(OutOfMemory) => self.refuse(sender, tag, Fault::NoMemory),
         }
     }
@@ -290,11 +291,11 @@ impl Hands {
 
     /// Tells of a transaction's beginning, or runs a script.
     #[tactic(auto, using(crate::proofs::Followed::then, crate::proofs::Followed::same))]
-    fn begun(&mut self, sender: &Sender, tag: Tag, stamp: u64)
+    fn begun(&mut self, sender: &Sender, tag: Tag, stamp: u64, is_script: bool)
         ensures { Follows self.old self.new }
     {
         self.talks.request(stamp, &sender.name, tag);
-        if self.talks.is_script(stamp) {
+        if is_script {
             self.go_on(stamp);
         } else {
             self.talks.tell_begun(stamp);
@@ -309,12 +310,16 @@ impl Hands {
         let Some(stamp) = self.stamp_of(sender) else {
             return self.refuse(sender, tag, Fault::NotOpen);
         };
-        if self.is_busy(stamp) {
-            return self.refuse(sender, tag, Fault::Busy);
-        }
         match self.talks.ask(stamp, &sender.name, tag, script) {
             Ok(()) => self.go_on(stamp),
-            Err(tag) => self.refuse(sender, tag, Fault::NotOpen),
+            Err(tag) => {
+                let fault = if self.is_busy(stamp) {
+                    Fault::Busy
+                } else {
+                    Fault::NotOpen
+                };
+                self.refuse(sender, tag, fault);
+            }
         }
     }
 
