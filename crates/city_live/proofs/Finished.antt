@@ -123,21 +123,18 @@ below_given stamp stamps (Some t) is below = (omega (arith, is, below t refl), o
 
 pub heard_begins : {s u : SessionState} {works others : List (ℕ × Working)} {es next : List Event}
     → AreHeard s works es → (stamp : ℕ) (kept : Option ℕ) → Begins stamp kept s u
-    → ((t : ℕ) → kept ≡ Some t → work_at works t ≡ None) → (new found : Working) → IsFresh new.task
-    → WorksTo stamp (Some new) works others → work_at others stamp ≡ Some found
-    → next ≡ es ++ events.Begins stamp found ∷ [] → AreHeard u others next
-heard_begins {s} {u} {works} {others} {es} r stamp kept b free new found fresh to there noted =
-    let w = some_same new found (sym (work_own stamp (Some new) works others to) ∙ there) in
+    → ((t : ℕ) → kept ≡ Some t → work_at works t ≡ None) → (new : Working) → IsFresh new.task
+    → WorksTo stamp (Some new) works others → next ≡ es ++ events.Begins stamp new ∷ [] → AreHeard u others next
+heard_begins {s} {u} {works} {others} {es} r stamp kept b free new fresh to noted =
     let g : Grown = record { since = length s.closed; told = [] } in
     let none = free_at r stamp b.taken b.stamp_is (λ t e. free t (b.kept_is t e).0) in
     let given = below_given stamp s.stamps b.taken b.stamp_is (λ t e. (b.kept_is t e).1) in
     subst (λ l. AreHeard u others l) (sym noted)
-    (subst (λ x. AreHeard u others (es ++ events.Begins stamp x ∷ [])) w
     (heard_event r u others stamp (Some new) (Some g) b.begun.start (omega (arith, given.1, b.begun.given))
     (λ h. omega (arith, given.0, b.begun.given)) to b.begun.growing (fresh_far new.task (length s.closed) fresh)
     None (ap (option_map (talk_of (grown_at s.growing stamp))) none)
     (events.Begins stamp new) refl (refl, fresh) (b.begun.closed ∙ sym (append-nil s.closed))
-    (ap Some (fresh_talk new.by new.name new.task new.tag (length s.closed) fresh))))
+    (ap Some (fresh_talk new.by new.name new.task new.tag (length s.closed) fresh)))
 
 -- ---- a script is tried again
 

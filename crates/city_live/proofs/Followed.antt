@@ -39,6 +39,11 @@ then {s} {t} {u} a b = record {
   continues = continued.then a.continues b.continues;
 }
 
+-- one event is noted behind those so far
+pub one_more : {before seen noted after : List Event} (e : Event) → seen ≡ before → noted ≡ seen ++ e ∷ []
+    → after ≡ noted → after ≡ before ++ e ∷ []
+one_more e a b c = c ∙ (b ∙ ap (λ l. l ++ e ∷ []) a)
+
 -- ---- what a method leaves, by its parts
 
 module _ {s : Served} {session after : SessionState} {log : Logged}

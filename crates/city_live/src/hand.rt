@@ -13,25 +13,28 @@ pub enum At {
     Works(u64),
 }
 
-/// A hand with a work, a kept age or a watch.
+/// A known hand.
 #[derive(Drop)]
 pub struct Hand {
     pub name: Name,
     pub at: At,
     pub watches: bool,
+    /// Whether its seat is listed among those of hands that had nothing.
+    pub is_listed: bool,
 }
 
 impl Hand {
-    /// A hand with none of them yet.
+    /// A hand with no work, no kept age and no watch yet.
     pub fn new(name: Name) -> Hand {
         Hand {
             name,
             at: At::Idle,
             watches: false,
+            is_listed: false,
         }
     }
 
-    /// Whether it has none of them, and need not be remembered. Doesn't allocate.
+    /// Whether it has none of them, and another may have its seat. Doesn't allocate.
     pub fn is_idle(&self) -> bool {
         matches!(self.at, At::Idle) && !self.watches
     }

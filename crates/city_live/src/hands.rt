@@ -6,10 +6,10 @@ ghost use Rattle.city_txn.specs.CoreState.{committed};
 ghost use Rattle.city_live.specs.Heard.{IsFresh};
 ghost use Rattle.city_live.specs.Serving.{Follows, IsHandled, IsServed};
 
-use crate::MAX_HANDS;
 use crate::answer::{Answer, Fault, Name};
 use crate::hand::{At, Hand};
 use crate::request::{Request, Tag};
+use crate::roster::Roster;
 use crate::talks::Talks;
 use crate::task::Task;
 use crate::waiting::Waiting;
@@ -23,7 +23,6 @@ use city_model::script::Script;
 use std::alloc::Global;
 use std::collections::{BTreeMap, BTreeSet};
 use std::marker::Model;
-use std::mem::replace;
 use std::sync::Arc;
 
 mod endings;
@@ -33,6 +32,13 @@ mod wakes;
 
 /// The most answers of a step, but for the watchers'.
 const STEP_ANSWERS: usize = 4;
+
+/// The hand that a request comes from: its name, shared with the roster if that knows it, and its seat there.
+#[derive(Drop)]
+struct Sender {
+    name: Name,
+    seat: Option<usize>,
+}
 
 /// One city, and hands on it.
 ///
@@ -44,7 +50,7 @@ pub struct Hands {
     talks: Talks,
     /// The number of commits with writes.
     version: u64,
-    hands: BTreeMap<Text, Hand>,
+    roster: Roster,
     watchers: BTreeMap<Text, Name>,
     waiting: Waiting,
     /// The stamps due to be tried again.
@@ -81,7 +87,7 @@ impl Hands {
             alloc,
             talks: Talks::open(alloc, city),
             version,
-            hands: BTreeMap::new(alloc),
+            roster: Roster::new(alloc),
             watchers: BTreeMap::new(alloc),
             waiting: Waiting::new(alloc),
             due: BTreeSet::new(alloc),
@@ -116,61 +122,68 @@ impl Hands {
         ensures err { OnErr result (self.new ≡ self.old) }
     {
         self.talks.reserve(STEP_ANSWERS)?;
-        let name = self.name_of(hand)?;
-        self.serve(&name, tag, request);
+        let sender = self.sender(hand)?;
+        self.serve(&sender, tag, request);
         Ok(self.talks.take_answers())
     }
 
     /// Does a request of a hand, and goes on with all works it was in the way of.
     #[tactic(auto, using(crate::proofs::Followed::then, crate::proofs::Followed::same))]
-    fn serve(&mut self, hand: &Name, tag: Tag, request: Request)
+    fn serve(&mut self, sender: &Sender, tag: Tag, request: Request)
         ensures { Follows self.old self.new }
     {
         self.wake();
-        self.answer(hand, tag, request);
+        self.answer(sender, tag, request);
         self.wake();
     }
 
-    /// The name of a hand, shared with the table if it is there.
-    fn name_of(&self, hand: Text) -> Result<Name, OutOfMemory> {
-        match self.hands.get(&hand) {
-            Some(known) => Ok(Arc::try_clone(&known.name)?),
-            None => Ok(Arc::new(self.alloc, hand)?),
-        }
+    /// The sender of this name.
+    fn sender(&self, hand: Text) -> Result<Sender, OutOfMemory> {
+        let seat = self.roster.find(&hand);
+        let name = match self.hand_at(seat) {
+            Some(known) => Arc::try_clone(&known.name)?,
+            None => Arc::new(self.alloc, hand)?,
+        };
+        Ok(Sender { name, seat })
     }
 
-    fn refuse(&mut self, hand: &Name, tag: Tag, fault: Fault)
+    /// The hand at a seat, if there is one. Doesn't allocate.
+    fn hand_at(&self, seat: Option<usize>) -> Option<&Hand> {
+        self.roster.get(seat?)
+    }
+
+    fn refuse(&mut self, sender: &Sender, tag: Tag, fault: Fault)
         ensures { Follows self.old self.new }
     {
-        self.talks.refuse(hand, tag, fault);
+        self.talks.refuse(&sender.name, tag, fault);
     }
 
     /// Does a request of a hand.
     #[tactic(auto, using(crate::proofs::Followed::then, crate::proofs::Followed::same))]
-    fn answer(&mut self, hand: &Name, tag: Tag, request: Request)
+    fn answer(&mut self, sender: &Sender, tag: Tag, request: Request)
         ensures { Follows self.old self.new }
     {
         match request {
-            Request::Script(script) => self.begin_script(hand, tag, script),
-            Request::Begin(name) => self.begin(hand, tag, name, Task::Single(None)),
+            Request::Script(script) => self.begin_script(sender, tag, script),
+            Request::Begin(name) => self.begin(sender, tag, name, Task::Single(None)),
             Request::Do(script) => match script.commands().first() {
-                Some(Command::Commit) => self.commit_by(hand, tag),
-                Some(Command::Abort) => self.abort_by(hand, tag),
-                _ => self.act_by(hand, tag, script),
+                Some(Command::Commit) => self.commit_by(sender, tag),
+                Some(Command::Abort) => self.abort_by(sender, tag),
+                _ => self.act_by(sender, tag, script),
             },
-            Request::Commit => self.commit_by(hand, tag),
-            Request::Abort => self.abort_by(hand, tag),
-            Request::Watch => self.watch(hand, tag),
-            Request::Unwatch => self.unwatch(hand, tag),
-            Request::Look(ids) => self.look(hand, tag, ids),
-            Request::Model => self.show_model(hand, tag),
-            Request::Bye => self.bye(hand, tag),
+            Request::Commit => self.commit_by(sender, tag),
+            Request::Abort => self.abort_by(sender, tag),
+            Request::Watch => self.watch(sender, tag),
+            Request::Unwatch => self.unwatch(sender, tag),
+            Request::Look(ids) => self.look(sender, tag, ids),
+            Request::Model => self.show_model(sender, tag),
+            Request::Bye => self.bye(sender, tag),
         }
     }
 
     /// The stamp of the hand's script or transaction, if it has one. Doesn't allocate.
-    fn stamp_of(&self, hand: &Name) -> Option<u64> {
-        self.hands.get(&**hand)?.stamp()
+    fn stamp_of(&self, sender: &Sender) -> Option<u64> {
+        self.hand_at(sender.seat)?.stamp()
     }
 
     /// Whether a request of this stamp waits. Doesn't allocate.
@@ -186,122 +199,103 @@ impl Hands {
         self.talks.session().is_open(stamp)
     }
 
-    /// Adds the hand to the table, if it isn't there.
-    fn remember(&mut self, hand: &Name) -> Result<(), Fault>
+    /// The seat of the hand, which gets one if it has none.
+    fn seat_of(&mut self, sender: &Sender) -> Result<usize, Fault>
         ensures { self.new ≡ self.old }
     {
-        if self.hands.contains_key(&**hand) {
-            return Ok(());
-        }
-        if MAX_HANDS <= self.hands.len() {
-            return Err(Fault::TooManyHands);
-        }
-        match self.add_hand(hand) {
-            Ok(()) => Ok(()),
-            Err(OutOfMemory) => Err(Fault::NoMemory),
-        }
-    }
-
-    fn add_hand(&mut self, hand: &Name) -> Result<(), OutOfMemory>
-        ensures { self.new ≡ self.old }
-    {
-        let key = hand.copy(self.alloc)?;
-        let name = Arc::try_clone(hand)?;
-        self.hands.insert(key, Hand::new(name))?;
-        Ok(())
-    }
-
-    /// Forgets the hand, if it has nothing. Doesn't allocate.
-    fn forget_idle(&mut self, hand: &Name)
-        ensures { self.new ≡ self.old }
-    {
-        let is_idle = match self.hands.get(&**hand) {
-            Some(known) => known.is_idle(),
-            None => false,
-        };
-        if is_idle {
-            self.hands.remove(&**hand);
+        match sender.seat {
+            Some(seat) => Ok(seat),
+            None => self.roster.add(&sender.name),
         }
     }
 
     /// Begins a whole script.
     #[tactic(auto, using(crate::proofs::Followed::then, crate::proofs::Followed::same))]
-    fn begin_script(&mut self, hand: &Name, tag: Tag, script: Script)
+    fn begin_script(&mut self, sender: &Sender, tag: Tag, script: Script)
         ensures { Follows self.old self.new }
     {
         match script.name().copy(self.alloc) {
             Ok(name) => {
                 let replies = Sequence::new(self.alloc);
-                self.begin(hand, tag, name, Task::Script(script, replies, None));
+                self.begin(sender, tag, name, Task::Script(script, replies, None));
             }
-            Err(OutOfMemory) => self.refuse(hand, tag, Fault::NoMemory),
+            Err(OutOfMemory) => self.refuse(sender, tag, Fault::NoMemory),
         }
     }
 
     /// Begins a script or a transaction.
     #[tactic(auto, using(crate::proofs::Followed::then, crate::proofs::Followed::same))]
-    fn begin(&mut self, hand: &Name, tag: Tag, name: Text, task: Task)
+    fn begin(&mut self, sender: &Sender, tag: Tag, name: Text, task: Task)
         requires { IsFresh task }
         ensures { Follows self.old self.new }
     {
-        if let Some(stamp) = self.stamp_of(hand) {
+        if let Some(stamp) = self.stamp_of(sender) {
             let fault = if self.is_busy(stamp) {
                 Fault::Busy
             } else {
                 Fault::AlreadyOpen
             };
-            return self.refuse(hand, tag, fault);
+            return self.refuse(sender, tag, fault);
         }
-        if let Err(fault) = self.remember(hand) {
-            return self.refuse(hand, tag, fault);
+        match self.seat_of(sender) {
+            Ok(seat) => self.begin_at(sender, seat, tag, name, task),
+            Err(fault) => self.refuse(sender, tag, fault),
         }
-        match self.open(hand, name, task) {
-            Ok(stamp) => self.begun(hand, tag, stamp),
-            Err(OutOfMemory) => {
-                self.forget_idle(hand);
-                self.refuse(hand, tag, Fault::NoMemory);
-            }
+    }
+
+    /// Begins a script or a transaction of a hand without one.
+    #[tactic(auto, using(crate::proofs::Followed::then, crate::proofs::Followed::same))]
+    fn begin_at(&mut self, sender: &Sender, seat: usize, tag: Tag, name: Text, task: Task)
+        requires { IsFresh task }
+        ensures { Follows self.old self.new }
+    {
+        let is_script = matches!(task, Task::Script(_, _, _));
+        match self.open(sender, seat, name, task) {
+            Ok(stamp) => self.begun(sender, tag, stamp, is_script),
+            Err(OutOfMemory) => self.refuse(sender, tag, Fault::NoMemory),
         }
     }
 
     /// Opens a work of a hand without one, under its kept age if it has one. If memory runs out, nothing changes.
     #[tactic(auto, using(crate::proofs::Followed::then, crate::proofs::Followed::same))]
-    fn open(&mut self, hand: &Name, name: Text, task: Task) -> Result<u64, OutOfMemory>
+    fn open(
+        &mut self,
+        sender: &Sender,
+        seat: usize,
+        name: Text,
+        task: Task,
+    ) -> Result<u64, OutOfMemory>
         requires { IsFresh task }
         ensures { Follows self.old self.new }
     {
-        let by = Arc::try_clone(hand)?;
-        let kept = self.kept_by(hand);
-        let stamp = self.talks.begin(by, name, task, kept)?;
-        self.take_age(hand, stamp);
+        let by = Arc::try_clone(&sender.name)?;
+        let kept = self.kept_by(seat);
+        let stamp = self.talks.begin(by, seat, name, task, kept)?;
+        self.take_age(seat, stamp);
         Ok(stamp)
     }
 
-    /// The stamp kept for the hand's next transaction, if there is one. Doesn't allocate.
-    fn kept_by(&self, hand: &Name) -> Option<u64> {
-        self.hands.get(&**hand)?.kept()
+    /// The stamp kept for the next transaction of the hand at a seat, if there is one. Doesn't allocate.
+    fn kept_by(&self, seat: usize) -> Option<u64> {
+        self.roster.get(seat)?.kept()
     }
 
     /// Moves the lock in the way of the hand's last transaction to its new work. Doesn't allocate.
-    fn take_age(&mut self, hand: &Name, stamp: u64)
+    fn take_age(&mut self, seat: usize, stamp: u64)
         ensures { self.new ≡ self.old }
     {
-        let was = match self.hands.get_mut(&**hand) {
-            Some(known) => replace(&mut known.at, At::Works(stamp)),
-            None => At::Idle,
-        };
-        if let At::Kept(_, way) = was {
+        if let At::Kept(_, way) = self.roster.put_at(seat, At::Works(stamp)) {
             self.talks.hold(stamp, Some(way));
         }
     }
 
     /// Tells of a transaction's beginning, or runs a script.
     #[tactic(auto, using(crate::proofs::Followed::then, crate::proofs::Followed::same))]
-    fn begun(&mut self, hand: &Name, tag: Tag, stamp: u64)
+    fn begun(&mut self, sender: &Sender, tag: Tag, stamp: u64, is_script: bool)
         ensures { Follows self.old self.new }
     {
-        self.talks.request(stamp, hand, tag);
-        if self.talks.is_script(stamp) {
+        self.talks.request(stamp, &sender.name, tag);
+        if is_script {
             self.go_on(stamp);
         } else {
             self.talks.tell_begun(stamp);
@@ -310,36 +304,42 @@ impl Hands {
 
     /// Does the first command of a script in the hand's transaction.
     #[tactic(auto, using(crate::proofs::Followed::then, crate::proofs::Followed::same))]
-    fn act_by(&mut self, hand: &Name, tag: Tag, script: Script)
+    fn act_by(&mut self, sender: &Sender, tag: Tag, script: Script)
         ensures { Follows self.old self.new }
     {
-        let Some(stamp) = self.stamp_of(hand) else {
-            return self.refuse(hand, tag, Fault::NotOpen);
+        let Some(stamp) = self.stamp_of(sender) else {
+            return self.refuse(sender, tag, Fault::NotOpen);
         };
-        if self.is_busy(stamp) {
-            return self.refuse(hand, tag, Fault::Busy);
-        }
-        match self.talks.ask(stamp, hand, tag, script) {
+        match self.talks.ask(stamp, &sender.name, tag, script) {
             Ok(()) => self.go_on(stamp),
-            Err(tag) => self.refuse(hand, tag, Fault::NotOpen),
+            Err(tag) => {
+                let fault = if self.is_busy(stamp) {
+                    Fault::Busy
+                } else {
+                    Fault::NotOpen
+                };
+                self.refuse(sender, tag, fault);
+            }
         }
     }
 
     /// Aborts the hand's work, and forgets the hand.
     #[tactic(auto, using(crate::proofs::Followed::then, crate::proofs::Followed::same))]
-    fn bye(&mut self, hand: &Name, tag: Tag)
+    fn bye(&mut self, sender: &Sender, tag: Tag)
         ensures { Follows self.old self.new }
     {
-        let Ok(again) = tag.copy(self.alloc) else {
-            return self.refuse(hand, tag, Fault::NoMemory);
-        };
-        if let Some(stamp) = self.stamp_of(hand) {
-            if let Err(OutOfMemory) = self.give_up(hand, again, stamp) {
-                return self.refuse(hand, tag, Fault::NoMemory);
+        if let Some(stamp) = self.stamp_of(sender) {
+            let Ok(again) = tag.copy(self.alloc) else {
+                return self.refuse(sender, tag, Fault::NoMemory);
+            };
+            if self.give_up(sender, again, stamp).is_err() {
+                return self.refuse(sender, tag, Fault::NoMemory);
             }
         }
-        self.stop_watching(hand);
-        self.hands.remove(&**hand);
-        self.say_bye(hand, tag);
+        self.stop_watching(sender);
+        if let Some(seat) = sender.seat {
+            let _before = self.roster.put_at(seat, At::Idle);
+        }
+        self.say_bye(sender, tag);
     }
 }

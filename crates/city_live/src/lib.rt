@@ -1,6 +1,6 @@
 //! Many hands on one city: requests, and answers to them.
 //!
-//! - `hands`: the hands, and the effects of requests
+//! - `hands`: the hands, and the effects of requests; `roster`, `hand`: the known hands, and one of them
 //! - `request`, `answer`: requests and answers
 //! - `talks`: the works on a session, and what is said of each
 //! - `table`, `work`, `task`: the works by their stamps; `log`: what is said
@@ -17,6 +17,7 @@ mod hands;
 mod in_the_way;
 mod log;
 mod request;
+mod roster;
 mod table;
 mod talks;
 mod task;

@@ -1,14 +1,10 @@
 //! What is said.
-ghost use Rattle.std.specs.Prelude.{◌≡◌, ◌++◌, ◌∷◌, [], OnOk};
-ghost use Rattle.city_live.specs.declared.ghosts.event.Event.{Event};
+ghost use Rattle.std.specs.Prelude.{◌≡◌, []};
 ghost use Rattle.city_live.specs.Serving.{IsSaid};
 
-use crate::answer::{Answer, Name};
+use crate::answer::Answer;
 use crate::ghosts::events::Events;
-use crate::request::Tag;
-use crate::work::Work;
 use city_model::OutOfMemory;
-use city_model::script::Script;
 use std::alloc::Global;
 use std::marker::Model;
 use std::mem::replace;
@@ -53,29 +49,19 @@ impl Log {
         Ok(())
     }
 
-    /// Notes that a work is begun. Doesn't allocate.
-    pub fn begins(&mut self, stamp: u64, work: &Work)
-        ensures events { self.new.events ≡ self.old.events ++ Event.Begins stamp work.now ∷ [] }
-        ensures answers { self.new.answers ≡ self.old.answers }
+    /// The events so far. Doesn't allocate.
+    pub fn events(&self) -> &Events
+        ensures { result.now ≡ self.now.events }
     {
-        self.events = self.events.begins(stamp, work);
+        &self.events
     }
 
-    /// Notes that a hand asks for the first command of a script. Doesn't allocate.
-    pub fn asks(&mut self, stamp: u64, hand: &Name, tag: &Tag, script: &Script)
-        ensures events { self.new.events
-            ≡ self.old.events ++ Event.Asks stamp hand.now tag.now script.now ∷ [] }
+    /// Notes these events in place of those so far. Doesn't allocate.
+    pub fn note(&mut self, events: Events)
+        ensures events { self.new.events ≡ events }
         ensures answers { self.new.answers ≡ self.old.answers }
     {
-        self.events = self.events.asks(stamp, hand, tag, script);
-    }
-
-    /// Notes that a hand has a request for all of its work. Doesn't allocate.
-    pub fn requests(&mut self, stamp: u64, hand: &Name, tag: &Tag)
-        ensures events { self.new.events ≡ self.old.events ++ Event.Requests stamp hand.now tag.now ∷ [] }
-        ensures answers { self.new.answers ≡ self.old.answers }
-    {
-        self.events = self.events.requests(stamp, hand, tag);
+        self.events = events;
     }
 
     /// Adds an answer, unless memory runs out. Where there is room, it doesn't allocate.

@@ -1,5 +1,5 @@
 //! The works of hands, by their stamps.
-ghost use Rattle.std.specs.Prelude.{◌≡◌, [], None, Some, ℕ, OnOk, OnErr, IfSome, MatchOption};
+ghost use Rattle.std.specs.Prelude.{◌≡◌, [], None, Some, ℕ, OnOk, OnErr, IfSome, IfNone, MatchOption};
 ghost use Rattle.std.specs.Prelude.{IsTrue, option_map, false};
 ghost use Rattle.std.specs.Arc.{arc_value};
 ghost use Rattle.city_live.specs.declared.task.Task.TheVariants as task;
@@ -14,7 +14,6 @@ use crate::request::Tag;
 use crate::work::{Place, Work};
 use city_model::OutOfMemory;
 use city_model::command::{Cause, Command, Reply};
-use city_model::id_list::is_same_id;
 use city_model::script::Script;
 use std::alloc::Global;
 use std::collections::{BTreeMap, btree_map};
@@ -97,18 +96,6 @@ impl Table {
         Some(hand)
     }
 
-    /// The hand of a transaction that is asked for nothing, if the stamp's work is one. Doesn't allocate.
-    pub fn hand_of_idle(&self, stamp: u64) -> Option<Name>
-        ensures { IfSome result (λ hand. IsWorkOf self.now stamp (arc_value hand) (λ t. t ≡ task.Single None)) }
-    {
-        let work = self.get(stamp)?;
-        if !work.is_idle() {
-            return None;
-        }
-        let hand = Arc::try_clone(work.hand()).ok()?;
-        Some(hand)
-    }
-
     /// The hand of a transaction and the command that it is asked for, if the stamp's work is one. Doesn't allocate.
     pub fn asked(&self, stamp: u64) -> Option<(Name, &Command)>
         ensures { IfSome result (λ r. IsAskedAt self.now stamp (arc_value r.0) r.1.now) }
@@ -120,26 +107,6 @@ impl Table {
         let command = work.command()?;
         let hand = Arc::try_clone(work.hand()).ok()?;
         Some((hand, command))
-    }
-
-    /// Whether the work of the stamp is the hand's. Doesn't allocate.
-    pub fn is_of(&self, stamp: u64, hand: &Name) -> bool
-        ensures { IsTrue result → IsWorkOf self.now stamp (arc_value hand.now) (λ t. Unit {0}) }
-    {
-        match self.get(stamp) {
-            Some(work) => is_same_id(work.hand(), hand),
-            None => false,
-        }
-    }
-
-    /// Whether the work of the stamp is the hand's transaction, and asked for nothing. Doesn't allocate.
-    pub fn is_idle(&self, stamp: u64, hand: &Name) -> bool
-        ensures { IsTrue result → IsWorkOf self.now stamp (arc_value hand.now) (λ t. t ≡ task.Single None) }
-    {
-        match self.get(stamp) {
-            Some(work) => work.is_idle() && is_same_id(work.hand(), hand),
-            None => false,
-        }
     }
 
     /// Whether the stamp's work may be committed: it is a transaction, or a script at its commit. Doesn't allocate.
@@ -181,21 +148,46 @@ impl Table {
         Some(work)
     }
 
-    /// The work takes a script for its next command, and the tag of the request. Doesn't allocate.
-    pub fn ask(&mut self, stamp: u64, script: Script, tag: Tag)
-        ensures { WorksTo stamp (option_map (asking script tag) (work_at self.old stamp)) self.old self.new }
+    /// The hand's transaction, if it is asked for nothing, takes a script for its next command, and the tag of the
+    /// request. Else the tag comes back, and nothing is taken. Doesn't allocate.
+    pub fn ask(&mut self, stamp: u64, hand: &Name, script: Script, tag: Tag) -> Result<(), Tag>
+        ensures asked { OnOk result (IsWorkOf self.old stamp (arc_value hand.now) (λ t. t ≡ task.Single None)
+            × WorksTo stamp (option_map (asking script tag) (work_at self.old stamp)) self.old self.new) }
+        ensures err { OnErr result (SameWorks self.old self.new) }
     {
-        if let Some(work) = self.by_stamp.get_mut(&stamp) {
-            work.ask(script, tag);
+        match self.by_stamp.get_mut(&stamp) {
+            Some(work) => {
+                work.ask_by(hand, script, tag)?;
+                Ok(())
+            }
+            None => Err(tag),
         }
     }
 
-    /// The work takes the tag of a request for all of it. Doesn't allocate.
-    pub fn request(&mut self, stamp: u64, tag: Tag)
-        ensures { WorksTo stamp (option_map (requested tag) (work_at self.old stamp)) self.old self.new }
+    /// The hand's work takes the tag of a request for all of it. False, and nothing is taken, where the work isn't the
+    /// hand's. Doesn't allocate.
+    pub fn request(&mut self, stamp: u64, hand: &Name, tag: Tag) -> bool
+        ensures taken { IsTrue result → IsWorkOf self.old stamp (arc_value hand.now) (λ t. Unit {0})
+            × WorksTo stamp (option_map (requested tag) (work_at self.old stamp)) self.old self.new }
+        ensures left { result ≡ false → SameWorks self.old self.new }
     {
-        if let Some(work) = self.by_stamp.get_mut(&stamp) {
-            work.request(tag);
+        match self.by_stamp.get_mut(&stamp) {
+            Some(work) => work.request_by(hand, tag),
+            None => false,
+        }
+    }
+
+    /// Answers the request of a transaction that is asked for no command: its hand, and the tag. Nothing is taken where
+    /// it isn't one. Doesn't allocate.
+    pub fn answer_idle(&mut self, stamp: u64) -> Option<(Name, Tag)>
+        ensures answered { IfSome result (λ r. IsWorkOf self.old stamp (arc_value r.0) (λ t. t ≡ task.Single None)
+            × (r.1 ≡ tag_at self.old stamp)
+            × WorksTo stamp (option_map answered (work_at self.old stamp)) self.old self.new) }
+        ensures left { IfNone result (SameWorks self.old self.new) }
+    {
+        match self.by_stamp.get_mut(&stamp) {
+            Some(work) => work.answer_idle(),
+            None => None,
         }
     }
 

@@ -107,11 +107,6 @@ impl Talks {
         &self.table
     }
 
-    /// The hand of a work, if there is one. Doesn't allocate.
-    pub fn hand(&self, stamp: u64) -> Option<Name> {
-        self.table.hand(stamp)
-    }
-
     /// Whether the work of the stamp is a whole script. Doesn't allocate.
     pub fn is_script(&self, stamp: u64) -> bool {
         self.table.is_script(stamp)
@@ -146,6 +141,7 @@ impl Talks {
     pub fn begin(
         &mut self,
         hand: Name,
+        seat: usize,
         name: Text,
         task: Task,
         kept: Option<u64>,
@@ -155,16 +151,15 @@ impl Talks {
     {
         let kept = self.table.free(kept);
         let stamp = begin_under(&mut self.session, kept)?;
-        let work = Work::new(hand, name, task);
+        let work = Work::new(hand, seat, name, task);
+        let noted = self.log.events().begins(stamp, &work);
         if self.table.add(stamp, work).is_err() {
             if self.session.is_open(stamp) {
                 self.session.forget(stamp);
             }
             return Err(OutOfMemory);
         }
-        if let Some(work) = self.table.get(stamp) {
-            self.log.begins(stamp, work);
-        }
+        self.log.note(noted);
         Ok(stamp)
     }
 
@@ -188,11 +183,12 @@ impl Talks {
     pub fn ask(&mut self, stamp: u64, hand: &Name, tag: Tag, script: Script) -> Result<(), Tag>
         ensures { Follows self.old self.new }
     {
-        if !self.table.is_idle(stamp, hand) || !goes_on(&script) {
+        if !goes_on(&script) {
             return Err(tag);
         }
-        self.log.asks(stamp, hand, &tag, &script);
-        self.table.ask(stamp, script, tag);
+        let noted = self.log.events().asks(stamp, hand, &tag, &script);
+        self.table.ask(stamp, hand, script, tag)?;
+        self.log.note(noted);
         Ok(())
     }
 
@@ -201,11 +197,11 @@ impl Talks {
     pub fn request(&mut self, stamp: u64, hand: &Name, tag: Tag) -> bool
         ensures { Follows self.old self.new }
     {
-        if !self.table.is_of(stamp, hand) {
+        let noted = self.log.events().requests(stamp, hand, &tag);
+        if !self.table.request(stamp, hand, tag) {
             return false;
         }
-        self.log.requests(stamp, hand, &tag);
-        self.table.request(stamp, tag);
+        self.log.note(noted);
         true
     }
 

@@ -1,8 +1,8 @@
 //! The work of a hand: a script, or a transaction with commands one by one.
-ghost use Rattle.std.specs.Prelude.{◌≡◌, None, Some, MatchOption, IfSome, IsTrue, length};
+ghost use Rattle.std.specs.Prelude.{◌≡◌, None, Some, MatchOption, IfSome, IfNone, IsTrue, OnOk, OnErr, false};
 ghost use Rattle.std.specs.Arc.{arc_value};
 ghost use Rattle.city_live.specs.declared.task.Task.TheVariants as task;
-ghost use Rattle.city_live.specs.Works.{next_of, asking, requested, answered, again, is_whole, replies_so_far};
+ghost use Rattle.city_live.specs.Works.{next_of, asking, requested, answered, again, is_whole};
 ghost use Rattle.city_live.specs.Works.{after_taking, with_script, IsAtCommit};
 
 use crate::answer::Name;
@@ -13,11 +13,13 @@ use city_members::sequence::Sequence;
 use city_members::text::{Id, Text};
 use city_model::OutOfMemory;
 use city_model::command::{Cause, Command, Reply};
+use city_model::id_list::is_same_id;
 use city_model::script::Script;
 use city_session::Session;
 use std::alloc::Global;
 use std::marker::Model;
 use std::mem::replace;
+use std::sync::Arc;
 
 /// The list with a waiting work.
 #[derive(Drop)]
@@ -36,6 +38,8 @@ pub enum Place {
 #[derive(Drop)]
 pub struct Work {
     hand: Name,
+    /// Its hand's seat among the known ones.
+    seat: usize,
     name: Text,
     task: Task,
     /// The tag of the unanswered request.
@@ -65,11 +69,12 @@ impl Model for Work {
 
 impl Work {
     /// A work without commands done.
-    pub fn new(hand: Name, name: Text, task: Task) -> Work
+    pub fn new(hand: Name, seat: usize, name: Text, task: Task) -> Work
         ensures { result ≡ record { by = arc_value hand; name = name; task = task; tag = None } }
     {
         Work {
             hand,
+            seat,
             name,
             task,
             tag: None,
@@ -86,11 +91,9 @@ impl Work {
         &self.hand
     }
 
-    /// Its commands. Doesn't allocate.
-    pub fn task(&self) -> &Task
-        ensures { result.now ≡ self.now.task }
-    {
-        &self.task
+    /// Its hand's seat among the known ones. Doesn't allocate.
+    pub fn seat(&self) -> usize {
+        self.seat
     }
 
     /// The name of the script or the transaction. Doesn't allocate.
@@ -137,16 +140,6 @@ impl Work {
         matches!(self.task, Task::Script(_, _, _))
     }
 
-    /// How many commands of a whole script were answered. Doesn't allocate.
-    pub fn replies(&self) -> usize
-        ensures { result ≡ length (replies_so_far self.now.task) }
-    {
-        match &self.task {
-            Task::Script(_, replies, _) => replies.len(),
-            Task::Single(_) => 0,
-        }
-    }
-
     /// Whether a request is still to be answered. Doesn't allocate.
     pub fn is_waited_for(&self) -> bool {
         match &self.task {
@@ -190,22 +183,49 @@ impl Work {
         self.until.as_ref()?.still_open(session)
     }
 
-    /// Takes a script for its next command, the first of this, and the tag of the request. Doesn't allocate.
-    pub fn ask(&mut self, script: Script, tag: Tag)
-        ensures { self.new ≡ asking script tag self.old }
+    /// Takes a script for its next command, the first of this, and the tag of the request, if it is the hand's
+    /// transaction and asked for nothing. Else the tag comes back, and nothing changes. Doesn't allocate.
+    #[tactic(auto, using(city_members::proofs::Ids::same_id_true))]
+    pub fn ask_by(&mut self, hand: &Name, script: Script, tag: Tag) -> Result<(), Tag>
+        ensures asked { OnOk result ((self.old.by ≡ arc_value hand.now) × (self.old.task ≡ task.Single None)
+            × (self.new ≡ asking script tag self.old)) }
+        ensures err { OnErr result (self.new ≡ self.old) }
     {
-        if let Task::Single(asked) = &mut self.task {
-            *asked = Some(script);
+        if !self.is_idle() || !is_same_id(&self.hand, hand) {
+            return Err(tag);
         }
+        self.task = Task::Single(Some(script));
         self.tag = tag;
         self.is_told = false;
+        Ok(())
     }
 
-    /// Takes the tag of a request for all of it. Doesn't allocate.
-    pub fn request(&mut self, tag: Tag)
-        ensures { self.new ≡ requested tag self.old }
+    /// Takes the tag of a request for all of it, if it is the hand's. Else false, and nothing changes. Doesn't allocate.
+    #[tactic(auto, using(city_members::proofs::Ids::same_id_true))]
+    pub fn request_by(&mut self, hand: &Name, tag: Tag) -> bool
+        ensures taken { IsTrue result → (self.old.by ≡ arc_value hand.now) × (self.new ≡ requested tag self.old) }
+        ensures left { result ≡ false → self.new ≡ self.old }
     {
+        if !is_same_id(&self.hand, hand) {
+            return false;
+        }
         self.tag = tag;
+        true
+    }
+
+    /// Its hand, and the tag of its request, which is answered, if it is a transaction that is asked for nothing. Else
+    /// nothing changes. Doesn't allocate.
+    pub fn answer_idle(&mut self) -> Option<(Name, Tag)>
+        ensures answered { IfSome result (λ r. (self.old.by ≡ arc_value r.0) × (self.old.task ≡ task.Single None)
+            × (r.1 ≡ self.old.tag) × (self.new ≡ answered self.old)) }
+        ensures left { IfNone result (self.new ≡ self.old) }
+    {
+        if !self.is_idle() {
+            return None;
+        }
+        let hand = Arc::try_clone(&self.hand).ok()?;
+        self.is_told = false;
+        Some((hand, self.tag.take()))
     }
 
     /// Takes back the one command, and the tag of its request. Doesn't allocate.

@@ -4,6 +4,7 @@ use Rattle.std.specs.Prelude.{length, if◌then◌else◌}
 use Rattle.city_model.specs.declared.command.Command.{Command}
 use Rattle.city_model.specs.declared.command.Command.TheVariants.{Commit, Abort}
 use Rattle.city_model.specs.declared.command.Reply.{Reply}
+use Rattle.city_model.specs.declared.command.Reply.TheVariants as replies
 use Rattle.city_model.specs.declared.end.End.{End}
 use Rattle.city_model.specs.declared.end.Outcome.{Outcome}
 use Rattle.city_model.specs.CityMap.{CityMap}
@@ -11,6 +12,8 @@ use Rattle.city_model.specs.Marks.{Snapshot, unmarked}
 use Rattle.city_model.specs.Meaning.{is_refusal}
 use Rattle.city_model.specs.Runs.{Scripted, Trace}
 use Rattle.city_model.specs.Standing.{Answered}
+use Rattle.city_session.specs.declared.writes.Writes.{Writes}
+use Rattle.std.specs.List.{fold}
 
 -- a transaction so far: how many had ended when it began, and its commands with the replies that were told, refused
 -- ones too
@@ -31,6 +34,26 @@ replies_in told = map (λ d. d.1) told
 -- a refused command leaves the transaction open, and is no part of its script
 abbrev pub unrefused : List Answered → List Answered
 unrefused told = filter (λ d. not (is_refusal d.1)) told
+
+-- whether it has written behind a reply, and behind all that were told
+abbrev pub unsure_after : Writes → Writes
+unsure_after Writes.Nothing = Writes.Nothing
+unsure_after Writes.Something = Writes.Unsure
+unsure_after Writes.Unsure = Writes.Unsure
+
+abbrev pub writes_after : Writes → Reply → Writes
+writes_after before (replies.Found object) = before
+writes_after before replies.Absent = before
+writes_after before replies.Expected = before
+writes_after before replies.Marked = before
+writes_after before replies.Committed = before
+writes_after before replies.Aborted = before
+writes_after before (replies.Refused cause) = before
+writes_after before replies.WentBack = unsure_after before
+writes_after before reply = Writes.Something
+
+abbrev pub writes_of : List Answered → Writes
+writes_of told = fold (λ w d. writes_after w d.1) Writes.Nothing told
 
 -- its script, without a name: the commands that were not refused, and a Commit or an Abort behind them
 abbrev pub script_of : Closed → Scripted

@@ -1,10 +1,11 @@
 //! An open transaction.
 ghost use Rattle.std.specs.Prelude.{◌≡◌, ◌<◌, [], length, false, not};
 ghost use Rattle.city_model.specs.Meaning.{is_refusal};
-ghost use Rattle.city_session.specs.Grown.{unrefused, max_commands, is_full, with_reply};
+ghost use Rattle.city_session.specs.Grown.{unrefused, max_commands, is_full, with_reply, writes_after, writes_of};
 
 use crate::MAX_COMMANDS;
 use crate::ghosts::told::Told;
+use crate::writes::Writes;
 use city_model::command::{Command, Reply};
 use std::marker::Model;
 
@@ -16,6 +17,7 @@ pub struct Transaction {
     since: u64,
     /// How many of its commands were not refused.
     commands: usize,
+    writes: Writes,
     told: Told,
 }
 
@@ -33,9 +35,10 @@ impl Model for Transaction {
     ghost view = { λ t. record { since = t.since; told = t.told } };
 
     ghost use Rattle.std.specs.Prelude.{◌≡◌, ◌<◌, length};
-    ghost use Rattle.city_session.specs.Grown.{unrefused, max_commands};
+    ghost use Rattle.city_session.specs.Grown.{unrefused, max_commands, writes_of};
 
-    ghost invariant = { λ t. (t.commands ≡ length (unrefused t.told)) × (t.commands < max_commands) };
+    ghost invariant = { λ t. (t.commands ≡ length (unrefused t.told)) × (t.commands < max_commands)
+        × (t.writes ≡ writes_of t.told) };
 }
 
 /// Whether a command with this reply is part of its transaction's script.
@@ -43,6 +46,33 @@ fn is_done(reply: &Reply) -> bool
     ensures { result ≡ not (is_refusal reply.now) }
 {
     !matches!(reply, Reply::Refused(_))
+}
+
+/// Whether it has written behind this reply.
+fn writes_after(before: Writes, reply: &Reply) -> Writes
+    ensures { result ≡ writes_after before reply.now }
+{
+    match reply {
+        Reply::Found(_)
+        | Reply::Absent
+        | Reply::Expected
+        | Reply::Marked
+        | Reply::Committed
+        | Reply::Aborted
+        | Reply::Refused(_) => before,
+        Reply::WentBack => match before {
+            Writes::Nothing => Writes::Nothing,
+            Writes::Something | Writes::Unsure => Writes::Unsure,
+        },
+        Reply::Added
+        | Reply::Replaced
+        | Reply::Deleted
+        | Reply::Attached
+        | Reply::Detached
+        | Reply::AttributesSet
+        | Reply::AttributesUnset
+        | Reply::Reshaped => Writes::Something,
+    }
 }
 
 impl Transaction {
@@ -53,6 +83,7 @@ impl Transaction {
         Transaction {
             since,
             commands: 0,
+            writes: Writes::Nothing,
             told: Told::nothing(),
         }
     }
@@ -72,6 +103,13 @@ impl Transaction {
         self.commands
     }
 
+    /// Whether it has written, by its replies. Doesn't allocate.
+    pub fn writes(&self) -> Writes
+        ensures { result ≡ writes_of self.now.told }
+    {
+        self.writes
+    }
+
     /// Whether only a commit or an abort has room left: a refused command takes none. Doesn't allocate.
     pub fn is_full(&self) -> bool
         ensures { result ≡ is_full self.now }
@@ -87,6 +125,7 @@ impl Transaction {
         if is_done(reply) {
             self.commands += 1;
         }
+        self.writes = writes_after(self.writes, reply);
         self.told = self.told.with(command, reply);
     }
 }

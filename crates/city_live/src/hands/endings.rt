@@ -2,14 +2,12 @@
 ghost use Rattle.std.specs.Prelude.{◌≡◌};
 ghost use Rattle.city_live.specs.Serving.{Follows};
 
-use super::Hands;
-use crate::answer::{Fault, Name};
+use super::{Hands, Sender};
+use crate::answer::Fault;
 use crate::hand::At;
 use crate::in_the_way::InTheWay;
 use crate::request::Tag;
 use crate::talks::{Ending, Preparing};
-use city_members::copied::Copied;
-use city_model::OutOfMemory;
 use city_model::command::Cause;
 
 /// The outcome of a commit.
@@ -23,16 +21,16 @@ enum Committing {
 impl Hands {
     /// Commits the hand's transaction.
     #[tactic(auto, using(crate::proofs::Followed::then, crate::proofs::Followed::same))]
-    pub(super) fn commit_by(&mut self, hand: &Name, tag: Tag)
+    pub(super) fn commit_by(&mut self, sender: &Sender, tag: Tag)
         ensures { Follows self.old self.new }
     {
-        let Some(stamp) = self.stamp_of(hand) else {
-            return self.refuse(hand, tag, Fault::NotOpen);
+        let Some(stamp) = self.stamp_of(sender) else {
+            return self.refuse(sender, tag, Fault::NotOpen);
         };
         if self.is_busy(stamp) {
-            return self.refuse(hand, tag, Fault::Busy);
+            return self.refuse(sender, tag, Fault::Busy);
         }
-        self.talks.request(stamp, hand, tag);
+        self.talks.request(stamp, &sender.name, tag);
         match self.commit(stamp) {
             Committing::Done => {}
             Committing::Refused(cause) => self.talks.tell_refused(stamp, cause),
@@ -59,11 +57,10 @@ impl Hands {
     {
         match self.talks.prepare(stamp, self.version, self.watchers.len()) {
             Preparing::Ready(changed, version) => {
-                let hand = self.talks.hand(stamp);
                 self.release(stamp);
-                self.talks.commit(stamp, changed, version, &self.watchers);
+                let seat = self.talks.commit(stamp, changed, version, &self.watchers);
                 self.version = version;
-                self.leave(hand);
+                self.leave(seat);
                 Committing::Done
             }
             Preparing::Refused(cause) => Committing::Refused(cause),
@@ -73,32 +70,31 @@ impl Hands {
 
     /// Aborts the hand's work.
     #[tactic(auto, using(crate::proofs::Followed::then, crate::proofs::Followed::same))]
-    pub(super) fn abort_by(&mut self, hand: &Name, tag: Tag)
+    pub(super) fn abort_by(&mut self, sender: &Sender, tag: Tag)
         ensures { Follows self.old self.new }
     {
-        let Some(stamp) = self.stamp_of(hand) else {
-            return self.refuse(hand, tag, Fault::NotOpen);
+        let Some(stamp) = self.stamp_of(sender) else {
+            return self.refuse(sender, tag, Fault::NotOpen);
         };
-        let Ok(again) = tag.copy(self.alloc) else {
-            return self.refuse(hand, tag, Fault::NoMemory);
-        };
-        if self.give_up(hand, again, stamp).is_err() {
-            self.refuse(hand, tag, Fault::NoMemory);
+        if let Err(tag) = self.give_up(sender, tag, stamp) {
+            self.refuse(sender, tag, Fault::NoMemory);
         }
     }
 
-    /// Aborts a work, and answers its waiting request. If memory runs out, nothing changes.
+    /// Aborts a work, and answers its waiting request. If memory runs out, the tag comes back, and nothing changes.
     #[tactic(auto, using(crate::proofs::Followed::then, crate::proofs::Followed::same))]
-    pub(super) fn give_up(&mut self, hand: &Name, tag: Tag, stamp: u64) -> Result<(), OutOfMemory>
+    pub(super) fn give_up(&mut self, sender: &Sender, tag: Tag, stamp: u64) -> Result<(), Tag>
         ensures { Follows self.old self.new }
     {
         // (a dead script begins again, so that its end counts)
-        self.talks.reopen(stamp)?;
+        if self.talks.reopen(stamp).is_err() {
+            return Err(tag);
+        }
         let _place = self.unlist(stamp);
         if self.talks.is_waited_for(stamp) {
             self.talks.tell_cancelled(stamp);
         }
-        self.talks.request(stamp, hand, tag);
+        self.talks.request(stamp, &sender.name, tag);
         self.end(stamp, Ending::Aborted);
         Ok(())
     }
@@ -111,34 +107,26 @@ impl Hands {
         if !self.is_open(stamp) {
             return;
         }
-        let hand = self.talks.hand(stamp);
         self.release(stamp);
-        self.talks.end(stamp, ending, self.version);
-        self.leave(hand);
+        let seat = self.talks.end(stamp, ending, self.version);
+        self.leave(seat);
     }
 
-    /// The hand has no work any more. Doesn't allocate.
-    fn leave(&mut self, hand: Option<Name>)
+    /// The hand at a seat has no work any more. Doesn't allocate.
+    fn leave(&mut self, seat: Option<usize>)
         ensures { self.new ≡ self.old }
     {
-        let Some(hand) = hand else {
-            return;
-        };
-        if let Some(known) = self.hands.get_mut(&*hand) {
-            known.at = At::Idle;
+        if let Some(seat) = seat {
+            let _before = self.roster.put_at(seat, At::Idle);
         }
-        self.forget_idle(&hand);
     }
 
     /// Keeps the age of a dead transaction for the next one of its hand. Doesn't allocate.
-    pub(super) fn keep_age(&mut self, hand: Option<Name>, stamp: u64, way: InTheWay)
+    pub(super) fn keep_age(&mut self, seat: Option<usize>, stamp: u64, way: InTheWay)
         ensures { self.new ≡ self.old }
     {
-        let Some(hand) = hand else {
-            return;
-        };
-        if let Some(known) = self.hands.get_mut(&*hand) {
-            known.at = At::Kept(stamp, way);
+        if let Some(seat) = seat {
+            let _before = self.roster.put_at(seat, At::Kept(stamp, way));
         }
     }
 }

@@ -3,7 +3,7 @@ ghost use Rattle.std.specs.Prelude.{◌≡◌, All, IfOk};
 ghost use Rattle.city_txn.specs.CoreState.{committed};
 ghost use Rattle.city_live.specs.Serving.{Follows};
 
-use super::Hands;
+use super::{Hands, Sender};
 use crate::answer::{Fault, Name, What};
 use crate::request::Tag;
 use city_members::copied::Copied;
@@ -16,23 +16,27 @@ use std::sync::Arc;
 impl Hands {
     /// Tells the hand of each change from now on.
     #[tactic(auto, using(crate::proofs::Followed::then, crate::proofs::Followed::same))]
-    pub(super) fn watch(&mut self, hand: &Name, tag: Tag)
+    pub(super) fn watch(&mut self, sender: &Sender, tag: Tag)
         ensures { Follows self.old self.new }
     {
-        if let Err(fault) = self.remember(hand) {
-            return self.refuse(hand, tag, fault);
+        match self.seat_of(sender) {
+            Ok(seat) => self.watch_at(sender, seat, tag),
+            Err(fault) => self.refuse(sender, tag, fault),
         }
-        match self.add_watcher(hand) {
+    }
+
+    /// Tells the hand at a seat of each change from now on.
+    #[tactic(auto, using(crate::proofs::Followed::then, crate::proofs::Followed::same))]
+    fn watch_at(&mut self, sender: &Sender, seat: usize, tag: Tag)
+        ensures { Follows self.old self.new }
+    {
+        match self.add_watcher(&sender.name) {
             Ok(()) => {
-                if let Some(known) = self.hands.get_mut(&**hand) {
-                    known.watches = true;
-                }
-                self.talks.say(hand, tag, What::Watching(self.version));
+                self.roster.put_watch(seat, true);
+                self.talks
+                    .say(&sender.name, tag, What::Watching(self.version));
             }
-            Err(OutOfMemory) => {
-                self.forget_idle(hand);
-                self.refuse(hand, tag, Fault::NoMemory);
-            }
+            Err(OutOfMemory) => self.refuse(sender, tag, Fault::NoMemory),
         }
     }
 
@@ -47,51 +51,54 @@ impl Hands {
 
     /// Tells the hand of no change any more.
     #[tactic(auto, using(crate::proofs::Followed::then, crate::proofs::Followed::same))]
-    pub(super) fn unwatch(&mut self, hand: &Name, tag: Tag)
+    pub(super) fn unwatch(&mut self, sender: &Sender, tag: Tag)
         ensures { Follows self.old self.new }
     {
-        self.stop_watching(hand);
-        self.forget_idle(hand);
-        self.talks.say(hand, tag, What::Unwatched);
+        self.stop_watching(sender);
+        self.talks.say(&sender.name, tag, What::Unwatched);
     }
 
     /// Tells the hand that it is forgotten.
-    pub(super) fn say_bye(&mut self, hand: &Name, tag: Tag)
+    pub(super) fn say_bye(&mut self, sender: &Sender, tag: Tag)
         ensures { Follows self.old self.new }
     {
-        self.talks.say(hand, tag, What::Bye);
+        self.talks.say(&sender.name, tag, What::Bye);
     }
 
-    pub(super) fn stop_watching(&mut self, hand: &Name)
+    pub(super) fn stop_watching(&mut self, sender: &Sender)
         ensures { self.new ≡ self.old }
     {
-        self.watchers.remove(&**hand);
-        if let Some(known) = self.hands.get_mut(&**hand) {
-            known.watches = false;
+        if let Some(seat) = sender.seat {
+            self.watchers.remove(&*sender.name);
+            self.roster.put_watch(seat, false);
         }
     }
 
     /// Tells the committed city.
     #[tactic(auto, using(crate::proofs::Followed::city_seen))]
-    pub(super) fn show_model(&mut self, hand: &Name, tag: Tag)
+    pub(super) fn show_model(&mut self, sender: &Sender, tag: Tag)
         ensures { Follows self.old self.new }
     {
         self.talks.session().is_live();
         match self.talks.session().committed_city() {
-            Ok(city) => self.talks.say(hand, tag, What::Model(city, self.version)),
-            Err(OutOfMemory) => self.refuse(hand, tag, Fault::NoMemory),
+            Ok(city) => self
+                .talks
+                .say(&sender.name, tag, What::Model(city, self.version)),
+            Err(OutOfMemory) => self.refuse(sender, tag, Fault::NoMemory),
         }
     }
 
     /// Tells the committed objects of ids.
     #[tactic(auto, using(crate::proofs::Followed::objects_seen))]
-    pub(super) fn look(&mut self, hand: &Name, tag: Tag, ids: Sequence<Id>)
+    pub(super) fn look(&mut self, sender: &Sender, tag: Tag, ids: Sequence<Id>)
         ensures { Follows self.old self.new }
     {
         self.talks.session().is_live();
         match self.committed(ids) {
-            Ok(objects) => self.talks.say(hand, tag, What::Look(objects, self.version)),
-            Err(OutOfMemory) => self.refuse(hand, tag, Fault::NoMemory),
+            Ok(objects) => self
+                .talks
+                .say(&sender.name, tag, What::Look(objects, self.version)),
+            Err(OutOfMemory) => self.refuse(sender, tag, Fault::NoMemory),
         }
     }
 

@@ -18,6 +18,8 @@ use std::sync::Arc;
 #[derive(Drop)]
 enum Held {
     No,
+    /// No longer: all that stood in its way when it died have ended.
+    NoMore,
     Behind(u64, Option<InTheWay>),
     NoMemory,
 }
@@ -30,6 +32,10 @@ impl Hands {
     {
         match self.held(stamp) {
             Held::No => self.go_ahead(stamp),
+            Held::NoMore => {
+                self.talks.hold(stamp, None);
+                self.go_ahead(stamp);
+            }
             Held::Behind(other, way) => self.held_back(stamp, other, way),
             Held::NoMemory => self.not_done(stamp, Fault::NoMemory),
         }
@@ -38,13 +44,14 @@ impl Hands {
     /// Who holds the first command of a work back, if anyone does.
     fn held(&self, stamp: u64) -> Held {
         let session = self.talks.session();
-        if !session.is_open(stamp) || !session.locked(stamp).is_empty() {
+        if !session.locked(stamp).is_empty() {
             return Held::No;
         }
         let Some(work) = self.talks.work(stamp) else {
             return Held::No;
         };
         match held_back(self.alloc, session, &self.waiting, stamp, work) {
+            Ok(None) if work.until().is_some() => Held::NoMore,
             Ok(None) => Held::No,
             Ok(Some((other, way))) => Held::Behind(other, way),
             Err(OutOfMemory) => Held::NoMemory,
@@ -56,7 +63,6 @@ impl Hands {
     fn go_ahead(&mut self, stamp: u64)
         ensures { Follows self.old self.new }
     {
-        self.talks.hold(stamp, None);
         match self.talks.go_on(stamp) {
             Gone::Replied | Gone::Nothing => {}
             Gone::Refused => self.end(stamp, Ending::Refused),
@@ -218,10 +224,9 @@ impl Hands {
         ensures { Follows self.old self.new }
     {
         let blocked = self.blocked(&way)?;
-        let hand = self.talks.hand(stamp);
         self.release(stamp);
-        self.talks.die(stamp, blocked);
-        self.keep_age(hand, stamp, way);
+        let seat = self.talks.die(stamp, blocked);
+        self.keep_age(seat, stamp, way);
         Ok(())
     }
 }

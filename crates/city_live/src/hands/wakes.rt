@@ -67,7 +67,7 @@ impl Hands {
     fn wake_oldest(&mut self) -> bool
         ensures { Follows self.old self.new }
     {
-        if self.talks.reserve(STEP_ANSWERS).is_err() {
+        if self.due.is_empty() || self.talks.reserve(STEP_ANSWERS).is_err() {
             return false;
         }
         let Some(stamp) = self.due.pop_first() else {

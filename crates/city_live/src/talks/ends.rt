@@ -1,5 +1,6 @@
 //! How works end.
-ghost use Rattle.std.specs.Prelude.{◌≡◌, Some, IfOk};
+ghost use Rattle.std.specs.Prelude.{◌≡◌, Some, true, IfOk};
+ghost use Rattle.city_txn.specs.CoreState.{is_open};
 ghost use Rattle.std.specs.Arc.{arc_value};
 ghost use Rattle.city_session.specs.Grown.{Grown};
 ghost use Rattle.city_session.specs.Live.{grown_at};
@@ -19,7 +20,7 @@ use city_model::change::Change;
 use city_model::command::{Cause, Reply};
 use city_model::end::Outcome;
 use city_model::script::{Script, is_end};
-use city_session::Session;
+use city_session::{Session, Writes};
 use city_txn::Prepared;
 use std::collections::BTreeMap;
 use std::sync::Arc;
@@ -60,20 +61,22 @@ impl Talks {
         self.table.begin_again(self.alloc, stamp);
     }
 
-    /// Undoes a transaction that dies, and tells its hand what stood in its way.
-    pub fn die(&mut self, stamp: u64, blocked: Blocked)
+    /// Undoes a transaction that dies, and tells its hand what stood in its way. Returns the hand's seat.
+    pub fn die(&mut self, stamp: u64, blocked: Blocked) -> Option<usize>
         ensures { Follows self.old self.new }
     {
         if !self.session.is_open(stamp) || self.table.is_script(stamp) {
-            return;
+            return None;
         }
         let Some(work) = self.table.take(stamp) else {
-            return;
+            return None;
         };
+        let seat = work.seat();
         self.session.abort(stamp);
         let (hand, _name, _task, tag) = work.into_parts();
         let what = What::Died(blocked);
         self.log.says(Some(stamp), Answer { hand, tag, what });
+        Some(seat)
     }
 
     /// Makes a commit ready, with room for all that it tells: so many watchers, its hand, and as much again.
@@ -84,16 +87,19 @@ impl Talks {
         if !self.session.is_open(stamp) || !self.table.may_commit(stamp) {
             return Preparing::NoMemory;
         }
+        if watchers == 0 {
+            if let Some(is_written) = has_written(&self.session, stamp) {
+                return untold(&self.session, stamp, version_after(version, is_written));
+            }
+        }
         let change = match self.session.prepare(stamp) {
             Ok(Prepared::Ready(change)) => change,
             Ok(Prepared::Refused(cause)) => return Preparing::Refused(cause),
             Err(OutOfMemory) => return Preparing::NoMemory,
         };
-        if change.len() == 0 {
-            return Preparing::Ready(None, version);
-        }
-        let version = version.saturating_add(1);
-        if watchers == 0 {
+        let is_written = change.len() != 0;
+        let version = version_after(version, is_written);
+        if watchers == 0 || !is_written {
             return Preparing::Ready(None, version);
         }
         match self.shared(stamp, change, version, watchers) {
@@ -132,23 +138,24 @@ impl Talks {
         Ok(shared)
     }
 
-    /// Commits a work, and tells the watchers of its change, and then its hand.
+    /// Commits a work, and tells the watchers of its change, and then its hand. Returns the hand's seat.
     pub fn commit(
         &mut self,
         stamp: u64,
         changed: Option<Arc<Changed>>,
         version: u64,
         watchers: &BTreeMap<Text, Name>,
-    )
+    ) -> Option<usize>
         requires { IsAllowed stamp changed self.old.session }
         ensures { Follows self.old self.new }
     {
         if !self.table.may_commit(stamp) {
-            return;
+            return None;
         }
         let Some(work) = self.table.take(stamp) else {
-            return;
+            return None;
         };
+        let seat = work.seat();
         let since = since_of(&self.session, stamp);
         self.session.is_live();
         self.session.commit(stamp);
@@ -164,18 +171,20 @@ impl Talks {
         };
         let what = What::Ended(ended);
         self.log.says(Some(stamp), Answer { hand, tag, what });
+        Some(seat)
     }
 
-    /// Undoes a work, and tells its hand its end.
-    pub fn end(&mut self, stamp: u64, ending: Ending, version: u64)
+    /// Undoes a work, and tells its hand its end. Returns the hand's seat.
+    pub fn end(&mut self, stamp: u64, ending: Ending, version: u64) -> Option<usize>
         ensures { Follows self.old self.new }
     {
         if !self.session.is_open(stamp) {
-            return;
+            return None;
         }
         let Some(work) = self.table.take(stamp) else {
-            return;
+            return None;
         };
+        let seat = work.seat();
         let since = since_of(&self.session, stamp);
         self.session.abort(stamp);
         let (hand, name, task, tag) = work.into_parts();
@@ -189,6 +198,37 @@ impl Talks {
         };
         let what = What::Ended(ended);
         self.log.says(Some(stamp), Answer { hand, tag, what });
+        Some(seat)
+    }
+}
+
+/// Whether an open transaction has written something; `None` if its replies don't tell. Doesn't allocate.
+fn has_written(session: &Session, stamp: u64) -> Option<bool> {
+    match session.transaction(stamp)?.writes() {
+        Writes::Nothing => Some(false),
+        Writes::Something => Some(true),
+        Writes::Unsure => None,
+    }
+}
+
+/// The version after a commit. Doesn't allocate.
+fn version_after(version: u64, is_written: bool) -> u64 {
+    if is_written {
+        version.saturating_add(1)
+    } else {
+        version
+    }
+}
+
+/// Makes a commit ready whose change nobody is told.
+fn untold(session: &Session, stamp: u64, version: u64) -> Preparing
+    requires { is_open session.now.core stamp ≡ true }
+    ensures { IsReady stamp result session.now }
+{
+    match session.refusal(stamp) {
+        Ok(None) => Preparing::Ready(None, version),
+        Ok(Some(cause)) => Preparing::Refused(cause),
+        Err(OutOfMemory) => Preparing::NoMemory,
     }
 }
 

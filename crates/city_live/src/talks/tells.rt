@@ -37,10 +37,9 @@ impl Talks {
             return;
         };
         let since = transaction.since();
-        let Some(hand) = self.table.hand_of_idle(stamp) else {
+        let Some((hand, tag)) = self.table.answer_idle(stamp) else {
             return;
         };
-        let tag = self.table.answer(stamp);
         let what = What::Began(since);
         self.log.says(Some(stamp), Answer { hand, tag, what });
     }
@@ -65,10 +64,9 @@ impl Talks {
             return;
         };
         let place = transaction.commands();
-        let Some(hand) = self.table.hand_of_idle(stamp) else {
+        let Some((hand, tag)) = self.table.answer_idle(stamp) else {
             return;
         };
-        let tag = self.table.answer(stamp);
         let what = What::Refused(place, cause);
         self.log.says(Some(stamp), Answer { hand, tag, what });
     }
