@@ -15,3 +15,9 @@ pub use Rattle.city_doc.proofs.object.FaultlessBodies.{is_object, known, number_
 pub use Rattle.city_doc.proofs.object.ReadBodies.{body_of-some, geometries_some}
 pub use Rattle.city_doc.proofs.tree.ReadLists.{all_read-step}
 pub use Rattle.city_doc.proofs.document.Right.{array_some, some_of}
+pub use Rattle.city_doc.proofs.document.IntegralTrees.{geometry_integral, list_integral, object_integral}
+pub use Rattle.city_doc.proofs.document.IntegralTrees.{put_list_whole, vertex_integral}
+pub use Rattle.city_doc.proofs.document.KeptMembers.{kept_all}
+pub use Rattle.city_doc.proofs.document.RoundTrip.{vertices_read}
+pub use Rattle.city_doc.proofs.object.ObjectsRead.{both_all, geometry_read, object_read}
+pub use Rattle.city_doc.proofs.tree.ListsRead.{all_pass, list_read}

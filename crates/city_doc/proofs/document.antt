@@ -8,7 +8,7 @@ mod ExampleFaults
 mod Finders
 mod FramesRead
 mod IdSets
-mod IntegralTrees
+pub mod IntegralTrees
 pub mod KeptMembers
 mod LawfulCities
 pub mod LawfulTrees
@@ -21,7 +21,7 @@ mod Order
 mod ReadableObjects
 mod RelatedCities
 pub mod Right
-mod RoundTrip
+pub mod RoundTrip
 mod Searches
 mod Told
 mod Totals

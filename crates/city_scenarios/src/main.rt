@@ -7,7 +7,7 @@
 //! - `play`: the verbs; `written`, `fault_lines`, `wanted`: their answers, and the comparison
 //! - `document`, `scripts`, `prefixes`: texts read; `pieces`: in how many pieces; `tokens`: from their tokens; `check`:
 //!   their faults; `diagnostics`: diagnostics of these; `body`: bodies judged; `members`: members kept;
-//!   `faults`: faults shown
+//!   `faults`: faults shown; `rewrite`: scripts written
 //! - `run`, `crew`, `served`, `replay`: whole runs, by one worker, by several, as the program serves them, and their
 //!   scripts one at a time; `canonical`: a model's canonical form
 //! - `serve`, `reader`, `writer`: from a device to a device; `program`, `folder`, `seen`: the program, over files that
@@ -43,6 +43,7 @@ mod program;
 mod reader;
 mod replay;
 mod reply;
+mod rewrite;
 mod run;
 mod scenario;
 mod scripts;

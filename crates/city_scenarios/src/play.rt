@@ -14,6 +14,7 @@ use crate::members::play_members;
 use crate::named::Named;
 use crate::prefixes::play_prefixes;
 use crate::program::play_program;
+use crate::rewrite::play_rewrite;
 use crate::run::play_run;
 use crate::scenario::Scenario;
 use crate::scripts::play_scripts;
@@ -82,6 +83,7 @@ fn play_text<T: Threads + Sync>(
         "document" => play_document(rt, alloc, rest, text, answer),
         "prefixes" => play_prefixes(rt, alloc, false, text, answer),
         "scripts" => play_scripts(rt, alloc, rest, text, answer),
+        "rewrite" => play_rewrite(alloc, text, answer),
         "scriptprefixes" => play_prefixes(rt, alloc, true, text, answer),
         "canonical" => play_canonical(alloc, text, answer),
         "body" => play_body(alloc, text, answer),

@@ -11,12 +11,12 @@ use Rattle.city_writer.specs.internal.document.KeptMembers.{is_kept_geometry, is
 use Rattle.city_tokens.proofs.Laws.{put-integral}
 use Rattle.city_doc.proofs.tree.ListsRead.{all_pass, integer_read}
 
-list_integral : {A : Type 0} (f : A → Data) (ok : A → Bool) → ((x : A) → ok x ≡ true → is_integral (f x) ≡ true)
+pub list_integral : {A : Type 0} (f : A → Data) (ok : A → Bool) → ((x : A) → ok x ≡ true → is_integral (f x) ≡ true)
     → (xs : List A) → list_all ok xs ≡ true → items_integral (items_of (map f xs)) ≡ true
 list_integral f ok each [] h = refl
 list_integral f ok each (x ∷ xs) h = grind (arith, each, list_integral f ok each xs)
 
-put_list_whole : {A : Type 0} (k : List ℕ) (f : A → Data) (xs : List A) (ms : Members)
+pub put_list_whole : {A : Type 0} (k : List ℕ) (f : A → Data) (xs : List A) (ms : Members)
     → items_integral (items_of (map f xs)) ≡ true → members_integral ms ≡ true
     → members_integral (put_list k f xs ms) ≡ true
 put_list_whole k f xs ms h hs = grind (arith, put-integral)
@@ -24,7 +24,7 @@ put_list_whole k f xs ms h hs = grind (arith, put-integral)
 triple_integral : (zs : List ℤ) → list_all is_i64 zs ≡ true → is_integral (triple_data zs) ≡ true
 triple_integral zs h = list_integral integer_data is_i64 (λ z h. ap is_some (integer_read z h)) zs h
 
-vertex_integral : (p : Point) → is_i64_point p ≡ true → is_integral (vertex_data p) ≡ true
+pub vertex_integral : (p : Point) → is_i64_point p ≡ true → is_integral (vertex_data p) ≡ true
 vertex_integral p h = triple_integral (p.x ∷ p.y ∷ p.z ∷ []) (grind arith)
 
 pub at_geometry : (ms : Members) → kept_at_geometry ms ≡ true → members_integral ms ≡ true
@@ -42,7 +42,7 @@ module _ (pool : List Point) (fewer : length pool < 2 ^ 63) where
   nested_integral (suc n) xs =
       list_integral (nested_data pool n) (λ x. true) (λ x h. nested_integral n x) xs (all_pass xs)
 
-  geometry_integral : (g : Geometry) → is_kept_geometry g ≡ true → is_integral (geometry_data pool g) ≡ true
+  pub geometry_integral : (g : Geometry) → is_kept_geometry g ≡ true → is_integral (geometry_data pool g) ≡ true
   unfolding is_kept_geometry
   geometry_integral g h =
       let b = nested g.shape in
@@ -50,7 +50,7 @@ module _ (pool : List Point) (fewer : length pool < 2 ^ 63) where
       let rest = at_geometry g.extra h in
       search (put-integral, bounds, rest)
 
-  object_integral : (o : Object) → is_kept_object o ≡ true → is_integral (object_data pool o) ≡ true
+  pub object_integral : (o : Object) → is_kept_object o ≡ true → is_integral (object_data pool o) ≡ true
   unfolding is_kept_object
   object_integral o h =
       let parts = and_parts (kept_at_object o.body.extra) (list_all is_kept_geometry o.body.geometry) h in

@@ -15,7 +15,7 @@ use Rattle.city_writer.proofs.Laws.{are_in, parts_in, object_members_lacking}
 use Rattle.city_doc.proofs.shape.PointsRead.{shape_read}
 use Rattle.city_doc.proofs.tree.PutLists.{get_member-put_list_apart}
 
-geometry_read : (pool : List Point) → length pool < 2 ^ 63 → (g : Geometry)
+pub geometry_read : (pool : List Point) → length pool < 2 ^ 63 → (g : Geometry)
     → (is_kept_geometry g && are_in pool (geometry_points g)) ≡ true → geometry_of pool (geometry_data pool g) ≡ Some g
 unfolding is_kept_geometry
 geometry_read pool small g h =
@@ -29,7 +29,7 @@ geometry_read pool small g h =
       shape_read pool small g.shape hs.1,
     )
 
-both_all : {X : Type 0} (f g : X → Bool) (xs : List X) → list_all f xs ≡ true → list_all g xs ≡ true
+pub both_all : {X : Type 0} (f g : X → Bool) (xs : List X) → list_all f xs ≡ true → list_all g xs ≡ true
     → list_all (λ x. f x && g x) xs ≡ true
 both_all f g [] h k = refl
 both_all f g (x ∷ xs) h k = grind (arith, both_all f g xs)
