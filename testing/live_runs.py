@@ -8,6 +8,7 @@ all answers; city_scenarios has to give the same ones. In the second engine, whe
 and the oldest one that is open never dies. All that has ended is then run again by cityed with one worker, in the order
 of the ends: each transaction that was committed, aborted or died, each script, and each refused command behind those in
 front of it, as a script of its own. Each ends with the same replies, refusal or outcome, and the model is the same.
+A run of more hands than may have something open at once comes last.
 Prints what was tried, and ends at the first other answer with status 1, the seed and the line. Python 3 alone.
 """
 
@@ -27,6 +28,7 @@ from random_runs import HEAD
 
 SECONDS = 120
 MANY = 50  # the runs of one file of scenarios
+MOST_HANDS = 4_096  # so many hands may have something open
 MOST_TRIES = 10_000  # what goes on behind one request goes on less often than this
 OBJECTS = {
     "b": {"type": "Building", "children": ["p", "q"], "attributes": {"n": 0}},
@@ -173,13 +175,31 @@ class Run:
         return "\n".join([f"Seed {self.seed}", "live", "$the city", "----", *self.lines])
 
 
+def crowd():
+    """The scenario of hands that come and go, more than may have something open at once."""
+    script = 'script {"name":"s","commands":[{"delete":"z"},"commit"]}'
+    refused = 'refused 0 "cause":"NoObject","id":"z"'
+    lines = [f"come{number}/1 {script} -> come{number}/1 s {refused} since {number} version 0" for number in range(5_000)]
+    lines += [f"stay{number}/2 begin t -> stay{number}/2 began 5000" for number in range(MOST_HANDS)]
+    lines += ["x/3 begin t -> x/3 TooManyHands", "x/4 watch -> x/4 TooManyHands"]
+    lines += ["stay7/5 commit -> stay7/5 t committed since 5000 version 0", "x/6 begin t -> x/6 began 5001"]
+    lines += ["stay7/7 begin t -> stay7/7 TooManyHands", "x/8 bye -> x/8 t aborted since 5001 version 0; x/8 bye"]
+    lines += ["stay7/9 watch -> stay7/9 watching 0", "y/10 begin t -> y/10 TooManyHands"]
+    lines += ["stay7/11 unwatch -> stay7/11 unwatched", "y/12 begin t -> y/12 began 5002"]
+    return "\n".join(["A crowd", "live", "$the city", "----", *lines])
+
+
 def play(program, folder, runs):
     """Has the program play these runs as scenarios of one file."""
+    play_all(program, folder, [run.scenario() for run in runs])
+
+
+def play_all(program, folder, scenarios):
     path = os.path.join(folder, "runs.txt")
     with open(path, "w", encoding="utf-8") as file:
-        file.write("\n\n".join(["let the city\n" + DOCUMENT, *[run.scenario() for run in runs]]) + "\n")
+        file.write("\n\n".join(["let the city\n" + DOCUMENT, *scenarios]) + "\n")
     status, output, error = answer([program, path])
-    if (status, output) != (0, f"{path}: {len(runs)} played\n".encode()):
+    if (status, output) != (0, f"{path}: {len(scenarios)} played\n".encode()):
         raise Wrong(output.decode(errors="replace").removeprefix(f"{path}: "), f"status {status}", error.decode())
 
 
@@ -244,6 +264,7 @@ def try_all(cityed, scenarios, seeds):
                 counts.update(run.engine.counts)
                 counts["ends"] += len(run.engine.history)
                 counts["scripts"] += run_again(cityed, folder, run)
+        play_all(scenarios, folder, [crowd()])
     return counts
 
 

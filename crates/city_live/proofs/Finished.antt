@@ -47,12 +47,9 @@ use Rattle.city_live.specs.Serving.{Logged, IsSaid, told_in}
 use Rattle.city_live.specs.Works.{Working, work_at, WorksTo, SameWorks, is_whole, is_whole_at, IsScriptAt}
 use Rattle.city_live.specs.Works.{without_script, with_script, IsAtCommit, MayCommit, first_of}
 use Rattle.city_live.proofs.Continued.{begun, acted, goes_then}
-use Rattle.city_live.proofs.Worked.{one_reply, told_plainly}
+use Rattle.city_live.proofs.Worked.{one_reply, some_same, told_plainly}
 use Rattle.city_live.proofs.Followed.{told_both}
 use Rattle.city_live.proofs.Hearing.{work_own, work_other, heard_event, heard_silently, heard_unlabelled}
-
-some_same : {A : Type 0} (a b : A) → Some a ≡ Some b → a ≡ b
-some_same a b e = cc
 
 -- the same works, with the one of the stamp named
 pub works_same : (stamp : ℕ) (w : Working) (works others : List (ℕ × Working)) → work_at works stamp ≡ Some w

@@ -18,7 +18,8 @@ use Rattle.city_session.specs.Acting.{GrowsTo, IsActed, told_after}
 use Rattle.city_session.specs.declared.acted.Acted.TheVariants as acts
 use Rattle.city_session.specs.Grown.{Grown, with_reply, unrefused}
 use Rattle.city_session.specs.Live.{SessionState, grown_at}
-use Rattle.city_session.proofs.Recorded.{grows_same}
+use Rattle.city_session.proofs.AsScripts.{one_more_refused}
+use Rattle.city_session.proofs.Recorded.{grows_same, at_own}
 use Rattle.city_live.specs.declared.answer.Answer.{Answer}
 use Rattle.city_live.specs.declared.answer.Fault.{Fault}
 use Rattle.city_live.specs.declared.answer.What.{What}
@@ -31,7 +32,7 @@ use Rattle.city_live.specs.Heard.{Talk, IsFitWhat, after_what, closed_by_what, a
 use Rattle.city_live.specs.Heard.{IsSoFar}
 use Rattle.city_live.specs.Heard.{AreHeard, with_one, asked_in, script_in, since_so_far, since_of, told_so_far}
 use Rattle.city_live.specs.Heard.{told_of, asked_talk}
-use Rattle.city_live.specs.Running.{IsWhatOf}
+use Rattle.city_live.specs.Running.{IsWhatOf, IsWhatBehind}
 use Rattle.city_live.specs.Serving.{Logged, IsSaid}
 use Rattle.city_live.specs.Works.{Working, work_at, WorksTo, IsWorkOf, IsAskedAt, answered, with_asked, tag_at, tag_of}
 use Rattle.city_live.specs.Works.{asking, requested}
@@ -130,6 +131,22 @@ fit_is : (k : Talk) (place : ℕ) (reply : Reply) (what : What) → IsWhatOf pla
     → is_some k.asked ≡ true → place ≡ length (unrefused k.told) → IsFitWhat what k
 fit_is k place (replies.Refused cause) what h script asked at = subst (λ x. IsFitWhat x k) (sym h) (script, at)
 fit_is k place reply what h script asked at = subst (λ x. IsFitWhat x k) (sym h) (asked, refl)
+
+-- a refusal takes no place
+pub what_before : {s u : SessionState} (stamp : ℕ) (command : Command) (reply : Reply)
+    → IsActed stamp command (acts.Replied reply) s u → (what : What) → IsWhatBehind u stamp reply what
+    → (place : ℕ) × ((g : Grown) → grown_at s.growing stamp ≡ Some g → place ≡ length (unrefused g.told))
+    × IsWhatOf place reply what
+what_before {s} {u} stamp command (replies.Refused cause) acted what h =
+    let reply : Reply = replies.Refused cause in (
+      h.0,
+      λ g e. h.1 (with_reply command reply g)
+          (at_own stamp _ s.growing u.growing acted.growing ∙ ap (option_map (told_after command (acts.Replied reply))) e)
+          ∙ one_more_refused g.told command reply refl,
+      h.2,
+    )
+what_before {s} {u} stamp command reply acted what h =
+    (length (unrefused (told_of (grown_at s.growing stamp))), λ g e. ap (λ o. length (unrefused (told_of o))) e, h)
 
 script_none : (t : Task) → is_whole t ≡ false → script_in t ≡ None
 script_none (task.Script s rs cause) h = absurd (false≢true (sym h))

@@ -18,7 +18,7 @@ pub of_hand : (works : List (ℕ × Working)) (stamp : ℕ) (w : Working) (by : 
 of_hand works stamp w by P there same so =
     record { work = w; there = there; hand = same_id_true w.by by same; so = so }
 
-some_same : {A : Type 0} (a b : A) → Some a ≡ Some b → a ≡ b
+pub some_same : {A : Type 0} (a b : A) → Some a ≡ Some b → a ≡ b
 some_same a b e = cc
 
 none_answered : (cs : List Command) → answered_by cs [] ≡ []

@@ -1,11 +1,11 @@
 -- A script that goes on.
-use Rattle.std.specs.Prelude.{◌≡◌, ◌==◌, ◌<◌, ℕ, List, false, Option, Some}
+use Rattle.std.specs.Prelude.{◌≡◌, ◌==◌, ◌<◌, ℕ, List, false, Option, Some, length}
 use Rattle.city_model.specs.declared.command.Cause.{Cause}
 use Rattle.city_model.specs.declared.command.Command.{Command}
 use Rattle.city_model.specs.declared.command.Reply.{Reply}
 use Rattle.city_model.specs.declared.command.Reply.TheVariants as replies
 use Rattle.city_session.specs.Acting.{stamp_for, stamps_after, IsBegun}
-use Rattle.city_session.specs.Grown.{Grown}
+use Rattle.city_session.specs.Grown.{Grown, unrefused}
 use Rattle.city_session.specs.Live.{SessionState, grown_at}
 use Rattle.city_live.specs.declared.answer.What.{What}
 use Rattle.city_live.specs.declared.answer.What.TheVariants as told
@@ -31,3 +31,10 @@ pub record Begins (stamp : ℕ) (kept : Option ℕ) (s u : SessionState) : Type 
 abbrev pub IsWhatOf : ℕ → Reply → What → Type 0
 IsWhatOf place (replies.Refused cause) w = w ≡ told.Refused place cause
 IsWhatOf place r w = w ≡ told.Reply r
+
+-- the same, behind the command in the session
+abbrev pub IsWhatBehind : SessionState → ℕ → Reply → What → Type 0
+IsWhatBehind s stamp (replies.Refused cause) w =
+    (place : ℕ) × ((g : Grown) → grown_at s.growing stamp ≡ Some g → place ≡ length (unrefused g.told))
+    × (w ≡ told.Refused place cause)
+IsWhatBehind s stamp r w = w ≡ told.Reply r

@@ -23,10 +23,6 @@ abbrev pub is_whole : Task → Bool
 is_whole (task.Script s rs c) = true
 is_whole (task.Single asked) = false
 
-abbrev pub replies_so_far : Task → List Reply
-replies_so_far (task.Script s rs c) = rs
-replies_so_far (task.Single asked) = []
-
 -- what a script asks for first
 abbrev pub first_of : Option Scripted → Option Command
 first_of None = None

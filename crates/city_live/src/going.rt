@@ -19,6 +19,9 @@ pub fn held_back(
     if let Some(other) = work.still_open(session) {
         return Ok(Some((other, None)));
     }
+    if waiting.is_empty() {
+        return Ok(None);
+    }
     let Some(command) = work.command() else {
         return Ok(None);
     };

@@ -25,6 +25,11 @@ impl Waiting {
         }
     }
 
+    /// Whether nothing waits. Doesn't allocate.
+    pub fn is_empty(&self) -> bool {
+        self.at_ids.is_empty() && self.behind.is_empty()
+    }
+
     /// Lists a stamp at an id, for a lock in the mode. If memory runs out, it isn't listed.
     pub fn add_at(&mut self, id: &Id, stamp: u64, mode: Mode) -> Result<(), OutOfMemory> {
         if let Some(waiters) = self.at_ids.get_mut(id) {

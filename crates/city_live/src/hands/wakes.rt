@@ -14,6 +14,9 @@ impl Hands {
     pub(super) fn release(&mut self, stamp: u64)
         ensures { self.new ≡ self.old }
     {
+        if self.waiting.is_empty() {
+            return;
+        }
         let ids = self.talks.session().locked(stamp);
         if !note_at(&mut self.due, &mut self.waiting, ids) {
             self.all_due = true;

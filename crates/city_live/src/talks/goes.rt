@@ -1,11 +1,11 @@
 //! How a work goes on.
-ghost use Rattle.std.specs.Prelude.{◌≡◌, ℕ, None, Some, true, length, IfOk, IfErr};
+ghost use Rattle.std.specs.Prelude.{◌≡◌, ℕ, None, Some, true, length, IfOk, IfErr, IfNone};
 ghost use Rattle.city_model.specs.declared.command.Reply.TheVariants as replies;
 ghost use Rattle.city_txn.specs.CoreState.{is_open};
 ghost use Rattle.city_session.specs.Grown.{Grown, unrefused};
 ghost use Rattle.city_session.specs.Live.{grown_at};
 ghost use Rattle.city_live.specs.Heard.{script_told};
-ghost use Rattle.city_live.specs.Running.{RunsTo, IsWhatOf};
+ghost use Rattle.city_live.specs.Running.{RunsTo, IsWhatBehind};
 ghost use Rattle.city_live.specs.Serving.{Follows};
 
 use super::Talks;
@@ -25,10 +25,9 @@ impl Talks {
         if !self.session.is_open(stamp) {
             return Gone::Nothing;
         }
-        match self.table.get(stamp) {
-            Some(work) if work.is_script() => self.run(stamp),
-            Some(_) => self.act(stamp),
-            None => Gone::Nothing,
+        match self.act(stamp) {
+            Some(gone) => gone,
+            None => self.run(stamp),
         }
     }
 
@@ -52,29 +51,29 @@ impl Talks {
         gone
     }
 
-    /// Does the one command of a transaction, and tells its hand.
-    fn act(&mut self, stamp: u64) -> Gone
+    /// Does the one command of a transaction, and tells its hand. `None` if it is asked for none; then nothing changes.
+    fn act(&mut self, stamp: u64) -> Option<Gone>
         requires { is_open self.old.session.core stamp ≡ true }
-        ensures { Follows self.old self.new }
+        ensures follows { Follows self.old self.new }
+        ensures none { IfNone result (self.new ≡ self.old) }
     {
-        let place = place_of(&self.session, stamp);
         let Some((hand, command)) = self.table.asked(stamp) else {
-            return Gone::Nothing;
+            return None;
         };
         if is_end(command) {
-            return Gone::Nothing;
+            return Some(Gone::Nothing);
         }
         match self.session.act(stamp, command) {
             Acted::Replied(reply) => {
+                let what = what_of(&self.session, stamp, reply);
                 let tag = self.table.answer(stamp);
-                let what = what_of(place, reply);
                 self.log.says(Some(stamp), Answer { hand, tag, what });
-                Gone::Replied
+                Some(Gone::Replied)
             }
-            Acted::Waits => held_up(self.alloc, &self.session, stamp, command, true),
-            Acted::Dies => held_up(self.alloc, &self.session, stamp, command, false),
-            Acted::TooMany => Gone::TooMany,
-            Acted::NoMemory => Gone::NoMemory,
+            Acted::Waits => Some(held_up(self.alloc, &self.session, stamp, command, true)),
+            Acted::Dies => Some(held_up(self.alloc, &self.session, stamp, command, false)),
+            Acted::TooMany => Some(Gone::TooMany),
+            Acted::NoMemory => Some(Gone::NoMemory),
         }
     }
 }
@@ -89,12 +88,15 @@ fn place_of(session: &Session, stamp: u64) -> usize
     }
 }
 
-/// What a hand is told of a reply.
-fn what_of(place: usize, reply: Reply) -> What
-    ensures { IsWhatOf place reply result }
+/// What a hand is told of the last reply of an open transaction.
+fn what_of(session: &Session, stamp: u64, reply: Reply) -> What
+    ensures { IsWhatBehind session.now stamp reply result }
 {
     match reply {
-        Reply::Refused(cause) => What::Refused(place, cause),
+        Reply::Refused(cause) => {
+            let place = place_of(session, stamp);
+            What::Refused(place, cause)
+        }
         reply => What::Reply(reply),
     }
 }

@@ -1,8 +1,6 @@
-use Rattle.std.proofs.Common.{refl, ◌∙◌, subst, Some, ◌<◌, ◌≡◌}
+use Rattle.std.proofs.Common.{refl, ◌∙◌, subst, Some, ◌<◌}
+use Rattle.city_live.proofs.Worked.{some_same}
 use Rattle.city_live.proofs.talks.begin_under.Goals as goal
-
-some_same : {A : Type 0} (a b : A) → Some a ≡ Some b → a ≡ b
-some_same a b e = cc
 
 pub returns-then-may_begin_as-clause-begun : goal.returns-then-may_begin_as-clause-begun
 returns-then-may_begin_as-clause-begun c = record {

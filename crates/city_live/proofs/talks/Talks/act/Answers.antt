@@ -2,16 +2,18 @@ use Rattle.std.proofs.Common.{refl, arith}
 use Rattle.std.specs.Arc.{arc_value}
 use Rattle.city_live.proofs.Continued.{still}
 use Rattle.city_live.proofs.Followed.{saying}
-use Rattle.city_live.proofs.Saying.{heard_replied}
+use Rattle.city_live.proofs.Saying.{heard_replied, what_before}
 use Rattle.city_live.proofs.talks.Talks.act.Goals as goal
 
 pub invariant_of-self : goal.invariant_of-self
 invariant_of-self c =
+    let what = what_before c.args.stamp c.in-Some.command.now c.in-Replied.reply c.in-Replied.ensures
+    c.what_of-what.result c.what_of-what.ensures in
     heard_replied c.self.invariant c.args.stamp (arc_value c.in-Some.hand) c.in-Some.command.now c.in-Some.ensures
-    c.place_of-place.result c.place_of-place.ensures c.in-Replied.reply c.in-Replied.ensures _ refl
-    c.answer-tag.ensures.works c.answer-tag.ensures.tag c.what_of-what.ensures c.says.ensures
+    what.0 what.1 c.in-Replied.reply c.in-Replied.ensures _ refl c.answer-tag.ensures.works c.answer-tag.ensures.tag
+    what.2 c.says.ensures
 
-pub returns-in-Replied : goal.returns-in-Replied
-returns-in-Replied c = saying c.self.view_is
+pub returns-in-Replied-clause-follows : goal.returns-in-Replied-clause-follows
+returns-in-Replied-clause-follows c = saying c.self.view_is
     (still c.act.ensures.start c.act.ensures.closed (omega (arith, c.act.ensures.given))) c.says.new.self _ _
     c.says.ensures
