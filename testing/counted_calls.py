@@ -5,7 +5,7 @@
 
 PROGRAM is a built cityed, SCENARIOS a built city_scenarios. Needs a C compiler named cc, for count.c. The texts are
 those of bench/growth.py, a third as long. Four times the text may take 4.5 times the allocations and 4.5 times the
-bytes that they ask for, or 5.5 times where each step goes down a tree of attributes or ids; a road without members may take two allocations, for its id and its body, and a tenth, since
+bytes that they ask for; a road without members may take two allocations, for its id and its body, and a tenth, since
 the nodes of a city's map are full. Each script has to commit, the two kinds that have a fault have to be refused, and
 of the kinds with many faults --check has to tell each.
 
@@ -46,7 +46,6 @@ sys.path.insert(0, os.path.join(HERE, "..", "bench"))
 import growth  # noqa: E402
 
 GREATEST = 4.5
-GREATEST_IN_TREES = 5.5
 MOST_INSTRUCTIONS = 6
 MOST_OF_WORKERS = 1.5
 MOST_SWITCHES = 200
@@ -162,8 +161,7 @@ def grows_as_its_text(program, name, kind, count, options):
     texts = [kind(size) for size in sizes]
     (first, few), (last, many) = (program.counts(text, *options) for text in texts)
     times = [more / max(less, 1) for less, more in zip(few[:2], many)]
-    most = GREATEST_IN_TREES if name in growth.LONG else GREATEST
-    right = max(times) <= most and ended(first, kind, texts[0][1]) and ended(last, kind, texts[1][1])
+    right = max(times) <= GREATEST and ended(first, kind, texts[0][1]) and ended(last, kind, texts[1][1])
     if kind is growth.many_objects:
         right = right and all(calls <= EACH_ROAD * size + OF_AN_EMPTY_RUN for (calls, *_), size in zip((few, many), sizes))
     told = ", ".join(f"{less:,} to {more:,} {what}" for less, more, what in zip(few, many, ("calls", "bytes")))
