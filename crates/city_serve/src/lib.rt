@@ -2,9 +2,10 @@
 //!
 //! - `serve`: from a reader to a writer; `serve_texts`: from two texts, borrowed or owned
 //! - `run`, `decimals`: the run itself, by options
-//! - `deliver`: the output to its destination, over `output_files`, replaced whole
+//! - `deliver`: the output to its destination, over `output_files`, replaced whole; `target`: where a path leads,
+//!   `new_file`: a new file, under a name of `beside`, `file_lock`: a file's lock, `seen_text`: a text, to know it again
 //! - `device`: a reader or a writer, with a record of its failure; `text_files`: a text from a file;
-//!   `runtime_files`: the files of a runtime, `no_files`: none
+//!   `runtime_files`: the files of a runtime, `no_files`: none; `closed_streams`: streams that are closed at the start
 //! - `texts`: the two texts at work, let go once they are read
 //! - `fault`, `fault_line`: why nothing was served, and the line to report it
 #![tactic(auto)]
