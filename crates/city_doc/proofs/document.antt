@@ -1,6 +1,5 @@
 -- Lemmas for several functions of src/document/.
 pub mod AllFaults
-mod ArrangedCities
 pub mod CanonicalCities
 mod CityNests
 pub mod EntriesRead

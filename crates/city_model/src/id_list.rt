@@ -137,7 +137,7 @@ pub fn are_distinct(ids: Ids<'_>) -> bool
 }
 
 /// Whether each id is above the one before it. Doesn't allocate.
-pub fn are_increasing(ids: Ids<'_>) -> bool
+pub(crate) fn are_increasing(ids: Ids<'_>) -> bool
     ensures { result ≡ are_increasing (ids_left ids.entry) }
 {
     let mut left = ids;

@@ -1,5 +1,4 @@
 -- Words for how documents are read and judged.
-pub mod Arranged
 pub mod Forms
 pub mod IdSets
 pub mod LenientCities

@@ -11,7 +11,7 @@ ghost use Rattle.city_doc.specs.document.CityFaults.{is_bad_ringed, IsLeastBadly
 ghost use Rattle.city_doc.specs.document.Faults.{StandsAmong, IsFirst};
 ghost use Rattle.city_doc.specs.internal.document.LenientCities.{first_body, lesser, IsReadOf};
 
-use crate::document::arranged::least_misrelated;
+use crate::document::misrelated::least_misrelated;
 use crate::fault::ReadFault;
 use crate::tree::values::to_text;
 use city_members::copied::Copied;

@@ -12,10 +12,10 @@ ghost use Rattle.city_doc.specs.document.Top.{wrong_member};
 ghost use Rattle.city_doc.specs.internal.document.LenientCities.{lenient_city_of};
 ghost use Rattle.city_tokens.specs.tree.Texts.{IsReadable, HasTree};
 
-use crate::document::arranged::least_misrelated;
 use crate::document::build::lenient_city_of;
 use crate::document::city_faults::city_fault;
 use crate::document::faults::{first_bad_list, objects_fault};
+use crate::document::misrelated::least_misrelated;
 use crate::document::top::wrong_member;
 use crate::fault::ReadFault;
 use crate::shape::vertices::vertices_in;
