@@ -57,7 +57,11 @@ def document(objects):
 def script(number, sets):
     """A script of so many sets of one attribute, each of another object."""
     roads = [spread("road", (number * sets + at) % ROADS) for at in range(sets)]
-    return {"name": f"s{number:06}", "commands": [*[{"set": it, "attributes": {"length": number}} for it in roads], "commit"]}
+    return {"name": f"s{number:06}", "commands": [*[set_length(road, number) for road in roads], "commit"]}
+
+
+def set_length(road, length):
+    return {"set": road, "attributes": {"length": length}}
 
 
 class Session:
@@ -69,8 +73,8 @@ class Session:
 
     def ask(self, hand, request):
         tag = f"{len(self.lines):06}"
-        answers = self.engine.handle(hand, tag, request if isinstance(request, str) else print_tree(request))
         said = request if isinstance(request, str) else print_tree(request)
+        answers = self.engine.handle(hand, tag, said)
         self.lines.append(f"{hand}/{tag} {said} -> {'; '.join(answers)}")
 
     def scenario(self):
@@ -151,8 +155,8 @@ def sets_are_cheap(program, sets):
         batch.append(program.of_run(scripts))
         live.append(program.of_session(session))
     run, handled = ((last - first) / (SCRIPTS * sets) for first, last in (batch, live))
-    told = f"a set by a script of {sets}: {run:,.0f} instructions in a run, {handled:,.0f} by a hand, {handled / run:.3f} times"
-    return say(handled <= MOST_OF_A_SET * run, told)
+    told = f"a set by a script of {sets}: {run:,.0f} instructions in a run, {handled:,.0f} by a hand"
+    return say(handled <= MOST_OF_A_SET * run, f"{told}, {handled / run:.3f} times")
 
 
 def prepared(sizes):
@@ -177,14 +181,14 @@ def requests(number):
     """A round of requests of a hand, each with its kind; what has none isn't counted."""
     one, two, three = (spread("road", 3 * number + at) for at in range(3))
     yield "begin", "begin edits"
-    yield "set", {"set": one, "attributes": {"length": number}}
+    yield "set", set_length(one, number)
     yield "read", {"read": two}
     yield "commit", "commit"
     yield None, "begin edits"
-    yield None, {"set": two, "attributes": {"length": number}}
+    yield None, set_length(two, number)
     yield "abort", "abort"
     yield "look", f"look {three}"
-    yield "script", "script " + print_tree({"name": "edit", "commands": [{"set": three, "attributes": {"length": number}}, "commit"]})
+    yield "script", "script " + print_tree({"name": "edit", "commands": [set_length(three, number), "commit"]})
     yield "watch", "watch"
     yield "unwatch", "unwatch"
 

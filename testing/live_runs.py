@@ -179,7 +179,8 @@ def crowd():
     """The scenario of hands that come and go, more than may have something open at once."""
     script = 'script {"name":"s","commands":[{"delete":"z"},"commit"]}'
     refused = 'refused 0 "cause":"NoObject","id":"z"'
-    lines = [f"come{number}/1 {script} -> come{number}/1 s {refused} since {number} version 0" for number in range(5_000)]
+    hands = [f"come{number}/1" for number in range(5_000)]
+    lines = [f"{hand} {script} -> {hand} s {refused} since {number} version 0" for number, hand in enumerate(hands)]
     lines += [f"stay{number}/2 begin t -> stay{number}/2 began 5000" for number in range(MOST_HANDS)]
     lines += ["x/3 begin t -> x/3 TooManyHands", "x/4 watch -> x/4 TooManyHands"]
     lines += ["stay7/5 commit -> stay7/5 t committed since 5000 version 0", "x/6 begin t -> x/6 began 5001"]

@@ -1,22 +1,13 @@
--- Works found in the table, and a script's commands answered one by one.
+-- Commands of a script answered one by one, and places that were read.
 use Rattle.std.specs.Prelude.{◌≡◌, ◌++◌, ◌∷◌, ℕ, List, [], true, Option, None, Some, refl, length}
 use Rattle.std.specs.Prelude.{slice_get}
 use Rattle.std.specs.Prelude.{ltb, get_or, ◌<◌}
 use Rattle.std.proofs.Common.{◌∙◌, ap, arith}
 use Rattle.std.proofs.lemmas.Option.{slice_get_read}
 use Rattle.std.proofs.lemmas.List.{append-nil}
-use Rattle.city_members.proofs.Ids.{same_id_true}
-use Rattle.city_members.specs.Ids.{same_id}
 use Rattle.city_model.specs.declared.command.Command.{Command}
 use Rattle.city_model.specs.declared.command.Reply.{Reply}
-use Rattle.city_live.specs.declared.task.Task.{Task}
 use Rattle.city_live.specs.Heard.{answered_by, refused_at, script_told}
-use Rattle.city_live.specs.Works.{Working, work_at, IsWorkOf}
-
-pub of_hand : (works : List (ℕ × Working)) (stamp : ℕ) (w : Working) (by : List ℕ) (P : Task → Type 0)
-    → work_at works stamp ≡ Some w → same_id w.by by ≡ true → P w.task → IsWorkOf works stamp by P
-of_hand works stamp w by P there same so =
-    record { work = w; there = there; hand = same_id_true w.by by same; so = so }
 
 pub some_same : {A : Type 0} (a b : A) → Some a ≡ Some b → a ≡ b
 some_same a b e = cc
