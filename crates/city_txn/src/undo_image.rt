@@ -125,10 +125,18 @@ impl UndoImage {
             ≡ changed (object_at city.old.1) id (left_at_end end (object_at city.old.1 id) (Some self)) q }
         ensures frame { city.new.0 ≡ city.old.0 }
     {
+        let UndoImage {
+            deleted,
+            before,
+            ..
+        } = self;
         match end {
-            End::Commit => reserved::clear(city, &id, self.deleted),
-            End::RollBack => match self.before {
-                None => reserved::clear(city, &id, self.deleted),
+            End::Commit => {
+                drop(before);
+                reserved::clear(city, &id, deleted);
+            }
+            End::RollBack => match before {
+                None => reserved::clear(city, &id, deleted),
                 Some(before) => reserved::put_back(city, id, before),
             },
         }
