@@ -74,7 +74,7 @@ fn write_named(cause: &Cause, out: &mut Writer) -> Result<(), OutOfMemory>
 }
 
 /// Writes the number of the refused command, the cause, and the member of the cause.
-fn write_refusal(at: usize, cause: &Cause, out: &mut Writer) -> Result<(), OutOfMemory>
+pub fn write_refusal(at: usize, cause: &Cause, out: &mut Writer) -> Result<(), OutOfMemory>
     ensures before { OnOk result (out.new.before ≡ out.old.before) }
     ensures tokens { OnOk result (out.new.tokens
         ≡ out.old.tokens ++ tokens_of_members (put_refusal at cause.now no_members)) }
@@ -87,7 +87,7 @@ fn write_refusal(at: usize, cause: &Cause, out: &mut Writer) -> Result<(), OutOf
 }
 
 /// The name of an outcome.
-fn outcome_name(outcome: &Outcome) -> &'static str
+pub fn outcome_name(outcome: &Outcome) -> &'static str
     ensures { result.now ≡ outcome_name outcome.now }
 {
     match outcome {
@@ -99,7 +99,7 @@ fn outcome_name(outcome: &Outcome) -> &'static str
 }
 
 /// Writes the members of an outcome about the command that ended the script.
-fn write_ending(outcome: &Outcome, out: &mut Writer) -> Result<(), OutOfMemory>
+pub fn write_ending(outcome: &Outcome, out: &mut Writer) -> Result<(), OutOfMemory>
     ensures before { OnOk result (out.new.before ≡ out.old.before) }
     ensures tokens { OnOk result (out.new.tokens
         ≡ out.old.tokens ++ tokens_of_members (put_ending outcome.now no_members)) }

@@ -32,8 +32,8 @@ fn write_numbered(
     out.end_object()
 }
 
-/// Writes an object with its own vertices.
-fn write_found(
+/// Writes an object with its own vertices. Points are hashed by the seed.
+pub fn write_found(
     alloc: Global,
     seed: u64,
     object: &Object,
@@ -64,7 +64,13 @@ fn write_found_reply(
     out.end_object()
 }
 
-fn write_reply(alloc: Global, seed: u64, reply: &Reply, out: &mut Writer) -> Result<(), OutOfMemory>
+/// Writes a reply; of a refusal its name alone.
+pub fn write_reply(
+    alloc: Global,
+    seed: u64,
+    reply: &Reply,
+    out: &mut Writer,
+) -> Result<(), OutOfMemory>
     ensures before { OnOk result (out.new.before ≡ out.old.before) }
     ensures tokens { OnOk result (out.new.tokens
         ≡ out.old.tokens ++ tokens_of (reply_data reply.now)) }
