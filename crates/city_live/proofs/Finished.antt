@@ -36,7 +36,7 @@ use Rattle.city_live.specs.declared.task.Task.TheVariants as task
 use Rattle.city_model.specs.CityMap.{CityValue}
 use Rattle.city_live.specs.Continuing.{Continues, GoesOn}
 use Rattle.city_live.specs.Ending.{EndsAs, IsTelling, IsTellingOf, AreTold, Leads, told_replies}
-use Rattle.city_live.specs.Heard.{talk_of, begun_talk, AreSoFar, IsSoFar, AreHeard, IsFresh}
+use Rattle.city_live.specs.Heard.{talk_of, begun_talk, AreSoFar, IsSoFar, AreHeard}
 use Rattle.city_live.specs.Heard.{script_told}
 use Rattle.city_live.specs.Heard.{answered_by, refused_at, is_committed, closed_of, IsEndOf, IsStep, model_of}
 use Rattle.city_live.specs.Heard.{script_in}

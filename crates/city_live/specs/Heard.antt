@@ -25,7 +25,7 @@ use Rattle.city_live.specs.declared.ghosts.event.Event.{Event}
 use Rattle.city_live.specs.declared.ghosts.event.Event.TheVariants as events
 use Rattle.city_live.specs.declared.task.Task.{Task}
 use Rattle.city_live.specs.declared.task.Task.TheVariants as task
-use Rattle.city_live.specs.Works.{Working, first_of, work_at}
+use Rattle.city_live.specs.Works.{Working, first_of, work_at, IsFresh}
 
 -- ---- what a hand heard of its script or transaction
 
@@ -213,11 +213,6 @@ closed_by (events.Asks t hand tag s) o = []
 closed_by (events.Requests t hand tag) o = []
 closed_by (events.Says t a is_told) None = []
 closed_by (events.Says t a is_told) (Some k) = closed_by_what a.what k
-
--- a script with no reply yet, or a transaction that is asked for nothing yet
-abbrev pub IsFresh : Task → Type 0
-IsFresh (task.Script s rs cause) = (rs ≡ []) × (cause ≡ None)
-IsFresh (task.Single asked) = asked ≡ None
 
 -- the hand's transaction that waits for no command
 pub record IsIdle (by : List ℕ) (s : Scripted) (k : Talk) : Type 0 where

@@ -3,11 +3,12 @@ ghost use Rattle.std.specs.Prelude.{◌≡◌, [], Some, IfOk, OnErr};
 ghost use Rattle.city_model.specs.CityMap.{object_at};
 ghost use Rattle.city_model.specs.Relations.{IsLawful};
 ghost use Rattle.city_txn.specs.CoreState.{committed};
-ghost use Rattle.city_live.specs.Heard.{IsFresh};
+ghost use Rattle.city_live.specs.Works.{IsFresh};
 ghost use Rattle.city_live.specs.Serving.{Follows, IsHandled, IsServed};
 
 use crate::answer::{Answer, Fault, Name};
 use crate::hand::{At, Hand};
+use crate::journal::Journal;
 use crate::request::{Request, Tag};
 use crate::roster::Roster;
 use crate::talks::Talks;
@@ -45,9 +46,10 @@ struct Sender {
 /// Each request is one event: it is answered, or waits and is answered later, and the works waiting for its locks are
 /// tried again. There is no clock and no thread. Contracts see the session, all events so far, and no answers.
 #[derive(Drop)]
-pub struct Hands {
+pub struct Hands<J: Journal> {
     alloc: Global,
     talks: Talks,
+    journal: J,
     /// The number of commits with writes.
     version: u64,
     roster: Roster,
@@ -59,7 +61,7 @@ pub struct Hands {
     all_due: bool,
 }
 
-impl Model for Hands {
+impl<J: Journal> Model for Hands<J> {
     ghost use Rattle.city_live.specs.Serving.{Served};
 
     ghost Value = { Served };
@@ -73,9 +75,9 @@ impl Model for Hands {
     ghost view = { λ h. h.talks };
 }
 
-impl Hands {
-    /// No hands yet, on this city, at this version. Doesn't allocate.
-    pub fn new(alloc: Global, city: City, version: u64) -> Hands
+impl<J: Journal> Hands<J> {
+    /// No hands yet, on this city, at this version, with this journal. Doesn't allocate.
+    pub fn new(alloc: Global, city: City, version: u64, journal: J) -> Hands<J>
         requires { IsLawful (object_at city.1) }
         ensures start { result.session.start ≡ city }
         ensures closed { result.session.closed ≡ [] }
@@ -86,6 +88,7 @@ impl Hands {
         Hands {
             alloc,
             talks: Talks::open(alloc, city),
+            journal,
             version,
             roster: Roster::new(alloc),
             watchers: BTreeMap::new(alloc),
@@ -106,6 +109,16 @@ impl Hands {
     /// The number of commits with writes. Doesn't allocate.
     pub fn version(&self) -> u64 {
         self.version
+    }
+
+    /// The journal. Doesn't allocate.
+    pub fn journal(&self) -> &J {
+        &self.journal
+    }
+
+    /// The journal, to be written or saved. Doesn't allocate.
+    pub fn journal_mut(&mut self) -> &mut J {
+        &mut self.journal
     }
 
     /// Does a request of a hand, and goes on with all works it was in the way of. The answers stand in their order.
@@ -270,7 +283,8 @@ impl Hands {
     {
         let by = Arc::try_clone(&sender.name)?;
         let kept = self.kept_by(seat);
-        let stamp = self.talks.begin(by, seat, name, task, kept)?;
+        let keeps = self.journal.is_kept();
+        let stamp = self.talks.begin(by, seat, name, task, kept, keeps)?;
         self.take_age(seat, stamp);
         Ok(stamp)
     }
@@ -315,8 +329,10 @@ impl Hands {
             Err(tag) => {
                 let fault = if self.is_busy(stamp) {
                     Fault::Busy
-                } else {
+                } else if self.talks.is_script(stamp) {
                     Fault::NotOpen
+                } else {
+                    Fault::NoMemory
                 };
                 self.refuse(sender, tag, fault);
             }

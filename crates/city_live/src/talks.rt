@@ -7,7 +7,7 @@ ghost use Rattle.city_model.specs.declared.command.Command.{Command};
 ghost use Rattle.city_model.specs.Scripts.{is_end};
 ghost use Rattle.city_session.specs.Acting.{IsUnchanged};
 ghost use Rattle.city_live.specs.Works.{first_of};
-ghost use Rattle.city_live.specs.Heard.{IsFresh};
+ghost use Rattle.city_live.specs.Works.{IsFresh};
 ghost use Rattle.city_live.specs.Running.{Begins};
 ghost use Rattle.city_live.specs.Serving.{Follows, IsServed};
 
@@ -137,7 +137,8 @@ impl Talks {
         self.log.take(self.alloc)
     }
 
-    /// Begins a work without commands done, under a kept stamp or a new one. If memory runs out, nothing changes.
+    /// Begins a work without commands done, under a kept stamp or a new one, and whether it keeps its commands for a
+    /// journal. If memory runs out, nothing changes.
     pub fn begin(
         &mut self,
         hand: Name,
@@ -145,13 +146,14 @@ impl Talks {
         name: Text,
         task: Task,
         kept: Option<u64>,
+        is_kept: bool,
     ) -> Result<u64, OutOfMemory>
         requires { IsFresh task }
         ensures { Follows self.old self.new }
     {
         let kept = self.table.free(kept);
         let stamp = begin_under(&mut self.session, kept)?;
-        let work = Work::new(hand, seat, name, task);
+        let work = Work::new(self.alloc, hand, seat, name, task, is_kept);
         let noted = self.log.events().begins(stamp, &work);
         if self.table.add(stamp, work).is_err() {
             if self.session.is_open(stamp) {
@@ -179,7 +181,7 @@ impl Talks {
     }
 
     /// A transaction's hand asks it for the first command of a script. The tag comes back, and nothing is noted, where
-    /// it isn't the hand's transaction, or is asked already, or the command is an end.
+    /// it isn't the hand's transaction, or is asked already, or the command is an end, or memory runs out.
     pub fn ask(&mut self, stamp: u64, hand: &Name, tag: Tag, script: Script) -> Result<(), Tag>
         ensures { Follows self.old self.new }
     {

@@ -9,7 +9,8 @@ ghost use Rattle.city_live.specs.Ending.{IsTellingOf};
 ghost use Rattle.city_live.specs.Serving.{Follows};
 
 use super::Talks;
-use crate::answer::{Answer, Blocked, Changed, Ended, Name, What};
+use crate::answer::{Answer, Blocked, Changed, Ended, Fault, Name, What};
+use crate::journal::{Entry, Journal, Unwritten};
 use crate::log::Log;
 use crate::task::Task;
 use city_members::copied::Copied;
@@ -89,7 +90,10 @@ impl Talks {
         }
         if watchers == 0 {
             if let Some(is_written) = has_written(&self.session, stamp) {
-                return untold(&self.session, stamp, version_after(version, is_written));
+                let Some(version) = version_after(version, is_written) else {
+                    return Preparing::NoMemory;
+                };
+                return untold(&self.session, stamp, version);
             }
         }
         let change = match self.session.prepare(stamp) {
@@ -98,7 +102,9 @@ impl Talks {
             Err(OutOfMemory) => return Preparing::NoMemory,
         };
         let is_written = change.len() != 0;
-        let version = version_after(version, is_written);
+        let Some(version) = version_after(version, is_written) else {
+            return Preparing::NoMemory;
+        };
         if watchers == 0 || !is_written {
             return Preparing::Ready(None, version);
         }
@@ -136,6 +142,28 @@ impl Talks {
         };
         let shared = Arc::new(self.alloc, changed)?;
         Ok(shared)
+    }
+
+    /// Notes a commit that is about to be made in a journal. If it can't be noted, nothing changes there.
+    pub fn note<J: Journal>(
+        &self,
+        journal: &mut J,
+        stamp: u64,
+        version: u64,
+    ) -> Result<(), Unwritten> {
+        let Some(work) = self.table.get(stamp) else {
+            return Err(Unwritten::CannotWrite);
+        };
+        let Some(commands) = work.commands() else {
+            return Err(Unwritten::CannotWrite);
+        };
+        let entry = Entry {
+            by: &**work.hand(),
+            name: work.name(),
+            version,
+            commands,
+        };
+        journal.append(&entry)
     }
 
     /// Commits a work, and tells the watchers of its change, and then its hand. Returns the hand's seat.
@@ -200,6 +228,24 @@ impl Talks {
         self.log.says(Some(stamp), Answer { hand, tag, what });
         Some(seat)
     }
+
+    /// Undoes a script whose commit can't be noted, and tells its hand so. Returns the hand's seat.
+    pub fn undo(&mut self, stamp: u64) -> Option<usize>
+        ensures { Follows self.old self.new }
+    {
+        if !self.session.is_open(stamp) || !self.table.is_script(stamp) {
+            return None;
+        }
+        let Some(work) = self.table.take(stamp) else {
+            return None;
+        };
+        let seat = work.seat();
+        self.session.forget(stamp);
+        let (hand, _name, _task, tag) = work.into_parts();
+        let what = What::Fault(Fault::CannotWrite);
+        self.log.says(Some(stamp), Answer { hand, tag, what });
+        Some(seat)
+    }
 }
 
 /// Whether an open transaction has written something; `None` if its replies don't tell. Doesn't allocate.
@@ -211,12 +257,12 @@ fn has_written(session: &Session, stamp: u64) -> Option<bool> {
     }
 }
 
-/// The version after a commit. Doesn't allocate.
-fn version_after(version: u64, is_written: bool) -> u64 {
+/// The version after a commit, if there is one. Doesn't allocate.
+fn version_after(version: u64, is_written: bool) -> Option<u64> {
     if is_written {
-        version.saturating_add(1)
+        version.checked_add(1)
     } else {
-        version
+        Some(version)
     }
 }
 

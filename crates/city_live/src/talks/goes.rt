@@ -65,8 +65,13 @@ impl Talks {
         }
         match self.session.act(stamp, command) {
             Acted::Replied(reply) => {
+                let is_done = !matches!(reply, Reply::Refused(_));
                 let what = what_of(&self.session, stamp, reply);
-                let tag = self.table.answer(stamp);
+                let tag = if is_done {
+                    self.table.done(stamp)
+                } else {
+                    self.table.answer(stamp)
+                };
                 self.log.says(Some(stamp), Answer { hand, tag, what });
                 Some(Gone::Replied)
             }

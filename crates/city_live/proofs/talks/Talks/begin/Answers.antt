@@ -1,7 +1,7 @@
 use Rattle.std.specs.Prelude.{◌≡◌, None, IfSome}
 use Rattle.std.proofs.Common.{refl, ◌∙◌, sym, subst}
 use Rattle.city_live.specs.declared.ghosts.event.Event.TheVariants as events
-use Rattle.city_live.specs.Heard.{IsFresh}
+use Rattle.city_live.specs.Works.{IsFresh}
 use Rattle.city_live.specs.Works.{Working, work_at}
 use Rattle.city_live.proofs.Continued as continued
 use Rattle.city_live.proofs.Followed.{quietly, silently, one_more}
