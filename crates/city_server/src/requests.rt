@@ -10,7 +10,7 @@ use city_members::text::Text;
 use city_model::OutOfMemory;
 use city_serve::OutputFiles;
 
-impl<D: JournalFile> Server<'_, D> {
+impl<D: JournalFile + Drop> Server<'_, D> {
     /// Handles a line of the input, and adds what is answered to the lines that are to be written.
     ///
     /// If memory runs out for a request, its hand is told; if it runs out for that too, the session has to end.
@@ -37,6 +37,12 @@ impl<D: JournalFile> Server<'_, D> {
     pub(crate) fn handle_too_long(&mut self) -> Result<(), OutOfMemory> {
         self.lines = self.lines.saturating_add(1);
         self.tell_error(&LineError::unnamed(LineFault::TooLong))
+    }
+
+    /// Tells that memory ran out for a line.
+    pub(crate) fn handle_unkept(&mut self) -> Result<(), OutOfMemory> {
+        self.lines = self.lines.saturating_add(1);
+        self.tell_error(&LineError::unnamed(LineFault::NoMemory))
     }
 
     /// Handles a line whose numbers are whole.

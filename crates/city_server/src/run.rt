@@ -25,9 +25,8 @@ const MOST_ANSWERS: usize = 1_048_576;
 ///
 /// What stands unread together is handled before the answers are written. A commit's line in the journal is on the disk
 /// before an answer to it is written. At the end of the input what is open is given up, and the model is saved if there
-/// is an output file, also if the input or the output failed. `cut` is set to the number of the journal's lines if the
-/// last one was cut.
-pub fn run_live<C: Clock, F: OutputFiles, D: JournalStore, R: Read, W: Write>(
+/// is an output file, also if the input or the output failed. Errors are told if the journal's last line was cut.
+pub fn run_live<C: Clock, F: OutputFiles, D: JournalStore + Drop, R: Read, W: Write, E: Write>(
     clock: &C,
     alloc: Global,
     seed: u64,
@@ -36,10 +35,12 @@ pub fn run_live<C: Clock, F: OutputFiles, D: JournalStore, R: Read, W: Write>(
     line: &LiveLine<'_>,
     input: &mut Device<R>,
     output: &mut Device<W>,
-    cut: &mut Option<usize>,
+    errors: &mut Device<E>,
 ) -> Result<(), LiveFault> {
     let started = start(alloc, seed, files, journal, line)?;
-    *cut = started.cut;
+    if let Some(lines) = started.cut {
+        tell_cut(alloc, lines, errors)?;
+    }
     let mut server = served(alloc, seed, started, line)?;
     let ended = server.serve(clock, files, input, output);
     if let Err(LiveFault::JournalFile(fault)) = ended {
@@ -54,8 +55,26 @@ pub fn run_live<C: Clock, F: OutputFiles, D: JournalStore, R: Read, W: Write>(
     }
 }
 
+/// Tells that the last of so many lines of the journal was cut.
+fn tell_cut<E: Write>(
+    alloc: Global,
+    lines: usize,
+    errors: &mut Device<E>,
+) -> Result<(), OutOfMemory> {
+    let line = if lines < 1000 {
+        format!(in alloc; "cityed: journal: the last line was cut, 1 of {lines} dropped\n")?
+    } else {
+        let (more, rest) = (lines / 1000, lines % 1000);
+        format!(in alloc;
+            "cityed: journal: the last line was cut, 1 of {more},{rest:03} dropped\n"
+        )?
+    };
+    let _ = write_output(errors, line.as_bytes());
+    Ok(())
+}
+
 /// The session of what was started with, and its first line.
-fn served<'a, D: JournalStore>(
+fn served<'a, D: JournalStore + Drop>(
     alloc: Global,
     seed: u64,
     started: Started<D>,
@@ -76,7 +95,7 @@ fn served<'a, D: JournalStore>(
     })
 }
 
-impl<D: JournalStore> Server<'_, D> {
+impl<D: JournalStore + Drop> Server<'_, D> {
     /// Answers the lines of the input until it ends.
     fn serve<C: Clock, F: OutputFiles, R: Read, W: Write>(
         &mut self,
@@ -117,7 +136,7 @@ impl<D: JournalStore> Server<'_, D> {
             match lines.next() {
                 Ok(Next::More) => return Ok(()),
                 Ok(next) => self.handle_next(files, next)?,
-                Err(OutOfMemory) => self.handle_unread()?,
+                Err(OutOfMemory) => self.handle_unkept()?,
             }
             if self.answers.len() >= MOST_ANSWERS {
                 self.write_out(output)?;

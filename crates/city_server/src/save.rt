@@ -24,7 +24,7 @@ impl From<OutOfMemory> for Unsaved {
     }
 }
 
-impl<D: JournalFile> Server<'_, D> {
+impl<D: JournalFile + Drop> Server<'_, D> {
     /// Saves the model for a hand, and tells it so.
     pub(crate) fn save_for<F: OutputFiles>(
         &mut self,
@@ -76,7 +76,9 @@ impl<D: JournalFile> Server<'_, D> {
     ) -> Result<(), Unsaved> {
         let mut text = self.model_text(city)?;
         let sum = ModelSum::of(text.as_slice());
-        text.push(b'\n')?;
+        if text.push(b'\n').is_err() {
+            return Err(Unsaved::NoMemory);
+        }
         let Some(new) = filled_new(files, self.seed, path, text.as_slice()) else {
             return Err(Unsaved::CannotWrite);
         };
@@ -105,7 +107,7 @@ impl<D: JournalFile> Server<'_, D> {
         if self.saved == Some(self.hands.version()) {
             return Ok(());
         }
-        let nobody = text_of(self.alloc, "")?;
+        let nobody = Text::new(String::new(self.alloc));
         for answer in self.hands.handle(nobody, None, Request::Model)? {
             if let What::Model(city, version) = &answer.what {
                 return self.save(files, path, city, *version);

@@ -16,7 +16,7 @@ use std::alloc::Global;
 
 /// A session's hands, and the answers that aren't written yet.
 #[derive(Drop)]
-pub(crate) struct Server<'a, D: JournalFile> {
+pub(crate) struct Server<'a, D: JournalFile + Drop> {
     pub alloc: Global,
     /// The seed by which points are hashed.
     pub seed: u64,
@@ -33,7 +33,7 @@ pub(crate) struct Server<'a, D: JournalFile> {
     pub saved: Option<u64>,
 }
 
-impl<D: JournalFile> Server<'_, D> {
+impl<D: JournalFile + Drop> Server<'_, D> {
     /// Tells an answer of the engine. If memory runs out for it, its hand is told that.
     pub(crate) fn tell(&mut self, answer: Answer, form: Form) -> Result<(), OutOfMemory> {
         match self.written(&answer, form) {

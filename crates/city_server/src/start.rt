@@ -22,7 +22,7 @@ struct Opened {
 
 /// What a session starts with.
 #[derive(Drop)]
-pub(crate) struct Started<D: JournalStore> {
+pub(crate) struct Started<D: JournalStore + Drop> {
     pub city: City,
     pub version: u64,
     pub journal: Journaling<D>,
@@ -31,7 +31,7 @@ pub(crate) struct Started<D: JournalStore> {
 }
 
 /// Reads the model, and makes again what the journal has behind it.
-pub(crate) fn start<F: OutputFiles, D: JournalStore>(
+pub(crate) fn start<F: OutputFiles, D: JournalStore + Drop>(
     alloc: Global,
     seed: u64,
     files: &mut F,
@@ -48,7 +48,7 @@ pub(crate) fn start<F: OutputFiles, D: JournalStore>(
             cut: None,
         });
     };
-    let Ok(bytes) = journal.read() else {
+    let Ok(bytes) = journal.read_all() else {
         return Err(LiveFault::JournalFile(ServeFault::Read));
     };
     if bytes.is_empty() {
@@ -62,7 +62,7 @@ pub(crate) fn start<F: OutputFiles, D: JournalStore>(
 }
 
 /// Begins a journal over a model.
-fn begin<F: OutputFiles, D: JournalStore>(
+fn begin<F: OutputFiles, D: JournalStore + Drop>(
     alloc: Global,
     seed: u64,
     files: &mut F,
@@ -86,7 +86,7 @@ fn begin<F: OutputFiles, D: JournalStore>(
 }
 
 /// Goes on behind the whole lines of a journal, whose commits are made again.
-fn resume<D: JournalStore>(
+fn resume<D: JournalStore + Drop>(
     alloc: Global,
     seed: u64,
     city: City,
@@ -95,7 +95,7 @@ fn resume<D: JournalStore>(
     decimals: bool,
 ) -> Result<Started<D>, LiveFault> {
     let mut journal = journal;
-    if journal.open(read.whole()).is_err() {
+    if journal.open_behind(read.whole()).is_err() {
         return Err(LiveFault::JournalFile(ServeFault::Write));
     }
     let version = read.version();
