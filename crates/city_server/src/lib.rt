@@ -2,10 +2,12 @@
 //!
 //! - `run`: a session from its start to the end of its input; `start`: the model and the journal at the start
 //! - `server`: the hands, and the lines that are to be written; `requests`: a line handled; `save`: the model saved
+//! - `awaited`: the keys of requests that aren't over
 //! - `input_lines`: whole lines of what is read; `journal_store`: a journal's file
 //! - `fault`: why a session ends early
 #![tactic(auto)]
 
+mod awaited;
 mod fault;
 mod input_lines;
 mod journal_store;

@@ -4,7 +4,8 @@ use crate::server::Server;
 use city_decimals::{DecimalsFault, encode};
 use city_journal::JournalFile;
 use city_lines::{Ask, Form, Line, LineError, LineFault, read_line};
-use city_live::{Answer, Request, Tag, What};
+use city_live::{Answer, Fault, Request, Tag, What};
+use city_members::copied::Copied;
 use city_members::sequence::Sequence;
 use city_members::text::Text;
 use city_model::OutOfMemory;
@@ -113,28 +114,71 @@ impl<D: JournalFile + Drop> Server<'_, D> {
         if self.hands.journal().made(&key).is_some() {
             return self.tell_known_end(&hand, &tag, &key);
         }
-        if self.hands.journal_mut().ask(&hand, &key).is_err() {
-            return self.refuse(Some(hand), tag, LineFault::NoMemory);
+        if self.awaited.has_key(&key) {
+            return self.refuse(Some(hand), tag, LineFault::Engine(Fault::Busy));
         }
-        self.ask(hand, tag, request, Form::Plain)
+        if self.awaited.has_hand(&hand) {
+            // (it waits, so the engine refuses this one)
+            return self.ask(hand, tag, request, Form::Plain);
+        }
+        let Ok(by) = hand.copy(self.alloc) else {
+            return self.refuse(Some(hand), tag, LineFault::NoMemory);
+        };
+        if self.note_key(&by, &key).is_err() {
+            self.forget_key(&by);
+            return self.refuse(Some(by), tag, LineFault::NoMemory);
+        }
+        match self.hands.handle(hand, tag, request) {
+            Ok(answers) => {
+                if is_refused(&by, answers.as_slice()) {
+                    self.forget_key(&by);
+                }
+                self.tell_each(answers, Form::Plain)
+            }
+            Err(OutOfMemory) => {
+                self.forget_key(&by);
+                self.refuse(Some(by), None, LineFault::NoMemory)
+            }
+        }
+    }
+
+    /// Notes the key of a hand's next commit.
+    fn note_key(&mut self, hand: &Text, key: &Text) -> Result<(), OutOfMemory> {
+        self.awaited.note(hand, key)?;
+        self.hands.journal_mut().ask(hand, key)
     }
 
     /// Tells the answers of the engine, in their order.
     fn tell_each(&mut self, answers: Vec<Answer>, form: Form) -> Result<(), OutOfMemory> {
         for answer in answers {
-            self.forget_key(&answer);
+            if is_last(&answer.what) && self.awaited.has_hand(&answer.hand) {
+                self.forget_key(&answer.hand);
+            }
             self.tell(answer, form)?;
         }
         Ok(())
     }
 
-    /// The key of a request that is over is awaited no more.
-    fn forget_key(&mut self, answer: &Answer) {
-        match &answer.what {
-            What::Ended(_) | What::Fault(_) | What::Refused(_, _) => {
-                self.hands.journal_mut().forget(&answer.hand);
+    /// The hand's request with a key is over.
+    fn forget_key(&mut self, hand: &Text) {
+        self.hands.journal_mut().forget(hand);
+        self.awaited.forget(hand);
+    }
+}
+
+/// Whether a script or a transaction is over with this answer.
+fn is_last(what: &What) -> bool {
+    matches!(what, What::Ended(_) | What::Fault(Fault::CannotWrite))
+}
+
+/// Whether the answers refuse a request of the hand.
+fn is_refused(hand: &Text, answers: &[Answer]) -> bool {
+    for answer in answers {
+        if let What::Fault(_) | What::Refused(_, _) = &answer.what {
+            if *answer.hand == *hand {
+                return true;
             }
-            _ => {}
         }
     }
+    false
 }

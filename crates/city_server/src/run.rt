@@ -1,5 +1,6 @@
 //! A session from its start to the end of its input.
 
+use crate::awaited::Awaited;
 use crate::fault::LiveFault;
 use crate::input_lines::{InputLines, Next};
 use crate::journal_store::JournalStore;
@@ -89,6 +90,7 @@ fn served<'a, D: JournalStore + Drop>(
         decimals: line.decimals,
         output: line.output,
         hands,
+        awaited: Awaited::new(alloc),
         lines: 0,
         answers,
         saved: None,

@@ -1,5 +1,6 @@
 //! A session: its hands, and the lines that are to be written.
 
+use crate::awaited::Awaited;
 use city_decimals::decode;
 use city_doc::append_city;
 use city_journal::{JournalFile, Journaling};
@@ -25,6 +26,8 @@ pub(crate) struct Server<'a, D: JournalFile + Drop> {
     /// The path of the file that a save writes, if there is one.
     pub output: Option<&'a str>,
     pub hands: Hands<Journaling<D>>,
+    /// The keys of requests that aren't over.
+    pub awaited: Awaited,
     /// How many lines were read.
     pub lines: u64,
     /// Whole lines that are to be written.
