@@ -1,7 +1,7 @@
 //! A file that grows.
-ghost use Rattle.std.specs.Prelude.{ℕ, List, Option, IfSome, OnOk, OnErr};
+ghost use Rattle.std.specs.Prelude.{◌≡◌, ℕ, List, Option, Some, IfSome, IsSome, OnOk, OnErr};
 ghost use Rattle.std.specs.Io.KnownBytes.{Appends, Keeps};
-ghost use Rattle.city_journal.specs.Files.{Has, LeavesMore, LeavesAsBefore, LeavesOnly};
+ghost use Rattle.city_journal.specs.Files.{IsKept, LeavesMore, LeavesPart, LeavesAsBefore, LeavesOnly};
 
 /// A file couldn't do what was asked.
 #[derive(Clone, Copy, Debug, Drop, PartialEq, Eq)]
@@ -19,19 +19,21 @@ pub trait JournalFile {
     /// but never all.
     fn append(&mut self, bytes: &[u8]) -> Result<(), Refused>
         ensures ok { OnOk result (Appends (seen self.old) (seen self.new) bytes.now) }
+        ensures ok_left { OnOk result (IfSome (seen self.old)
+            (λ s. LeavesMore (may_leave self.old) (may_leave self.new) s bytes.now)) }
         ensures err { OnErr result (Keeps (seen self.old) (seen self.new)) }
-        ensures crash { IfSome (seen self.old)
-            (λ s. LeavesMore (may_leave self.old) (may_leave self.new) s bytes.now) };
+        ensures err_left { OnErr result (IfSome (seen self.old)
+            (λ s. LeavesPart (may_leave self.old) (may_leave self.new) s bytes.now)) };
 
-    /// Brings all that was appended to the disk: a crash leaves it all.
+    /// Brings all that was appended to the disk: a crash leaves all of it.
     fn sync(&mut self) -> Result<(), Refused>
         ensures seen { Keeps (seen self.old) (seen self.new) }
-        ensures ok { OnOk result (IfSome (seen self.old) (LeavesOnly (may_leave self.new))) }
+        ensures ok { OnOk result (IsKept (seen self.new) (may_leave self.new)) }
         ensures err { OnErr result (LeavesAsBefore (may_leave self.old) (may_leave self.new)) };
 
-    /// Puts a new file with these bytes in its place, all on the disk; the old one is kept under a name with this
-    /// number. If it can't, the file has what it had, or from then on nothing can be appended or synced.
+    /// Puts a new file with these bytes in its place, all of them on the disk; the old one is kept under a name with
+    /// this number. If it can't, the file has what it had, or from then on it refuses all that is asked.
     fn begin(&mut self, bytes: &[u8], number: u64) -> Result<(), Refused>
-        ensures ok { OnOk result (IfSome (seen self.old) (λ _. Has (seen self.new) bytes.now)) }
-        ensures crash { OnOk result (LeavesOnly (may_leave self.new) bytes.now) };
+        ensures ok { OnOk result (IsSome (seen self.old) → seen self.new ≡ Some bytes.now) }
+        ensures kept { OnOk result (IsKept (seen self.new) (may_leave self.new)) };
 }

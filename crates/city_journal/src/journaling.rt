@@ -1,18 +1,24 @@
 //! What a live city notes its commits by.
+ghost use Rattle.std.specs.Prelude.{◌≡◌, IfSome, OnOk, OnErr};
+ghost use Rattle.city_journal.specs.Files.{IsKept};
+ghost use Rattle.city_journal.specs.Kept.{Gains, GoesBy, MayTell, Stays};
+
 use crate::file::JournalFile;
 use crate::keys::{Keys, Made};
 use crate::live::{Entry, Journal, Unwritten};
 use crate::model_sum::ModelSum;
+use crate::noting::{note, sync};
 use crate::write_line::{append_beginning, commit_line, saved_line};
 use city_members::copied::Copied;
 use city_members::text::Text;
 use city_model::OutOfMemory;
 use std::alloc::Global;
 use std::collections::BTreeMap;
+use std::marker::Model;
 
 /// Notes commits in a file, if there is one, and the keys of those that have one.
 ///
-/// A commit is told to nobody before `sync` has succeeded after it.
+/// A commit is told to nobody before `sync` has succeeded after it. Contracts see the file.
 #[derive(Drop)]
 pub struct Journaling<F: JournalFile> {
     alloc: Global,
@@ -21,13 +27,24 @@ pub struct Journaling<F: JournalFile> {
     /// Whether numbers are of any form.
     decimals: bool,
     file: Option<F>,
-    /// Whether all that was appended is synced.
+    /// Whether all that the file has is synced.
     synced: bool,
     /// The time: so many seconds since 1970.
     time: u64,
     keys: Keys,
     /// The keys of hands' next commits.
     asked: BTreeMap<Text, Text>,
+}
+
+impl<F: JournalFile> Model for Journaling<F> {
+    ghost use Rattle.std.specs.Prelude.{◌≡◌, true, Option, IfSome};
+    ghost use Rattle.city_journal.specs.Files.{IsKept};
+
+    ghost Value = { Option F };
+
+    ghost view = { λ j. j.file };
+
+    ghost invariant = { λ j. j.synced ≡ true → IfSome j.file (λ f. IsKept (F.seen f) (F.may_leave f)) };
 }
 
 impl<F: JournalFile> Journaling<F> {
@@ -38,7 +55,10 @@ impl<F: JournalFile> Journaling<F> {
         decimals: bool,
         file: Option<F>,
         keys: Keys,
-    ) -> Journaling<F> {
+    ) -> Journaling<F>
+        requires { IfSome file (λ f. IsKept (F.seen f) (F.may_leave f)) }
+        ensures { result ≡ file }
+    {
         Journaling {
             alloc,
             seed,
@@ -57,24 +77,32 @@ impl<F: JournalFile> Journaling<F> {
     }
 
     /// The file, if there is one.
-    pub fn into_file(self) -> Option<F> {
+    pub fn into_file(self) -> Option<F>
+        ensures { result ≡ self }
+    {
         self.file
     }
 
     /// Sets the time that the next lines have: so many seconds since 1970. Doesn't allocate.
-    pub fn set_time(&mut self, seconds: u64) {
+    pub fn set_time(&mut self, seconds: u64)
+        ensures { self.new ≡ self.old }
+    {
         self.time = seconds;
     }
 
     /// Has the hand's next commit noted with this key. If it has a key already, that one stays.
-    pub fn ask(&mut self, hand: &Text, key: &Text) -> Result<(), OutOfMemory> {
+    pub fn ask(&mut self, hand: &Text, key: &Text) -> Result<(), OutOfMemory>
+        ensures { self.new ≡ self.old }
+    {
         if self.asked.contains_key(hand) {
             return Ok(());
         }
         let hand = hand.copy(self.alloc)?;
         let key = key.copy(self.alloc)?;
-        self.asked.insert(hand, key)?;
-        Ok(())
+        match self.asked.insert(hand, key) {
+            Ok(_) => Ok(()),
+            Err(_) => Err(OutOfMemory),
+        }
     }
 
     /// The key of the hand's next commit, if it has one. Doesn't allocate.
@@ -83,7 +111,9 @@ impl<F: JournalFile> Journaling<F> {
     }
 
     /// Forgets the key of the hand's next commit. Doesn't allocate.
-    pub fn forget(&mut self, hand: &Text) {
+    pub fn forget(&mut self, hand: &Text)
+        ensures { self.new ≡ self.old }
+    {
         self.asked.remove(hand);
     }
 
@@ -93,33 +123,33 @@ impl<F: JournalFile> Journaling<F> {
     }
 
     /// Brings what was appended to the disk. If it can't, nobody may be told of it.
-    pub fn sync(&mut self) -> Result<(), Unwritten> {
+    pub fn sync(&mut self) -> Result<(), Unwritten>
+        ensures ok { OnOk result (GoesBy (MayTell F.seen F.may_leave) self.old self.new) }
+        ensures err { OnErr result (GoesBy (Stays F.seen F.may_leave) self.old self.new) }
+    {
         if self.synced {
             return Ok(());
         }
-        if let Some(file) = &mut self.file {
-            if file.sync().is_err() {
-                return Err(Unwritten::CannotWrite);
-            }
-        }
+        sync(&mut self.file)?;
         self.synced = true;
         Ok(())
     }
 
-    /// Notes that the model with this sum is about to be put into place, and brings that to the disk.
-    pub fn begin_save(&mut self, sum: &ModelSum) -> Result<(), Unwritten> {
-        if self.file.is_none() {
-            return Ok(());
-        }
+    /// Notes that the model with this sum is about to be put into place. It has to be synced before that is done.
+    pub fn begin_save(&mut self, sum: &ModelSum) -> Result<(), Unwritten>
+        ensures ok { OnOk result (GoesBy (Gains F.seen F.may_leave) self.old self.new) }
+        ensures err { OnErr result (GoesBy (Stays F.seen F.may_leave) self.old self.new) }
+    {
+        self.synced = false;
         match saved_line(self.alloc, sum) {
-            Ok(line) => self.append_line(line.as_slice())?,
-            Err(OutOfMemory) => return Err(Unwritten::OutOfMemory),
+            Ok(line) => note(&mut self.file, line),
+            Err(OutOfMemory) => Err(Unwritten::OutOfMemory),
         }
-        self.sync()
     }
 
     /// Begins the journal anew over the model with this sum, at this version, which was put into place.
     pub fn end_save(&mut self, sum: &ModelSum, version: u64) -> Result<(), Unwritten> {
+        self.synced = false;
         let Some(file) = &mut self.file else {
             return Ok(());
         };
@@ -128,51 +158,46 @@ impl<F: JournalFile> Journaling<F> {
             return Err(Unwritten::OutOfMemory);
         };
         match file.begin(lines.as_slice(), version) {
-            Ok(()) => {
-                self.synced = true;
-                Ok(())
-            }
+            Ok(()) => Ok(()),
             Err(_) => Err(Unwritten::CannotWrite),
         }
     }
 
-    /// Appends a line to the file, if there is one.
-    fn append_line(&mut self, line: &[u8]) -> Result<(), Unwritten> {
-        if let Some(file) = &mut self.file {
-            self.synced = false;
-            if file.append(line).is_err() {
-                return Err(Unwritten::CannotWrite);
+    /// Notes a commit that is about to be made, with the key that its hand asked for. If it can't, its key isn't known.
+    pub fn note_commit(&mut self, entry: &Entry<'_>) -> Result<(), Unwritten>
+        ensures ok { OnOk result (GoesBy (Gains F.seen F.may_leave) self.old self.new) }
+        ensures err { OnErr result (GoesBy (Stays F.seen F.may_leave) self.old self.new) }
+    {
+        let key = self.asked.remove(entry.by);
+        let line = self.line_of(entry, key.as_ref())?;
+        if let Some(key) = &key {
+            if self.keys.note(key, entry.name, entry.version).is_err() {
+                return Err(Unwritten::OutOfMemory);
             }
         }
-        Ok(())
+        self.synced = false;
+        let noted = note(&mut self.file, line);
+        if noted.is_err() {
+            if let Some(key) = &key {
+                self.keys.forget(key);
+            }
+        }
+        noted
     }
 
-    /// Appends the line of a commit, if there is a file.
-    fn write(&mut self, entry: &Entry<'_>, key: Option<&Text>) -> Result<(), Unwritten> {
+    /// The line of a commit, if there is a file.
+    fn line_of(&self, entry: &Entry<'_>, key: Option<&Text>) -> Result<Vec<u8>, Unwritten> {
         if self.file.is_none() {
-            return Ok(());
+            return Ok(Vec::new(self.alloc));
         }
-        let line = commit_line(
+        commit_line(
             self.alloc,
             self.seed,
             self.decimals,
             entry,
             key,
             self.time,
-        )?;
-        self.append_line(line.as_slice())
-    }
-
-    /// Notes a commit with this key. If it can't, the key isn't known.
-    fn append_with_key(&mut self, entry: &Entry<'_>, key: &Text) -> Result<(), Unwritten> {
-        if self.keys.note(key, entry.name, entry.version).is_err() {
-            return Err(Unwritten::OutOfMemory);
-        }
-        let written = self.write(entry, Some(key));
-        if written.is_err() {
-            self.keys.forget(key);
-        }
-        written
+        )
     }
 }
 
@@ -182,9 +207,6 @@ impl<F: JournalFile> Journal for Journaling<F> {
     }
 
     fn append(&mut self, entry: &Entry<'_>) -> Result<(), Unwritten> {
-        match self.asked.remove(entry.by) {
-            Some(key) => self.append_with_key(entry, &key),
-            None => self.write(entry, None),
-        }
+        self.note_commit(entry)
     }
 }

@@ -4,9 +4,9 @@
 //! - `line_sum`, `line_parts`, `line`: the lines of a journal, read; `steps`, `script_text`, `write_line`: written
 //! - `keys`: the keys of the last commits, so that none is made twice
 //! - `read`, `reading`: a whole journal read; `fault`: why one is refused
-//! - `replay`: its commits, made again on a city
+//! - `replaying`: its commits, made again on a city
 //! - `file`: a file that grows; `memory_file`: one in memory; `runtime_file`: one of a runtime
-//! - `journaling`: what a live city notes its commits by; `live`: what that asks of it
+//! - `journaling`: what a live city notes its commits by; `noting`: lines in a file; `live`: what that asks of it
 #![tactic(auto)]
 
 mod fault;
@@ -19,9 +19,10 @@ mod line_sum;
 mod live;
 mod memory_file;
 mod model_sum;
+mod noting;
 mod read;
 mod reading;
-mod replay;
+mod replaying;
 mod runtime_file;
 mod script_text;
 mod steps;
@@ -37,6 +38,6 @@ pub use live::{Commands, Entry, Journal, NoJournal, Unwritten};
 pub use memory_file::MemoryFile;
 pub use model_sum::ModelSum;
 pub use read::{Commit, ReadJournal, read_journal};
-pub use replay::replay;
+pub use replaying::replay;
 pub use runtime_file::RuntimeFile;
 pub use write_line::append_beginning;

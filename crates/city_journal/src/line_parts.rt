@@ -1,5 +1,5 @@
 //! Parts at the begin or at the end of a line.
-ghost use Rattle.std.specs.Prelude.{◌≡◌, ◌++◌, IfSome};
+ghost use Rattle.std.specs.Prelude.{◌≤◌, length, IfSome};
 
 use city_members::text::Text;
 use city_model::OutOfMemory;
@@ -10,12 +10,23 @@ use std::alloc::Global;
 /// How many digits a number of a line may have.
 const MOST_DIGITS: usize = 20;
 
-/// What is before the number at the end, and that number.
-pub(crate) fn number_at_end(bytes: &[u8]) -> Option<(&[u8], u64)> {
-    let mut at = bytes.len();
-    while at > 0 && bytes.len() - at < MOST_DIGITS && bytes[at - 1].is_ascii_digit() {
-        at -= 1;
+/// How many digits stand at the end, at most 20.
+fn digits_at_end(bytes: &[u8]) -> usize {
+    let mut count: usize = 0;
+    for byte in bytes.iter().rev().take(MOST_DIGITS) {
+        if !byte.is_ascii_digit() {
+            return count;
+        }
+        count = count.saturating_add(1);
     }
+    count
+}
+
+/// What is before the number at the end, and that number.
+pub(crate) fn number_at_end(bytes: &[u8]) -> Option<(&[u8], u64)>
+    ensures { IfSome result (λ parts. length parts.0.now ≤ length bytes.now) }
+{
+    let at = bytes.len().saturating_sub(digits_at_end(bytes));
     let Ok(digits) = from_utf8(&bytes[at..]) else {
         return None;
     };
@@ -26,18 +37,18 @@ pub(crate) fn number_at_end(bytes: &[u8]) -> Option<(&[u8], u64)> {
 }
 
 /// The JSON text of the string at the begin, with its quotes, and what is behind it.
-pub(crate) fn string_at_start(bytes: &[u8]) -> Option<(&[u8], &[u8])>
-    ensures { IfSome result (λ parts. parts.0.now ++ parts.1.now ≡ bytes.now) }
-{
+pub(crate) fn string_at_start(bytes: &[u8]) -> Option<(&[u8], &[u8])> {
     if bytes.first() != Some(&b'"') {
         return None;
     }
-    let mut at = 1;
-    while at < bytes.len() {
-        match bytes[at] {
-            b'"' => return Some((&bytes[..at + 1], &bytes[at + 1..])),
-            b'\\' => at += 2,
-            _ => at += 1,
+    let mut is_escaped = false;
+    for i in 1..bytes.len() {
+        if is_escaped {
+            is_escaped = false;
+        } else if bytes[i] == b'"' {
+            return Some((&bytes[..i + 1], &bytes[i + 1..]));
+        } else {
+            is_escaped = bytes[i] == b'\\';
         }
     }
     None

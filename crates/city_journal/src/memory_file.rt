@@ -1,4 +1,7 @@
 //! A file in memory.
+ghost use Rattle.std.specs.Prelude.{◌≡◌, Some};
+ghost use Rattle.city_journal.specs.Files.{IsKept, LeavesFirst};
+
 use crate::file::{JournalFile, Refused};
 use std::alloc::Global;
 
@@ -17,7 +20,9 @@ pub struct MemoryFile {
 
 impl MemoryFile {
     /// A file with these bytes, all of them synced.
-    pub fn new(alloc: Global, bytes: Vec<u8>) -> MemoryFile {
+    pub fn new(alloc: Global, bytes: Vec<u8>) -> MemoryFile
+        ensures { (result.bytes.items ≡ bytes.items) × IsKept (Some bytes.items) (LeavesFirst result.synced bytes.items) }
+    {
         let synced = bytes.len();
         MemoryFile {
             alloc,

@@ -1,4 +1,7 @@
 //! A whole journal, read.
+ghost use Rattle.std.specs.Prelude.{◌≡◌, IfOk};
+ghost use Rattle.city_journal.specs.Lines.{EndsLine};
+
 use crate::fault::JournalFault;
 use crate::keys::Keys;
 use crate::model_sum::ModelSum;
@@ -54,10 +57,8 @@ impl<'a> ReadJournal<'a> {
     pub fn commits_behind(&self, model: &ModelSum) -> Result<&[Commit<'a>], JournalFault> {
         for place in self.places.iter().rev() {
             if place.sum == *model {
-                return match self.commits.get(place.before..) {
-                    Some(commits) => Ok(commits),
-                    None => Ok(&[]),
-                };
+                let before = place.before.min(self.commits.len());
+                return Ok(&self.commits.as_slice()[before..]);
             }
         }
         match self.places.last() {
@@ -72,12 +73,14 @@ impl<'a> ReadJournal<'a> {
     }
 }
 
-/// Reads a journal. A last line that was cut, or is damaged, is dropped.
+/// Reads a journal. A last line that was cut, or is damaged, is dropped: what stands ends behind a newline.
 pub fn read_journal(
     alloc: Global,
     bytes: &[u8],
     decimals: bool,
-) -> Result<ReadJournal<'_>, JournalFault> {
+) -> Result<ReadJournal<'_>, JournalFault>
+    ensures { IfOk result (λ journal. EndsLine bytes.now journal.whole) }
+{
     let Some(end) = memchr(b'\n', bytes) else {
         return Err(JournalFault::NoJournal);
     };
@@ -95,7 +98,10 @@ fn read_rest<'a>(
     mut reading: Reading<'a>,
     bytes: &'a [u8],
     start: usize,
-) -> Result<ReadJournal<'a>, JournalFault> {
+) -> Result<ReadJournal<'a>, JournalFault>
+    requires { EndsLine bytes.now start }
+    ensures { IfOk result (λ journal. EndsLine bytes.now journal.whole) }
+{
     let mut whole = start;
     let mut lines: usize = 1;
     let mut dropped = false;

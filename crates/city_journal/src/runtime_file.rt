@@ -4,7 +4,11 @@ use city_serve::serve::write_output;
 use city_serve::{Device, OutputFiles, RuntimeFiles, ServeFault};
 use std::fs::{self, File, Files, OpenFile, OpenOptions};
 use std::io::{self, ErrorKind, Write};
+use std::os::unix::fs::MetadataExt;
 use std::time::Clock;
+
+/// How many names for an old journal are tried.
+const MOST_NAMES: u64 = 100;
 
 /// A journal's file, locked for this run.
 #[derive(Drop)]
@@ -44,10 +48,12 @@ impl<'a, R: Files<File = File> + AllocGlobal + Clock> RuntimeFile<'a, R> {
         })
     }
 
-    /// All bytes of the journal; none if there is no such file.
+    /// All bytes of the journal; none if there is no such file. It has to be a plain file.
     pub fn read(&self) -> io::Result<Vec<u8>> {
-        match fs::read(self.rt, self.path.as_str()) {
-            Ok(bytes) => Ok(bytes),
+        let path = self.path.as_str();
+        match fs::metadata(self.rt, path) {
+            Ok(found) if found.is_file() => fs::read(self.rt, path),
+            Ok(_) => Err(io::Error::from(ErrorKind::InvalidInput)),
             Err(error) if error.kind() == ErrorKind::NotFound => Ok(Vec::new(self.rt.alloc())),
             Err(error) => Err(error),
         }
@@ -74,7 +80,7 @@ impl<'a, R: Files<File = File> + AllocGlobal + Clock> RuntimeFile<'a, R> {
         self.files.unlock();
     }
 
-    /// Keeps the journal that is there under a name with this number too.
+    /// Keeps the journal that is there under a name with this number too: the first that no other file has.
     fn keep_old(&self, number: u64) -> io::Result<()> {
         let real = match fs::canonicalize(self.rt, self.path.as_str()) {
             Ok(real) => real,
@@ -82,14 +88,32 @@ impl<'a, R: Files<File = File> + AllocGlobal + Clock> RuntimeFile<'a, R> {
             Err(error) => return Err(error),
         };
         let own = real.as_str();
-        let name = format!(in self.rt.alloc(); "{own}.{number}")?;
-        match fs::hard_link(self.rt, own, name.as_str()) {
-            Err(error) if error.kind() == ErrorKind::AlreadyExists => {
-                fs::remove_file(self.rt, name.as_str())?;
-                fs::hard_link(self.rt, own, name.as_str())
-            }
-            linked => linked,
+        let alloc = self.rt.alloc();
+        if self.is_kept_as(own, format!(in alloc; "{own}.{number}")?.as_str())? {
+            return Ok(());
         }
+        for turn in 1..MOST_NAMES {
+            if self.is_kept_as(own, format!(in alloc; "{own}.{number}.{turn}")?.as_str())? {
+                return Ok(());
+            }
+        }
+        Err(io::Error::from(ErrorKind::AlreadyExists))
+    }
+
+    /// Gives the journal this name too, unless it is another file's; a copy has it where a file has one name alone.
+    fn is_kept_as(&self, own: &str, name: &str) -> io::Result<bool> {
+        match fs::symlink_metadata(self.rt, name) {
+            Ok(found) => {
+                let journal = fs::metadata(self.rt, own)?;
+                return Ok(found.dev() == journal.dev() && found.ino() == journal.ino());
+            }
+            Err(error) if error.kind() == ErrorKind::NotFound => {}
+            Err(error) => return Err(error),
+        }
+        if fs::hard_link(self.rt, own, name).is_err() {
+            fs::copy(self.rt, own, name)?;
+        }
+        Ok(true)
     }
 
     /// Writes a new file with these bytes, synced, and gives it the journal's name.

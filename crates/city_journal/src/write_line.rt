@@ -57,16 +57,16 @@ fn key_line(bytes: Vec<u8>, key: &Text, name: &Text, version: u64) -> Result<Vec
     Ok(bytes)
 }
 
-/// The line that says that the model with this sum is about to be put into place.
+/// The line that says that the model with this sum is about to be put into place, without its newline.
 pub(crate) fn saved_line(alloc: Global, sum: &ModelSum) -> Result<Vec<u8>, OutOfMemory> {
     let mut out = Vec::new(alloc);
     out.extend_from_slice(b"{\"saved\":\"")?;
     out.extend_from_slice(&sum.digits())?;
-    out.extend_from_slice(b"\"}\n")?;
+    out.extend_from_slice(b"\"}")?;
     Ok(out)
 }
 
-/// The line of a commit, with a key if it has one, at a time: so many seconds since 1970.
+/// The line of a commit, without its newline: with a key if it has one, at a time, so many seconds since 1970.
 pub(crate) fn commit_line(
     alloc: Global,
     seed: u64,
@@ -99,7 +99,6 @@ fn line_around(
     let digits = sum_digits(alloc, line.as_slice(), behind.as_bytes())?;
     line.extend_from_slice(digits.as_bytes())?;
     line.extend_from_slice(behind.as_bytes())?;
-    line.push(b'\n')?;
     Ok(line)
 }
 

@@ -1,4 +1,11 @@
 //! The commits of a journal, made again on a city.
+ghost use Rattle.std.specs.Prelude.{◌≡◌, ◌≤◌, ◌<◌, ◌++◌, ℕ, List, length, IfOk, IfNone, OnOk};
+ghost use Rattle.std.specs.List.{AllByRecursion};
+ghost use Rattle.city_model.specs.CityMap.{object_at};
+ghost use Rattle.city_model.specs.Relations.{IsLawful};
+ghost use Rattle.city_journal.specs.Replays.{IsArrayOf, IsCommitted, LeadsTo, Replays, array_text, others_text};
+ghost use Rattle.city_journal.specs.Replays.{scripts_of};
+
 use crate::fault::JournalFault;
 use crate::read::Commit;
 use city_decimals::{DecimalsFault, encode};
@@ -20,7 +27,13 @@ pub fn replay(
     decimals: bool,
     city: City,
     commits: &[Commit<'_>],
-) -> Result<City, JournalFault> {
+) -> Result<City, JournalFault>
+    requires { IsLawful (object_at city.1) }
+    ensures replayed { IfOk result (λ c. (ns : List ℕ) × Replays decimals ns (scripts_of commits.now)
+        (object_at city.1) (object_at c.1)) }
+    ensures lawful { IfOk result (λ c. IsLawful (object_at c.1)) }
+    ensures frame { IfOk result (λ c. c.0 ≡ city.0) }
+{
     let mut city = city;
     let mut rest = commits;
     while !rest.is_empty() {
@@ -32,17 +45,18 @@ pub fn replay(
 }
 
 /// How many of the commits go into the next array: one at least.
-fn batch_len(commits: &[Commit<'_>]) -> usize {
-    let mut count = 0;
+fn batch_len(commits: &[Commit<'_>]) -> usize
+    ensures least { 0 < length commits.now → 0 < result }
+    ensures most { result ≤ length commits.now }
+{
     let mut bytes: usize = 0;
-    for commit in commits {
+    for (i, commit) in commits.iter().enumerate() {
         bytes = bytes.saturating_add(commit.script.len()).saturating_add(1);
-        if count > 0 && (count >= MAX_SCRIPTS || bytes > MOST_BYTES) {
-            return count;
+        if i > 0 && (i >= MAX_SCRIPTS || bytes > MOST_BYTES) {
+            return i;
         }
-        count += 1;
     }
-    count
+    commits.len()
 }
 
 /// Makes the commits of one array again.
@@ -51,7 +65,13 @@ fn replay_some(
     decimals: bool,
     city: City,
     commits: &[Commit<'_>],
-) -> Result<City, JournalFault> {
+) -> Result<City, JournalFault>
+    requires { IsLawful (object_at city.1) }
+    ensures leads { IfOk result (λ c. LeadsTo decimals (scripts_of commits.now)
+        (object_at city.1) (object_at c.1)) }
+    ensures lawful { IfOk result (λ c. IsLawful (object_at c.1)) }
+    ensures frame { IfOk result (λ c. c.0 ≡ city.0) }
+{
     let text = array_of(alloc, decimals, commits)?;
     let scripts = match read_scripts(alloc, text.as_slice()) {
         Ok(scripts) => scripts,
@@ -75,7 +95,9 @@ fn array_of(
     alloc: Global,
     decimals: bool,
     commits: &[Commit<'_>],
-) -> Result<Vec<u8>, JournalFault> {
+) -> Result<Vec<u8>, JournalFault>
+    ensures { IfOk result (λ text. IsArrayOf decimals (scripts_of commits.now) text.items) }
+{
     let text = plain_array_of(alloc, commits)?;
     if !decimals {
         return Ok(text);
@@ -88,21 +110,34 @@ fn array_of(
 }
 
 /// The array of the commits' scripts, as they stand in their lines.
-fn plain_array_of(alloc: Global, commits: &[Commit<'_>]) -> Result<Vec<u8>, OutOfMemory> {
+fn plain_array_of(alloc: Global, commits: &[Commit<'_>]) -> Result<Vec<u8>, OutOfMemory>
+    ensures { IfOk result (λ text. text.items ≡ array_text (scripts_of commits.now)) }
+{
     let mut text = Vec::new(alloc);
     text.push(b'[')?;
-    for (i, commit) in commits.iter().enumerate() {
-        if i > 0 {
-            text.push(b',')?;
-        }
-        text.extend_from_slice(commit.script)?;
+    if let [first, others @ ..] = commits {
+        text.extend_from_slice(first.script)?;
+        push_others(&mut text, others)?;
     }
     text.push(b']')?;
     Ok(text)
 }
 
+/// Appends the scripts of these commits, a comma before each.
+fn push_others(text: &mut Vec<u8>, commits: &[Commit<'_>]) -> Result<(), OutOfMemory>
+    ensures { OnOk result (text.new.items ≡ text.old.items ++ others_text (scripts_of commits.now)) }
+{
+    for commit in commits {
+        text.push(b',')?;
+        text.extend_from_slice(commit.script)?;
+    }
+    Ok(())
+}
+
 /// The place of the first end that is no commit, and whether memory ran out there.
-fn first_uncommitted(ends: &[End]) -> Option<(usize, bool)> {
+fn first_uncommitted(ends: &[End]) -> Option<(usize, bool)>
+    ensures { IfNone result (AllByRecursion IsCommitted ends.now) }
+{
     for (i, end) in ends.iter().enumerate() {
         match end.outcome {
             Outcome::Committed => {}
