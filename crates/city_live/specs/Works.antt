@@ -93,6 +93,11 @@ with_done w = record {
   kept = option_map (λ ks. ks ++ one_kept (asked_script w.task)) w.kept;
 }
 
+-- the one command is replied to: it was done, or refused
+abbrev pub replied : Bool → Working → Working
+replied true w = with_done w
+replied false w = answered w
+
 abbrev pub without_script : Working → Working
 without_script w = record { by = w.by; name = w.name; task = task.Single None; tag = w.tag; kept = w.kept }
 
@@ -120,16 +125,12 @@ abbrev pub HasRoom : Task → Option (Vec Scripted) → Type 0
 HasRoom (task.Single (Some s)) (Some v) = vec_len v < vec_capacity v
 HasRoom t o = Unit {0}
 
-abbrev pub or_none_kept : Option (List Scripted) → List Scripted
-or_none_kept None = []
-or_none_kept (Some ks) = ks
-
 -- the commands of a work, as a journal notes them: a whole script, or those that a transaction kept, and a Commit
-abbrev pub commands_as : Task → Option (List Scripted) → List Command
-commands_as (task.Script s rs c) kept = s.1
-commands_as (task.Single asked) kept = firsts (or_none_kept kept) ++ Commit ∷ []
+abbrev pub commands_as : Task → Option (List Scripted) → Option (List Command)
+commands_as (task.Script s rs c) kept = Some s.1
+commands_as (task.Single asked) kept = option_map (λ ks. firsts ks ++ Commit ∷ []) kept
 
-abbrev pub commands_noted : Working → List Command
+abbrev pub commands_noted : Working → Option (List Command)
 commands_noted w = commands_as w.task w.kept
 
 -- ---- by their stamps

@@ -48,8 +48,7 @@ struct Sender {
 #[derive(Drop)]
 pub struct Hands<J: Journal> {
     alloc: Global,
-    talks: Talks,
-    journal: J,
+    talks: Talks<J>,
     /// The number of commits with writes.
     version: u64,
     roster: Roster,
@@ -84,11 +83,11 @@ impl<J: Journal> Hands<J> {
         ensures city { committed result.session.core ≡ object_at city.1 }
         ensures events { result.events ≡ [] }
         ensures answers { result.answers ≡ [] }
+        ensures noted { result.noted ≡ J.noted journal }
     {
         Hands {
             alloc,
-            talks: Talks::open(alloc, city),
-            journal,
+            talks: Talks::open(alloc, city, journal),
             version,
             roster: Roster::new(alloc),
             watchers: BTreeMap::new(alloc),
@@ -113,12 +112,12 @@ impl<J: Journal> Hands<J> {
 
     /// The journal. Doesn't allocate.
     pub fn journal(&self) -> &J {
-        &self.journal
+        self.talks.journal()
     }
 
     /// The journal, to be written or saved. Doesn't allocate.
     pub fn journal_mut(&mut self) -> &mut J {
-        &mut self.journal
+        self.talks.journal_mut()
     }
 
     /// Does a request of a hand, and goes on with all works it was in the way of. The answers stand in their order.
@@ -283,8 +282,7 @@ impl<J: Journal> Hands<J> {
     {
         let by = Arc::try_clone(&sender.name)?;
         let kept = self.kept_by(seat);
-        let keeps = self.journal.is_kept();
-        let stamp = self.talks.begin(by, seat, name, task, kept, keeps)?;
+        let stamp = self.talks.begin(by, seat, name, task, kept)?;
         self.take_age(seat, stamp);
         Ok(stamp)
     }

@@ -6,7 +6,7 @@ ghost use Rattle.city_live.specs.declared.task.Task.TheVariants as task;
 ghost use Rattle.city_live.specs.Works.{work_at, tag_at, WorksTo, SameWorks, IsScriptAt, asking, requested, answered};
 ghost use Rattle.city_live.specs.Works.{again};
 ghost use Rattle.city_live.specs.Works.{after_taking, with_script, is_whole, is_whole_at, IsWorkOf, IsAskedAt};
-ghost use Rattle.city_live.specs.Works.{MayCommit, with_done};
+ghost use Rattle.city_live.specs.Works.{MayCommit, replied};
 
 use crate::answer::Name;
 use crate::in_the_way::InTheWay;
@@ -202,13 +202,14 @@ impl Table {
         }
     }
 
-    /// The one command of a work was done: it is kept for a journal that wants it. Takes the tag. Doesn't allocate.
-    pub fn done(&mut self, stamp: u64) -> Tag
+    /// The one command of a work is replied to. If it was done, it is kept for a journal that wants it. Takes the tag.
+    /// Doesn't allocate.
+    pub fn reply(&mut self, stamp: u64, is_done: bool) -> Tag
         ensures tag { result ≡ tag_at self.old stamp }
-        ensures works { WorksTo stamp (option_map with_done (work_at self.old stamp)) self.old self.new }
+        ensures works { WorksTo stamp (option_map (replied is_done) (work_at self.old stamp)) self.old self.new }
     {
         match self.by_stamp.get_mut(&stamp) {
-            Some(work) => work.done(),
+            Some(work) => work.reply(is_done),
             None => None,
         }
     }

@@ -3,7 +3,7 @@ ghost use Rattle.std.specs.Prelude.{◌≡◌, None, Some, MatchOption, IfSome, 
 ghost use Rattle.std.specs.Arc.{arc_value};
 ghost use Rattle.city_live.specs.declared.task.Task.TheVariants as task;
 ghost use Rattle.city_live.specs.Entering.{commands_by};
-ghost use Rattle.city_live.specs.Works.{next_of, asking, requested, answered, again, is_whole, with_done, none_kept};
+ghost use Rattle.city_live.specs.Works.{next_of, asking, requested, answered, again, is_whole, with_done, none_kept, replied};
 ghost use Rattle.city_live.specs.Works.{commands_noted, IsFresh};
 ghost use Rattle.city_live.specs.Works.{after_taking, with_script, IsAtCommit};
 
@@ -217,7 +217,7 @@ impl Work {
 
     /// Its commands for a journal: a script, or those that a transaction kept. Doesn't allocate.
     pub fn commands(&self) -> Option<Commands<'_>>
-        ensures { IfSome result (λ c. commands_by c ≡ commands_noted self.now) }
+        ensures { IfSome result (λ c. commands_noted self.now ≡ Some (commands_by c)) }
     {
         match &self.task {
             Task::Script(script, _, _) => Some(Commands::Script(script)),
@@ -294,7 +294,7 @@ impl Work {
 
     /// The one command was done: keeps it for a journal that wants it, and takes the tag of its request. Doesn't
     /// allocate.
-    pub fn done(&mut self) -> Tag
+    fn done(&mut self) -> Tag
         ensures tag { result ≡ self.old.tag }
         ensures work { self.new ≡ with_done self.old }
     {
@@ -307,6 +307,19 @@ impl Work {
         }
         self.is_told = false;
         self.tag.take()
+    }
+
+    /// The one command is replied to: if it was done, it is kept for a journal that wants it. Takes the tag of its
+    /// request. Doesn't allocate.
+    pub fn reply(&mut self, is_done: bool) -> Tag
+        ensures tag { result ≡ self.old.tag }
+        ensures work { self.new ≡ replied is_done self.old }
+    {
+        if is_done {
+            self.done()
+        } else {
+            self.answer()
+        }
     }
 
     /// Takes out a script that goes on, and the replies to its commands so far. Doesn't allocate.

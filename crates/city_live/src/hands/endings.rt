@@ -1,6 +1,6 @@
 //! How scripts and transactions end.
 ghost use Rattle.std.specs.Prelude.{◌≡◌};
-ghost use Rattle.city_live.specs.Ending.{IsAllowed};
+ghost use Rattle.city_live.specs.Ending.{IsAllowed, IsCounted};
 ghost use Rattle.city_live.specs.Serving.{Follows};
 
 use super::{Hands, Sender};
@@ -68,41 +68,46 @@ impl<J: Journal> Hands<J> {
     }
 
     /// Commits a work, and tells the watchers of its change, and then its hand. If memory runs out, or the journal
-    /// can't be written, nothing changes.
+    /// can't be written, the work is as before.
     #[tactic(auto, using(crate::proofs::Followed::then, crate::proofs::Followed::same))]
     fn commit(&mut self, stamp: u64) -> Committing
         ensures { Follows self.old self.new }
     {
         match self.talks.prepare(stamp, self.version, self.watchers.len()) {
-            Preparing::Ready(changed, version) => self.commit_noted(stamp, changed, version),
+            Preparing::Ready(changed, version) => {
+                self.commit_ready(stamp, changed, self.version, version)
+            }
             Preparing::Refused(cause) => Committing::Refused(cause),
             Preparing::NoMemory => Committing::NoMemory,
         }
     }
 
-    /// Notes a commit that is made ready in the journal, if it wrote, and only then makes it.
+    /// Commits a work that is ready, with these versions before and after it.
     #[tactic(auto, using(crate::proofs::Followed::then, crate::proofs::Followed::same))]
-    fn commit_noted(
+    fn commit_ready(
         &mut self,
         stamp: u64,
         changed: Option<Arc<Changed>>,
+        before: u64,
         version: u64,
     ) -> Committing
-        requires { IsAllowed stamp changed self.old.session }
+        requires allowed { IsAllowed stamp changed self.old.session }
+        requires counted { IsCounted stamp before version self.old.session }
         ensures { Follows self.old self.new }
     {
-        if version != self.version && self.journal.is_kept() {
-            match self.talks.note(&mut self.journal, stamp, version) {
-                Ok(()) => {}
-                Err(Unwritten::OutOfMemory) => return Committing::NoMemory,
-                Err(Unwritten::CannotWrite) => return Committing::CannotWrite,
-            }
-        }
         self.release(stamp);
-        let seat = self.talks.commit(stamp, changed, version, &self.watchers);
-        self.version = version;
-        self.leave(seat);
-        Committing::Done
+        match self
+            .talks
+            .commit(stamp, changed, before, version, &self.watchers)
+        {
+            Ok(seat) => {
+                self.version = version;
+                self.leave(seat);
+                Committing::Done
+            }
+            Err(Unwritten::OutOfMemory) => Committing::NoMemory,
+            Err(Unwritten::CannotWrite) => Committing::CannotWrite,
+        }
     }
 
     /// Aborts the hand's work.
