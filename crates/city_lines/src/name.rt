@@ -1,4 +1,6 @@
 //! The names of members.
+ghost use Rattle.std.specs.Prelude.{◌≡◌, IfSome};
+ghost use Rattle.city_lines.specs.Members.{name_text, is_request};
 
 /// The name of a line's member.
 #[derive(Clone, Copy, PartialEq, Eq)]
@@ -23,7 +25,9 @@ pub enum Name {
 
 impl Name {
     /// The name written so, if it is one.
-    pub fn of(text: &str) -> Option<Name> {
+    pub fn of(text: &str) -> Option<Name>
+        ensures { IfSome result (λ name. name_text name ≡ text.now) }
+    {
         match text {
             "hand" => Some(Name::Hand),
             "id" => Some(Name::Id),
@@ -46,7 +50,9 @@ impl Name {
     }
 
     /// How it is written.
-    pub fn as_str(self) -> &'static str {
+    pub fn as_str(self) -> &'static str
+        ensures { result.now ≡ name_text self }
+    {
         match self {
             Name::Hand => "hand",
             Name::Id => "id",
@@ -68,7 +74,9 @@ impl Name {
     }
 
     /// Whether a member of this name asks for something.
-    pub fn is_request(self) -> bool {
+    pub fn is_request(self) -> bool
+        ensures { result ≡ is_request self }
+    {
         !matches!(self, Name::Hand | Name::Id | Name::Key | Name::Vertices)
     }
 }

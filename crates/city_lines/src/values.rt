@@ -1,4 +1,8 @@
 //! The values of members.
+ghost use Rattle.std.specs.Prelude.{◌≡◌, ◌++◌, [], ◌∷◌, IfOk, IfSome, map};
+ghost use Rattle.json.specs.Lex.{tokens};
+ghost use Rattle.json.specs.Token.{string, boolean, begin_array, end_array};
+
 use city_members::sequence::Sequence;
 use city_members::text::{Id, Text};
 use city_model::OutOfMemory;
@@ -6,7 +10,9 @@ use json::{Reader, Scratch, Token};
 use std::alloc::Global;
 
 /// A copy of a text.
-pub fn text_of(alloc: Global, text: &str) -> Result<Text, OutOfMemory> {
+pub fn text_of(alloc: Global, text: &str) -> Result<Text, OutOfMemory>
+    ensures { IfOk result (λ copy. copy ≡ text.now) }
+{
     let copy = String::from_str(alloc, text)?;
     Ok(Text::new(copy))
 }
@@ -16,7 +22,9 @@ pub fn text_in(
     alloc: Global,
     text: &str,
     scratch: &mut Scratch,
-) -> Result<Option<Text>, OutOfMemory> {
+) -> Result<Option<Text>, OutOfMemory>
+    ensures { IfOk result (λ o. IfSome o (λ found. tokens text.now ≡ string found ∷ [])) }
+{
     let mut reader = Reader::new(text, scratch)?;
     let Some(Token::String(found)) = reader.next() else {
         return Ok(None);
@@ -28,7 +36,9 @@ pub fn text_in(
 }
 
 /// Whether a JSON text is `true` or `false`, if it is one of them.
-pub fn truth_in(text: &str, scratch: &mut Scratch) -> Result<Option<bool>, OutOfMemory> {
+pub fn truth_in(text: &str, scratch: &mut Scratch) -> Result<Option<bool>, OutOfMemory>
+    ensures { IfOk result (λ o. IfSome o (λ found. tokens text.now ≡ boolean found ∷ [])) }
+{
     let mut reader = Reader::new(text, scratch)?;
     let Some(Token::Bool(found)) = reader.next() else {
         return Ok(None);
@@ -44,7 +54,10 @@ pub fn texts_in(
     alloc: Global,
     text: &str,
     scratch: &mut Scratch,
-) -> Result<Option<Vec<Id>>, OutOfMemory> {
+) -> Result<Option<Vec<Id>>, OutOfMemory>
+    ensures { IfOk result (λ o. IfSome o (λ found.
+        tokens text.now ≡ begin_array ∷ (map string found.items ++ end_array ∷ []))) }
+{
     let mut reader = Reader::new(text, scratch)?;
     let Some(Token::BeginArray) = reader.next() else {
         return Ok(None);
@@ -53,7 +66,12 @@ pub fn texts_in(
     for _ in 0..=text.len() {
         match reader.next() {
             Some(Token::String(item)) => found.push(text_of(alloc, item)?)?,
-            Some(Token::EndArray) => return Ok(Some(found)),
+            Some(Token::EndArray) => {
+                if reader.next().is_some() {
+                    return Ok(None);
+                }
+                return Ok(Some(found));
+            }
             _ => return Ok(None),
         }
     }
