@@ -35,6 +35,7 @@ TRIALS = {
     "statuses": ["statuses.py", CITYED],
     "mistakes": ["mistakes.py", CITYED],
     "pages": ["pages.py", CITYED],
+    "packaging": ["packaging.py", CITYED],
     "two_runs": ["two_runs.py", CITYED],
     "output_files": ["output_files.py", CITYED],
     "live_runs": ["live_runs.py", CITYED, SCENARIOS],
