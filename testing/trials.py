@@ -31,6 +31,7 @@ TRIALS = {
     "street": [CITYED],
     "scenarios": [SCENARIOS],
     "edits": ["edits.py", "--apply"],
+    "definitions": ["definitions.py"],
     "known_diagnostics": ["known_diagnostics.py"],
     "statuses": ["statuses.py", CITYED],
     "mistakes": ["mistakes.py", CITYED],
