@@ -23,33 +23,20 @@ def long_words(options):
     return " ".join(it.words[-1] for it in options)
 
 
-def bash(help):
-    """A completion for bash. File names are left to readline, which quotes them."""
-    name = function_of(help.program)
-    values = [it for it in help.options if it.value]
-    yield MADE.format(help.program, "bash")
-    yield f"{name}()\n{{"
-    yield "    local word=${COMP_WORDS[COMP_CWORD]} before=${COMP_WORDS[COMP_CWORD - 1]}"
-    yield f"    local offered={quoted(long_words(help.options))}"
-    yield "    local given beside option kept"
-    yield "    COMPREPLY=()"
-    yield "    if [[ $word == '=' ]]; then"
-    yield "        word="
-    yield "    elif [[ $before == '=' ]]; then"
-    yield "        before=${COMP_WORDS[COMP_CWORD - 2]}"
-    yield "    fi"
-    yield "    case $before in"
-    for it in values:
-        yield f"        {'|'.join(it.words)})"
-        if it.takes_folder:
-            yield "            compopt -o dirnames"
-        elif it.takes_file:
-            yield "            compopt -o default"
-        elif it.choices:
-            yield f'            COMPREPLY=($(compgen -W {quoted(" ".join(it.choices))} -- "$word"))'
-        yield "            return ;;"
-    yield "    esac"
-    yield "    # Each word before takes away what doesn't go with it."
+def bash_value(option):
+    """What bash completes as an option's value."""
+    yield f"        {'|'.join(option.words)})"
+    if option.takes_folder:
+        yield "            compopt -o dirnames"
+    elif option.takes_file:
+        yield "            compopt -o default"
+    elif option.choices:
+        yield f'            COMPREPLY=($(compgen -W {quoted(" ".join(option.choices))} -- "$word"))'
+    yield "            return ;;"
+
+
+def bash_offered(help):
+    """How bash takes from what is offered what doesn't go with the words before."""
     yield '    for given in "${COMP_WORDS[@]:1:COMP_CWORD - 1}"; do'
     yield "        case $given in"
     for it in help.options:
@@ -63,6 +50,28 @@ def bash(help):
     yield "        done"
     yield "        offered=$kept"
     yield "    done"
+
+
+def bash(help):
+    """A completion for bash. File names are left to readline, which quotes them."""
+    name = function_of(help.program)
+    yield MADE.format(help.program, "bash")
+    yield f"{name}()\n{{"
+    yield "    local word=${COMP_WORDS[COMP_CWORD]} before=${COMP_WORDS[COMP_CWORD - 1]}"
+    yield f"    local offered={quoted(long_words(help.options))}"
+    yield "    local given beside option kept"
+    yield "    COMPREPLY=()"
+    yield "    if [[ $word == '=' ]]; then"
+    yield "        word="
+    yield "    elif [[ $before == '=' ]]; then"
+    yield "        before=${COMP_WORDS[COMP_CWORD - 2]}"
+    yield "    fi"
+    yield "    case $before in"
+    for it in help.options:
+        yield from bash_value(it) if it.value else ()
+    yield "    esac"
+    yield "    # Each word before takes away what doesn't go with it."
+    yield from bash_offered(help)
     yield "    if [[ $word == -* ]]; then"
     yield '        COMPREPLY=($(compgen -W "$offered" -- "$word"))'
     yield "    else"

@@ -3,10 +3,10 @@
 
     python3 packaging/debian.py [--maintainer "NAME <MAIL>"] [--unproved] PROGRAM OUT
 
-PROGRAM is crates/cityed/out/cityed, which rt run builds, and OUT a folder. Its version and help text have to be those of
-this repository. If there is a client, live/cityed.py, the package python3-cityed is made too. Without --maintainer,
-DEBFULLNAME and DEBEMAIL name who makes the package. From the same files the same bytes are made: times are those of the
-last commit, or SOURCE_DATE_EPOCH.
+PROGRAM is crates/cityed/out/cityed, which rt run builds, and OUT a folder. Its version and help text have to be those
+of this repository. If there is a client, live/cityed.py, the package python3-cityed is made too. Without --maintainer,
+DEBFULLNAME and DEBEMAIL name who makes the package. From the same files the same bytes are made: times are those of
+the last commit, or SOURCE_DATE_EPOCH.
 
 A program whose name ends in -unproved is refused. For trials, --unproved packs it all the same; then the version and
 the description of the package say so. Needs dpkg-deb, and the toolchain for the licences of what is in the program.

@@ -13,7 +13,6 @@ import argparse
 import re
 import sys
 from functools import cache
-from pathlib import Path
 
 from listed_crates import ROOT
 

@@ -6,7 +6,8 @@
 PROGRAM is a built cityed. The help text is compared with the description of the command line, in city_options; the man
 page with the help text, word by word, as man shows it; the completions of bash, zsh and fish with lists by hand, at a
 terminal. The packages are made, refused, installed in an empty tree, run there, and removed. Prints a line for each
-kind with the number of cases, and what is skipped since a program is missing; ends at the first wrong one with status 1.
+kind with the number of cases, and what is skipped since a program is missing; ends at the first wrong one with status
+1.
 """
 
 import argparse
@@ -32,41 +33,8 @@ PLACES = {
     "zsh": "usr/share/zsh/vendor-completions",
     "fish": "usr/share/fish/vendor_completions.d/cityed.fish",
 }
-# A help text of another program, with forms of lines that cityed's has not.
-OTHER = """\
-Turns towns. It's quick.
-
-Usage: towner [--far] [--live [--journal FILE]] [--depth N]
-              [--colour WHEN] MODEL
-       towner --into FOLDER [--far] MODEL
-
-Arguments:
-  <MODEL>  A file, or '-'
-
-Options:
-      --far              Turn "all" \\ of them: [a~b] `c` ^d
-      --live             Hold the model
-      --journal <FILE>   Note each turn in FILE; see
-                         --live
-  -d, --depth <N>        How deep, 1 to 3
-      --colour <WHEN>
-          When to colour [possible values: never, always]
-      --into <FOLDER>    Put the towns into FOLDER
-      --seed <SEED>      Any number, 1 to 99999
-
-Other:
-  -h, --help  Print help
-
-Words go to 'each' town.
-.. and come back.
-
-Status:
-  0    fine
-  123  not fine, for
-       a long reason
-And so on.
-"""
-OTHER = OTHER.replace("[--depth N]", "[--depth N] [--seed SEED]")
+# The help text of another program, with forms of lines that cityed's has not, and its options.
+OTHER = ROOT / "testing/other_help.txt"
 EVERY = ["--colour", "--depth", "--far", "--help", "--into", "--journal", "--live", "--seed"]
 # Lines of a shell, and the words that are offered for the last one; FILES stands for the names of the folder.
 FILES = ["folder", "scripts.json", "town hall.city.json"]
@@ -189,7 +157,7 @@ class Trial:
     def man(self):
         """The man page has each word of the help text, in its order where it is one part of it."""
         needed("man")
-        shown = [(HELP, "cityed.1"), (self.other(), "towner.1")]
+        shown = [(HELP, "cityed.1"), (OTHER, "towner.1")]
         return sum(self.shows(help, generated(help, self.room / name) / name) for help, name in shown)
 
     def shows(self, help, page):
@@ -206,17 +174,12 @@ class Trial:
         """What man shows of a page, which it has to do without a warning."""
         return re.sub(r".\x08", "", ended("man", "--warnings=w", "-P", "cat", "-l", page))
 
-    def other(self):
-        path = self.room / "other.txt"
-        path.write_text(OTHER, encoding="utf-8")
-        return path
-
     # The completions
 
     def completions(self):
         """What the shells offer and complete, by the completions of two help texts."""
         text, made = HELP.read_text(encoding="utf-8"), generated(HELP, self.room / "made")
-        other = generated(self.other(), self.room / "made")
+        other = generated(OTHER, self.room / "made")
         places = lambda name: {"bash": made / f"{name}.bash", "zsh": other, "fish": made / f"{name}.fish"}
         count = self.offers(places("cityed"), offered(text), COMPLETED)
         return count + self.offers(places("towner"), OTHER_OFFERED, {})
@@ -241,12 +204,13 @@ class Trial:
         """What is no help text is refused, and nothing is made."""
         path, out = self.room / "refused.txt", self.room / "refused"
         text = HELP.read_text(encoding="utf-8")
-        texts = ["", "Usage: a\n", text.replace("Usage:", "Use:"), text.replace("      --atomic  ", "      atomic  ", 1)]
+        texts = ["", "Usage: a\n", text.replace("Usage:", "Use:"), text.replace("  --atomic  ", "  atomic  ", 1)]
         texts += [text.replace("[--atomic]", "[--atom]"), text.replace("--workers <N>", "--workers <N> <N>")]
         for it in texts:
             path.write_text(it, encoding="utf-8")
             ran = script("generate.py", path, out)
-            hold(ran.returncode == 1 and b"nothing is made" in ran.stdout and not out.exists(), f"not refused: {it[:300]}")
+            refused = ran.returncode == 1 and b"nothing is made" in ran.stdout
+            hold(refused and not out.exists(), f"not refused: {it[:300]}")
         return len(texts)
 
     # The packages
