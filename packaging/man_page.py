@@ -113,7 +113,7 @@ def man_page(help, version, day, places=()):
     """The man page of a program, from its help text. `day` is its date, and `places` are those of further pages."""
     values, program = values_of(help), help.program
     first = help.about[0].split(". ")[0].rstrip(".")
-    head = [literal(it) for it in (program.upper(), day, f"{program} {version}")]
+    head = [literal(program.upper()), day, literal(f"{program} {version}")]
     yield rf".\" Made from the help text of {program} {version}."
     yield '.TH {} 1 "{}" "{}" "User Commands"'.format(*head)
     yield from (".nh", ".ad l", ".SH NAME", rf"{literal(program)} \- {prose(first[0].lower() + first[1:])}")
@@ -132,11 +132,10 @@ def man_page(help, version, day, places=()):
         yield from section(name, parts, values)
     if places:
         yield ".SH SEE ALSO"
-        yield from (".PP", *",\n.br\n".join(italic(it) for it in places).split("\n"))
+        yield from ",\n.br\n".join(italic(it) for it in places).split("\n")
 
 
 def section(name, parts, values):
     """A section, and its paragraphs."""
-    yield f".SH {literal(name)}"
-    for lines in parts:
-        yield from paragraph(lines, values)
+    lines = [it for part in parts for it in paragraph(part, values)]
+    yield from (f".SH {literal(name)}", *lines[lines[:1] == [".PP"] :])
