@@ -231,7 +231,7 @@ class Trial:
 
     def refused(self):
         """Programs that aren't packed, and why."""
-        needed("dpkg-deb")
+        needed("dpkg-deb", "rt")
         bin, out = self.room / "bin", self.room / "none"
         bin.mkdir()
         unproved, linked, plain = bin / "it-unproved", bin / "linked", bin / "cityed"
@@ -260,7 +260,7 @@ class Trial:
 
     def packages(self):
         """The packages are the same whenever they are made, and say what they have."""
-        needed("dpkg-deb")
+        needed("dpkg-deb", "rt")
         made = self.debs(self.room / "first")
         later = self.debs(self.room / "second", env={"TZ": "Asia/Tokyo"})
         for name, path in made.items():
@@ -275,7 +275,7 @@ class Trial:
 
     def installed(self):
         """The package in an empty tree: the program, its pages, its man page and completions; and all of it gone."""
-        needed("dpkg", "dpkg-deb", "man")
+        needed("dpkg", "dpkg-deb", "man", "rt")
         tree = self.tree("tree")
         self.dpkg(tree, "--install", self.debs(self.room / "third")["cityed"])
         same(ended("dpkg", f"--root={tree}", "--verify", "cityed"), "", "what differs from the package")
@@ -329,7 +329,7 @@ class Trial:
 
     def client(self):
         """The package of the client, of a copy of the repository with a client if it has none."""
-        needed("dpkg", "dpkg-deb")
+        needed("dpkg", "dpkg-deb", "rt")
         copy = self.room / "copy"
         for name in ("packaging", "testing", "docs", "examples", "crates/city_options", "live"):
             if (ROOT / name).is_dir():
@@ -357,7 +357,7 @@ class Trial:
 
     def lintian(self):
         """Lintian finds no error."""
-        needed("lintian", "dpkg-deb")
+        needed("lintian", "dpkg-deb", "rt")
         made = self.debs(self.room / "linted")
         if (self.room / "both").is_dir():
             made["python3-cityed"] = next((self.room / "both").glob("python3-*.deb"))
