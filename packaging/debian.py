@@ -27,7 +27,7 @@ import time
 from pathlib import Path
 
 from elf import Elf, depends
-from generate import files
+from generate import files, help_in, help_of
 from help_text import NotHelp
 from licences import copyright_of
 from pages import pages
@@ -146,7 +146,7 @@ def admit(program, unproved):
         raise Stop(f"{program} isn't proved, by its name; --unproved packs it for trials")
     if said(program, "--version") != f"cityed {version()}\n":
         raise Stop(f"{program} --version isn't that of this repository, {version()}")
-    if said(program, "--help") != HELP.read_text(encoding="utf-8"):
+    if said(program, "--help") != HELP.read_text(encoding="utf-8") or help_of(program) != help_in(HELP):
         raise Stop(f"{program} --help isn't {HELP.relative_to(ROOT)}: it was built from other sources")
     return not unproved
 
@@ -185,7 +185,7 @@ def program_package(program, number, who, when, is_proved):
     about = ["editor of CityJSON 2.0 city models by scripts", ABOUT, PROVED if is_proved else UNPROVED]
     package = Package("cityed", number, fields, about)
     package.put("usr/bin/cityed", program.read_bytes(), 0o755)
-    made = files(said(program, "--help"), version(), ["/usr/share/doc/cityed/README.md", "/usr/share/doc/cityed/docs"])
+    made = files(help_of(program), version(), ["/usr/share/doc/cityed/README.md", "/usr/share/doc/cityed/docs"])
     package.put_zipped("usr/share/man/man1/cityed.1", made["cityed.1"])
     package.put("usr/share/bash-completion/completions/cityed", made["cityed.bash"])
     package.put("usr/share/zsh/vendor-completions/_cityed", made["_cityed"])

@@ -1,16 +1,19 @@
 """What a program's help text says: its forms, arguments, options, and the words behind them.
 
-Nothing here knows an option by its name, so a new one needs no change. A text of another form is refused.
+A program may have further command lines, each with a help text of its own. The first text names them: `NAME --live
+--help` in backquotes. Nothing here knows an option by its name, so a new one needs no change. A text of another form is
+refused.
 """
 
 import re
-from dataclasses import dataclass
+from dataclasses import dataclass, field, replace
 from functools import cached_property
 
 USAGE = "Usage: "
 ENTRY = re.compile(r" {2,}(?=[-\[<])(\S.*?)(?: {2,}(\S.*))?")
 OPTION = re.compile(r"(?:-(\w)(?:, )?)?(?:--([\w-]+))?(?:[ =]<([^<>]+)>)?")
 ARGUMENT = re.compile(r"[\[<]([\w-]+)[\]>](?:\.\.\.)?")
+LAST = ("help", "version")
 MOST_NUMBERS = 32  # a longer range of numbers isn't listed one by one
 
 
@@ -73,6 +76,7 @@ class Help:
     arguments: list
     options: list
     details: list  # paragraphs, each a list of lines
+    further: dict = field(default_factory=dict)  # the help of further command lines, by their words
 
     @property
     def program(self):
@@ -86,7 +90,8 @@ class Help:
         unknown = [word for words in found for word in words if word not in by_word]
         if unknown:
             raise NotHelp(f"Usage has {unknown[0]}, which no line of Options has")
-        return [{by_word[word] for word in words} for words in found]
+        asked = [[*words.split(), "--help"] for words in self.further]
+        return [{by_word[word] for word in words} for words in [*found, *asked] if set(words) <= by_word.keys()]
 
     def beside(self, option):
         """The options that may stand on a line beside this one: those that a form has together with it."""
@@ -148,12 +153,27 @@ def read_help(text):
     return Help([it for it in about.split("\n") if it], joined(usage), arguments, options, rest)
 
 
+def further_lines(text):
+    """The words of the further command lines that a help text names."""
+    return re.findall(r"`[\w-]+((?: --[\w-]+)+) --help`", text)
+
+
+def with_further(help, further):
+    """A program's help with that of its further command lines, given by their words."""
+    options, forms = list(help.options), list(help.forms)
+    for other in further.values():
+        options += [it for it in other.options if it.key not in {one.key for one in options}]
+        forms += [it for it in other.forms if it not in forms]
+    options.sort(key=lambda it: it.key in LAST)
+    return replace(help, options=options, forms=forms, further=further)
+
+
 def joined(lines):
     """The forms of Usage: one begins where the program's name does, and the other lines go on."""
     program, forms = lines[0].split()[0], []
     for line in lines:
         if line.split()[0] == program:
-            forms.append(line.strip())
+            forms.append(" ".join(line.split()))
         else:
             forms[-1] += " " + line.strip()
     return forms

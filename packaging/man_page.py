@@ -126,16 +126,35 @@ def man_page(help, version, day, places=()):
         for it in help.arguments:
             yield from (".TP", italic(it.name), line(marked(it.help, values)))
     yield ".SH OPTIONS"
-    for it in help.options:
-        yield from (".TP", term_of(it), line(marked(it.help, values)))
+    yield from listed(help.options, values)
     for name, parts in there.items():
         yield from section(name, parts, values)
+    for words, other in help.further.items():
+        yield from further(words, other, help)
     if places:
         yield ".SH SEE ALSO"
         yield from ",\n.br\n".join(italic(it) for it in places).split("\n")
 
 
-def section(name, parts, values):
+def listed(options, values):
+    """Options, each with its help."""
+    for it in options:
+        yield from (".TP", term_of(it), line(marked(it.help, values)))
+
+
+def section(name, parts, values, request=".SH"):
     """A section, and its paragraphs."""
     lines = [it for part in parts for it in paragraph(part, values)]
-    yield from (f".SH {literal(name)}", *lines[lines[:1] == [".PP"] :])
+    yield from (f"{request} {literal(name)}", *lines[lines[:1] == [".PP"] :])
+
+
+def further(words, other, help):
+    """The section of a further command line: what is said of it, and options of which it says something else."""
+    values, there = values_of(other), sections(other)
+    about, *details = there.pop("DESCRIPTION")
+    yield from section(f"WITH {words}", [about], values)
+    yield from listed([it for it in other.options if it not in help.options], values)
+    for lines in details:
+        yield from paragraph(lines, values)
+    for name, parts in there.items():
+        yield from section(name.capitalize(), parts, values, ".SS")

@@ -7,7 +7,7 @@ import time
 from pathlib import Path
 
 ROOT = Path(__file__).resolve().parent.parent
-DESCRIPTION = ROOT / "crates/city_options/src/command_line.rt"
+DESCRIPTION = ROOT / "crates/city_options/src"
 HELP = ROOT / "testing/help.txt"
 SECONDS = 30
 
@@ -18,20 +18,21 @@ class Stop(Exception):
 
 def version():
     """The version of the sources."""
-    found = re.search(r'\.version\("([^"]+)"\)', DESCRIPTION.read_text(encoding="utf-8"))
+    texts = [it.read_text(encoding="utf-8") for it in sorted(DESCRIPTION.glob("*.rt"))]
+    found = re.search(r'(?:\.version\(|const VERSION: &str = )"([^"]+)"', "\n".join(texts))
     if not found:
         raise Stop(f"{DESCRIPTION.relative_to(ROOT)} says no version")
     return found[1]
 
 
-def said(program, word):
-    """What a program prints where it is called with one word."""
+def said(program, *words):
+    """What a program prints where it is called with these words."""
     try:
-        ran = subprocess.run([program, word], stdin=subprocess.DEVNULL, capture_output=True, timeout=SECONDS)
+        ran = subprocess.run([program, *words], stdin=subprocess.DEVNULL, capture_output=True, timeout=SECONDS)
     except (OSError, subprocess.TimeoutExpired) as why:
         raise Stop(f"{program} doesn't run: {why}") from why
     if ran.returncode or ran.stderr:
-        raise Stop(f"{program} {word} ended with status {ran.returncode}")
+        raise Stop(f"{program} {' '.join(words)} ended with status {ran.returncode}")
     return ran.stdout.decode()
 
 

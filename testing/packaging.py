@@ -33,17 +33,18 @@ PLACES = {
     "zsh": "usr/share/zsh/vendor-completions",
     "fish": "usr/share/fish/vendor_completions.d/cityed.fish",
 }
-# The help text of another program, with forms of lines that cityed's has not, and its options.
+# The help texts of another program, with forms of lines that cityed's have not, and its options.
 OTHER = ROOT / "testing/other_help.txt"
 EVERY = ["--colour", "--depth", "--far", "--help", "--into", "--journal", "--live", "--seed"]
 # Lines of a shell, and the words that are offered for the last one; FILES stands for the names of the folder.
 FILES = ["folder", "scripts.json", "town hall.city.json"]
 OTHER_OFFERED = {
     "towner --": EVERY,
-    "towner --live --": ["--colour", "--depth", "--far", "--journal", "--seed"],
+    "towner --live --": ["--depth", "--far", "--help", "--journal"],
+    "towner --journal scripts.json --live --": ["--depth", "--far"],
     "towner --into folder --": ["--far"],
     "towner -d 2 --far --": ["--colour", "--journal", "--live", "--seed"],
-    "towner --help --": [],
+    "towner --help --": ["--live"],
     "towner --depth ": ["1", "2", "3"],
     "towner -d ": ["1", "2", "3"],
     "towner --colour ": ["always", "never"],
@@ -117,8 +118,13 @@ def generated(help, out):
     return out
 
 
+def texts_of(help):
+    """The help texts of a program: the one, and those beside it for further command lines."""
+    return [it.read_text(encoding="utf-8") for it in sorted(help.parent.glob(f"{help.stem}*.txt"))]
+
+
 def options_of(text):
-    """The long options of a help text, read by a pattern of one line."""
+    """The long options of help texts, read by a pattern of one line."""
     return re.findall(r"^ +(?:-\w, )?(--[\w-]+)(?: <\w+>)?(?:  |$)", text, re.M)
 
 
@@ -139,18 +145,20 @@ class Trial:
         """The help text has the options and arguments that city_options names, and the program prints it."""
         source = "\n".join(it.read_text(encoding="utf-8") for it in sorted(OPTIONS.glob("*.rt")))
         named = re.findall(r'const \w+: &str = "([\w-]+)";', source)
-        text = HELP.read_text(encoding="utf-8")
+        text, *further = texts_of(HELP)
         wanted = {f"--{it}" for it in named if it.islower()} | {"--help", "--version"}
-        same(set(options_of(text)), wanted, "the options of help.txt and those that city_options names")
+        same(set(options_of("\n".join([text, *further]))), wanted, "the options of help.txt and those that city_options names")
         same(set(re.findall(r"^  \[(\w+)\]  ", text, re.M)), {it for it in named if it.isupper()}, "the arguments")
-        about = re.sub(r'\\"', '"', source)
-        for it in ("about", "Usage", "details"):
-            part = {"about": text.split("\n")[0], "Usage": usage(text), "details": text.split("\n\n", 4)[4].strip()}[it]
-            hold(part in about, f"city_options hasn't {it} of help.txt")
+        source = source.replace('\\"', '"')
+        for it in (text, *further):
+            for part in (it.split("\n")[0], usage(it), it.split("\n\n", 4)[4].strip()):
+                hold(part in source, f"city_options hasn't: {part}")
         same(ended(self.program, "--help"), text, "what the program prints")
-        number = re.search(r'\.version\("([^"]+)"\)', source)[1]
+        for words, it in zip(re.findall(r"`cityed((?: --[\w-]+)+) --help`", text), further, strict=True):
+            same(ended(self.program, *words.split(), "--help"), it, f"what the program prints with{words}")
+        number = re.search(r'(?:\.version\(|const VERSION: &str = )"([^"]+)"', source)[1]
         same(ended(self.program, "--version"), f"cityed {number}\n", "the version")
-        return len(wanted) + 5
+        return len(wanted) + 5 + 4 * len(further)
 
     # The man page
 
@@ -161,7 +169,7 @@ class Trial:
         return sum(self.shows(help, generated(help, self.room / name) / name) for help, name in shown)
 
     def shows(self, help, page):
-        text, shown = help.read_text(encoding="utf-8"), " ".join(self.rendered(page).split())
+        text, shown = "\n".join(texts_of(help)), " ".join(self.rendered(page).split())
         parts = [" ".join(it.split()) for it in re.split(r"\n| {2,}", text)]
         parts = [it for it in parts if it and not re.fullmatch(r"(Arguments|Options|Other|Status):", it)]
         for part in parts:
@@ -178,10 +186,10 @@ class Trial:
 
     def completions(self):
         """What the shells offer and complete, by the completions of two help texts."""
-        text, made = HELP.read_text(encoding="utf-8"), generated(HELP, self.room / "made")
+        made = generated(HELP, self.room / "made")
         other = generated(OTHER, self.room / "made")
         places = lambda name: {"bash": made / f"{name}.bash", "zsh": other, "fish": made / f"{name}.fish"}
-        count = self.offers(places("cityed"), offered(text), COMPLETED)
+        count = self.offers(places("cityed"), offered("\n".join(texts_of(HELP))), COMPLETED)
         return count + self.offers(places("towner"), OTHER_OFFERED, {})
 
     def offers(self, places, offered, completed):
@@ -378,7 +386,7 @@ def usage(text):
 
 def offered(text):
     """What is offered for some lines, by the lines of Usage of a help text."""
-    every = options_of(text)
+    every = set(options_of(text))
     forms = [set(re.findall(r"--[\w-]+", form)) for form in usage(text).split("\n")]
     beside = lambda *words: sorted(set().union(*(it for it in forms if it >= set(words))) - set(words))
     return {
