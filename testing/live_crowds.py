@@ -29,7 +29,7 @@ def crowd(program, folder, _given):
         return answers
 
     began = asked([{"hand": hand, "id": 1, "begin": "t"} for hand in hands])
-    require(all("began" in it for it in began), "a hand that may begin", next((it for it in began if "began" not in it), 0))
+    require(all("began" in it for it in began), "a hand that may begin", began[-1])
     for request in ({"begin": "t"}, {"watch": True}, {"script": script("s", {"read": "a"})}):
         for hand in ("more", "much more"):
             answer = live.ask(hand=hand, **request)
@@ -58,7 +58,7 @@ def byes(program, folder):
     live.ask(hand="first", do=set_to("a", -1))
     live.send(*({"hand": f"h{n}", "id": n, "script": script("s", set_to("a", n))} for n in range(count)))
     waits = [live.read() for _ in range(count)]
-    require(all("waits" in it for it in waits), "a wait", next((it for it in waits if "waits" not in it), 0))
+    require(all(it and "waits" in it for it in waits), "a wait", waits[-1], live.told())
     live.send(*({"hand": f"h{n}", "id": "bye", "bye": True} for n in range(0, count, 2)))
     for number in range(0, count, 2):
         cancelled, ended, bye = live.read(), live.read(), live.read()
@@ -115,11 +115,12 @@ def never_reads(program, folder, _given):
         before = live.memory("VmHWM")
         sent = filled(live, line, 4_000_000)
         most = live.memory("VmHWM")
-        require(most - before <= MOST_GROWTH, kind, f"{most - before:.0f} MiB more for {sent} bytes that nobody answers")
+        require(most - before <= MOST_GROWTH, kind, f"{most - before:.0f} MiB more for {sent} bytes")
         require(live.process.poll() is None, kind, "ended")
         rest = (-sent) % len(line)
         wanted = (sent + rest) // len(line)
-        feeder = threading.Thread(target=lambda: live.send_bytes(line[len(line) - rest :] + line_of({"hand": "end", "look": "no"})))
+        last = line[len(line) - rest :] + line_of({"hand": "end", "look": "no"})
+        feeder = threading.Thread(target=live.send_bytes, args=(last,))
         feeder.start()
         count = 0
         for text in live.process.stdout:

@@ -129,8 +129,8 @@ def replay(program, folder, given):
         live.kill()
         if min(times) <= MOST_REPLAY:
             break
-    load = os.getloadavg()[0]
-    told = f"{count} commits made in {made:.1f} s, replayed in {min(times):.1f} s ({processor:.1f} s of processor, load {load:.1f})"
+    how = f"{processor:.1f} s of processor, load {os.getloadavg()[0]:.1f}"
+    told = f"{count} commits made in {made:.1f} s, replayed in {min(times):.1f} s ({how})"
     if min(times) > MOST_REPLAY and processor > MOST_REPLAY:
         raise Wrong(told)
     return told

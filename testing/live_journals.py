@@ -25,10 +25,12 @@ def lived(program, folder):
             live.ask(hand="t", do={"read": "o"})
             require("refused" in live.ask(hand="t", do={"delete": "nothing"}), "no refusal")
             live.ask(hand="t", do=set_to("o", number))
-            live.ask(hand="t", do={"add": f"é\"{number}", "object": {"type": "Road", "attributes": {"t": "ä\n"}}})
+            new = {"add": f"é\"{number}", "object": {"type": "Road", "attributes": {"t": "ä\n"}}}
+            live.ask(hand="t", do=new)
             live.ask(hand="t", commit=True, key="kept")
         else:
-            live.commit("h", f"s{number}", set_to("o", number), {"add": f"n{number}", "object": {"type": "LandUse"}}, key=f"k{number}")
+            new = {"add": f"n{number}", "object": {"type": "LandUse"}}
+            live.commit("h", f"s{number}", set_to("o", number), new, key=f"k{number}")
         objects, version = live.model()
         require(version == number, "version", number, version, live.told())
         models[number] = objects
@@ -37,16 +39,17 @@ def lived(program, folder):
 
 
 def starts_as(program, home, models, version, is_cut, *told):
-    """A start finds this version, and goes on; then a start finds that one. Whether it tells of a cut, if it is known."""
+    """A start finds this version, goes on, and then a start finds that one. `is_cut`: whether a cut is told."""
     live = ready(program, *home.words())
     require(live.first["version"] == version, *told, "version", live.first, "wanted", version, live.told())
     require(live.model() == (models[version], version), *told, "another model", live.model())
-    if is_cut is not None:
-        require(("cut" in live.told() or "dropped" in live.told()) == is_cut, *told, "is a cut told", live.told())
-    require(live.commit("x", "on", set_to("b", -1)).get("version") == version + 1, *told, "it doesn't go on", live.told())
+    require(("last line was cut" in live.told()) == is_cut, *told, "is a cut told", live.told())
+    ended = live.commit("x", "on", set_to("b", -1))
+    require(ended.get("version") == version + 1, *told, "it doesn't go on", ended, live.told())
     live.kill()
     live = ready(program, *home.words())
-    require(live.first["version"] == version + 1 and live.told() == "", *told, "the start after", live.first, live.told())
+    right = live.first["version"] == version + 1 and live.told() == ""
+    require(right, *told, "the start after", live.first, live.told())
     objects, _ = live.model()
     require(objects["b"]["attributes"]["n"] == -1, *told, "the commit after", objects)
     live.kill()
@@ -119,7 +122,7 @@ def digests(text):
 
 
 def others(program, folder, _given):
-    """A journal of another model or of other numbers, and one that isn't one, are refused; FILE may be another than MODEL."""
+    """A journal of another model or of other numbers, or no journal, is refused; FILE may be another than MODEL."""
     home, models = lived(program, folder)
     other = home.copy(folder)
     other.write("city.json", city({**OBJECTS, "more": {"type": "Road"}}))
@@ -153,19 +156,20 @@ def elsewhere(program, folder, _models):
         version = 0
         for turn in range(6):
             live = ready(program, *words)
-            require(live.first["version"] == version, "FILE elsewhere", existing, turn, live.first, version, live.told())
+            told = ("FILE elsewhere", existing, turn)
+            require(live.first["version"] == version, *told, live.first, version, live.told())
             ended = live.commit("h", "s", {"add": f"n{turn}", "object": {"type": "LandUse"}})
             version += 1
-            require(ended.get("version") == version, "FILE elsewhere", existing, turn, ended)
+            require(ended.get("version") == version, *told, ended)
             names = {*OBJECTS, *(f"n{number}" for number in range(version))}
-            require(set(live.model()[0]) == names, "FILE elsewhere", existing, turn, live.model())
+            require(set(live.model()[0]) == names, *told, live.model())
             if turn % 3 == 1:
                 require(live.ask(hand="s", save=True).get("saved") == version, "a save", live.told())
             if turn == 3:
                 require(live.end()[0] == 0, "the end", live.told())
             else:
                 live.kill()
-            require(home.read("city.json") == home.base, "MODEL was changed", existing, turn)
+            require(home.read("city.json") == home.base, *told, "MODEL was changed")
             count += 1
     return count
 
@@ -217,13 +221,14 @@ def keys(program, folder, _given):
         home = Home(folder, OBJECTS)
         live = ready(program, *home.words())
         require(live.ask(hand="h", made="k").get("made", 0) is None, "made before")
-        request = {"hand": "h", "key": "k", "script": script("s", set_to("o", 1), {"add": "n", "object": {"type": "Road"}})}
+        new = {"add": "n", "object": {"type": "Road"}}
+        request = {"hand": "h", "key": "k", "script": script("s", set_to("o", 1), new)}
         if turn < 2:
             live.send(request)
             while live.read().get("ended") is None:
                 pass
         else:
-            for step in ({"begin": "s"}, {"do": set_to("o", 1)}, {"do": {"add": "n", "object": {"type": "Road"}}}):
+            for step in ({"begin": "s"}, {"do": set_to("o", 1)}, {"do": new}):
                 live.ask(hand="h", **step)
             live.ask(hand="h", commit=True, key="k")
         for behind in ("at once", "from another hand", "behind a start", "behind another"):

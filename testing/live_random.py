@@ -85,7 +85,8 @@ def words_of(answer, changes):
     if what == "ended":
         outcome = told["outcome"] if told["outcome"] != "refused" else refused(told)
         replies = [print_tree(reply) for reply in told.get("replies", [])]
-        return " ".join([hand, told["name"], outcome, "since", str(told["since"]), "version", str(told["version"]), *replies])
+        since, version = str(told["since"]), str(told["version"])
+        return " ".join([hand, told["name"], outcome, "since", since, "version", version, *replies])
     if what == "refused":
         return f"{hand} {refused(told)}"
     if what in ("look", "model"):
@@ -116,7 +117,7 @@ def play(program, folder, run, decimals):
     spelt = with_decimals if decimals else bytes
     home.base = spelt(DOCUMENT.encode())
     home.write("city.json", home.base)
-    options = ["--decimals"] * decimals
+    options, told = ["--decimals"] * decimals, (f"seed {run.seed}", "decimals" if decimals else "whole numbers")
     requests = [line for line in run.requests]
     if choose.random() < 0.5:
         place = choose.randrange(len(requests))
@@ -130,18 +131,18 @@ def play(program, folder, run, decimals):
     try:
         found = [words_of(answer, run.engine.changes) for answer in answers]
     except (KeyError, ValueError, TypeError) as error:
-        raise Wrong(f"seed {run.seed}", "an answer of another form", error) from None
+        raise Wrong(*told, "an answer of another form", error, ran.stdout[:500], ran.stderr) from None
     for number, (line, wanted) in enumerate(zip(found, run.answers)):
-        require(line == wanted, f"seed {run.seed}, decimals {decimals}, answer {number}", line, "wanted", wanted)
-    require(len(found) == len(run.answers), f"seed {run.seed}", len(found), len(run.answers), found[-1:], run.answers[-1:])
-    require((ran.returncode, ran.stderr) == (0, b""), f"seed {run.seed}", ran.returncode, ran.stderr)
+        require(line == wanted, *told, f"answer {number}", line, "wanted", wanted)
+    require(len(found) == len(run.answers), *told, len(found), len(run.answers), found[-1:], run.answers[-1:])
+    require((ran.returncode, ran.stderr) == (0, b""), *told, ran.returncode, ran.stderr)
     saved = home.read("city.json")
     model = city_text(run.engine.frame, run.engine.city).encode() + b"\n"
-    require((without_decimals(saved) if decimals else saved) == model, f"seed {run.seed}, the saved model", saved, model)
+    require((without_decimals(saved) if decimals else saved) == model, *told, "the saved model", saved, model)
     scripts = scripts_in(home)
-    require(len(scripts) == run.engine.version, f"seed {run.seed}, commits of the journal", len(scripts))
+    require(len(scripts) == run.engine.version, *told, "commits of the journal", len(scripts))
     made = replayed(program, folder, home.base, scripts, *options)
-    require(made == saved, f"seed {run.seed}, the journal's scripts make another model", made, saved)
+    require(made == saved, *told, "the journal's scripts make another model", made, saved)
 
 
 def random_runs(program, folder, given):

@@ -28,7 +28,7 @@ def by_script(live, number):
 
 
 def by_transaction(live, number):
-    """Commands one by one, and a commit; one that can't be written leaves the transaction open, and may be tried again."""
+    """Commands one by one, and a commit: one that can't be written leaves the transaction open, and is tried again."""
     for request in [{"begin": "t"}, *({"do": command} for command in edit(number))]:
         answer = live.ask(hand="b", **request)
         if answer is None:
@@ -152,7 +152,7 @@ KINDS = [("REFUSE_STEP", "", {}), ("REFUSE_STEP", "-", {}), ("KILL_STEP", "", {}
 
 
 def steps(program, folder, given):
-    """Each step on a file is refused in turn, that one and all later ones, by bytes; and the program is killed before it."""
+    """Each step on a file is refused in turn, that one and all later ones, by bytes; and killed before it."""
     refusing, counts = Refusing(program, folder), collections.Counter()
     first_life = Home(folder, OBJECTS)
     live = ready(program, *first_life.words())
@@ -164,8 +164,8 @@ def steps(program, folder, given):
             for begin in itertools.count(1, stride * CREW * 4):
                 numbers = range(begin, begin + stride * CREW * 4, stride)
                 found = pool.map(lambda number: try_step(refusing, program, folder, kind, number, start), numbers)
-                came = [it for it in found]
-                counts.update(f"{kind[0].split('_')[0].lower()}{kind[1]}{' bytes' if kind[2] else ''} {it}" for it in came if it)
+                came, name = list(found), f"{kind[0].lower()}{kind[1]}{' bytes' if kind[2] else ''}"
+                counts.update(f"{name} {it}" for it in came if it)
                 if None in came:
                     break
     return ", ".join(f"{count} {name}" for name, count in counts.items())
@@ -206,8 +206,8 @@ def full(program, folder, _given):
     """A small disk fills up under a live run, and is freed again."""
     disk = os.path.join(folder, "disk")
     os.mkdir(disk)
-    mounted = subprocess.run(["mount", "-t", "tmpfs", "-o", "size=128k", "none", disk], capture_output=True, check=False)
-    if mounted.returncode:
+    mount = ["mount", "-t", "tmpfs", "-o", "size=128k", "none", disk]
+    if subprocess.run(mount, capture_output=True, check=False).returncode:
         return "not tried, since nothing can be mounted here"
     try:
         return fill(program, disk)

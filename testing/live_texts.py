@@ -35,7 +35,7 @@ SAMPLES = [
 
 
 def changed_lines():
-    """The samples cut, with bytes removed and replaced, and with members removed, renamed, repeated and arranged anew."""
+    """The samples cut, with bytes removed and replaced, and members removed, renamed, repeated and arranged anew."""
     for sample in SAMPLES:
         line = json.dumps(sample, separators=(",", ":")).encode()
         for at in range(len(line)):
