@@ -25,10 +25,10 @@ from live_journals import changes, cuts, keys, locks, others, saves
 from live_kills import chain, kills
 from live_process import Wrong
 from live_random import random_runs
-from live_refused import full, limits, steps
+from live_refused import full, limits, order, steps
 from live_texts import garbage, long_lines, pieces
 
-KINDS = (kills, chain, steps, limits, full, cuts, changes, others, saves, keys, locks)
+KINDS = (kills, chain, steps, order, limits, full, cuts, changes, others, saves, keys, locks)
 KINDS += (garbage, pieces, long_lines, crowd, never_reads, random_runs, growth, replay)
 FULL = {"kills": 500, "runs": 500, "stride": 1}
 QUICK = {"kills": 40, "runs": 60, "stride": 11}

@@ -1,12 +1,11 @@
 """How the time of a live run grows with its lines, and how long a start takes behind many commits."""
 
-import json
 import os
 import subprocess
 import threading
 import time
 
-from live_process import SECONDS, Home, Live, Wrong, line_of, ready, require, script, set_to
+from live_process import SECONDS, Home, Wrong, line_of, ready, require, script, set_to
 
 MOST_GROWTH = 4.5  # for four times the lines, so many times the processor time at most
 LEAST_SECONDS = 0.03  # less than that the clock can't tell

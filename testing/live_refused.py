@@ -4,12 +4,14 @@ disk is full."""
 import collections
 import itertools
 import os
+import re
 import resource
+import shutil
 import signal
 import subprocess
 from concurrent.futures import ThreadPoolExecutor
 
-from live_process import Home, Live, Wrong, scripts_in, ready, replayed, require, script, set_to
+from live_process import SECONDS, Home, Live, line_of, ready, replayed, require, script, scripts_in, set_to
 from refusals import Refused
 
 OBJECTS = {name: {"type": "LandUse"} for name in ("o0", "o1")}
@@ -241,3 +243,31 @@ def fill(program, disk):
     live.kill()
     judge(program, home, told, set(), (home.root, "full disk"))
     return f"{number - 2} commits until it is full"
+
+
+def order(program, folder, _given):
+    """No answer to a commit is written before a sync behind the line of the commit, as strace sees it."""
+    if shutil.which("strace") is None:
+        return "not tried, since there is no strace"
+    home, trace = Home(folder, OBJECTS), os.path.join(folder, "trace")
+    requests = [{"hand": f"h{n % 8}", "script": script("s", set_to(f"o{n % 2}", n))} for n in range(4_000)]
+    for place in (3_000, 1_000, 0):
+        requests.insert(place, {"hand": "s", "save": True})
+    words = ["strace", "-e", "trace=write,fdatasync,fsync", "-s", "4000000", "-o", trace, program, "--live", *home.words()]
+    text = b"".join(map(line_of, requests))
+    ran = subprocess.run(words, input=text, capture_output=True, timeout=SECONDS, check=False)
+    if ran.returncode and not ran.stdout:
+        return "not tried, since strace may not trace here"
+    require(ran.stdout.count(b'"committed"') == 4_000, "commits", ran.stdout[-300:], ran.stderr)
+    noted = synced = syncs = 0
+    with open(trace, encoding="utf-8", errors="replace") as file:
+        for line in file:
+            if line.startswith(("fdatasync(", "fsync(")) and line.rstrip().endswith("= 0"):
+                synced, syncs = noted, syncs + 1
+            elif line.startswith("write(1, "):
+                told = max(map(int, re.findall(r'\\"committed\\".*?\\"version\\":(\d+)', line)), default=0)
+                require(told <= synced, "told before it is synced", f"told {told}, synced {synced}")
+            elif r'\"script\":' in line:
+                noted = max([noted, *map(int, re.findall(r'\\"version\\":(\d+)\}\\n', line))])
+    require(synced == 4_000, "versions that were synced", synced)
+    return f"4000 commits, {syncs} syncs"
