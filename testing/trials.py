@@ -40,6 +40,7 @@ TRIALS = {
     "two_runs": ["two_runs.py", CITYED],
     "output_files": ["output_files.py", CITYED],
     "live_runs": ["live_runs.py", CITYED, SCENARIOS],
+    "live": ["live.py", CITYED, "--quick"],
     "counted_calls": ["counted_calls.py", CITYED, SCENARIOS],
     "refused_calls": ["refused_calls.py", CITYED],
     "decimals": ["decimals.py", CITYED],
