@@ -212,7 +212,8 @@ class End:
     began."""
 
     def __init__(self, tree, replies=()):
-        self.name, self.outcome, self.since, self.version = (tree.get(k) for k in ("name", "outcome", "since", "version"))
+        self.name, self.outcome = tree.get("name"), tree.get("outcome")
+        self.since, self.version = tree.get("since"), tree.get("version")
         self.replies = tree.get("replies", list(replies))
 
     def __repr__(self):
@@ -234,7 +235,7 @@ class Change:
 
 
 class _Link:
-    """Lines to an engine or a gateway, and a thread that reads the answers. A gateway is joined again where it was lost."""
+    """Lines to an engine or a gateway, and a thread that reads the answers. A lost gateway is joined again."""
 
     def __init__(self, source, program, options):
         self.path = str(source)[5:] if str(source).startswith("unix:") else None
@@ -247,11 +248,16 @@ class _Link:
         else:
             words = shlex.split(program) if isinstance(program, str) else list(program)
             self.start([*words, *options, os.fspath(source)])
-        self.first = self.ready.result()
+        try:
+            self.first = self.ready.result()
+        except Closed:
+            self.close(False)
+            raise
 
     def start(self, words):
         try:
-            self.process = subprocess.Popen(words, stdin=subprocess.PIPE, stdout=subprocess.PIPE, stderr=subprocess.PIPE)
+            pipe = subprocess.PIPE
+            self.process = subprocess.Popen(words, stdin=pipe, stdout=pipe, stderr=pipe)
         except OSError as error:
             raise Closed("%s can't be started: %s" % (words[0], error.strerror)) from error
         self.teller = threading.Thread(target=self.tell, name="cityed", daemon=True)
@@ -485,7 +491,8 @@ class _Transaction(_Commands):
                 return answer
             if {k: answer.get(k) for k in told} != told:
                 await self._leave()
-                raise Stale("%s has changed since it was read" % next(v for k, v in before["do"].items() if k != "parent"))
+                about = next(v for k, v in before["do"].items() if k != "parent")
+                raise Stale("%s has changed since it was read" % about)
         return self._good(await self._ask(line))
 
     async def _commit(self):
@@ -563,7 +570,8 @@ class _Edit(_Commands):
     async def _exit(self, error):
         if error is None and self.commands:
             expects = [{"expect": id, "attributes": values} for id, values in self.expected.items()]
-            self.end = await self.city._script(self.name, [*expects, *self.commands, "commit"], self.vertices, self.hand)
+            commands = [*expects, *self.commands, "commit"]
+            self.end = await self.city._script(self.name, commands, self.vertices, self.hand)
         return False
 
 
@@ -602,7 +610,7 @@ class _Verbs:
         return self._verb(_delete, (id,), hand)
 
     def raise_top(self, id, above, by, *, hand=None):
-        """Moves the points of an object that lie above a height, and of its parts, up by so many metres; gives how many."""
+        """Moves the points of an object, and of its parts, that lie above a height up by so many metres; gives how many."""
         return self._verb(_raise_top, (id, above, by), hand)
 
     def move(self, id, x=0, y=0, z=0, *, hand=None):
@@ -632,7 +640,7 @@ class _Verbs:
         return self._verb(_merge, (path,), hand)
 
     def flag(self, picks, attributes, *, hand=None):
-        """Sets attributes of each object that `picks` says yes to; gives their ids. It is asked again of each under a lock."""
+        """Sets attributes of each object that `picks` says yes to, and says it again under a lock; gives their ids."""
         return self._verb(_flag, (picks, attributes), hand)
 
     def set(self, id, attributes=None, /, *, hand=None, **more):
@@ -649,7 +657,8 @@ async def _verb(city, hand, name, function):
     try:
         return await city._run(function, hand, name, None, 100)
     except Refused as error:
-        raise NotDone(SENTENCES.get(error.cause, "{cause}: {id}").format(cause=error.cause, id=error.id, mark=error.mark)) from error
+        sentence = SENTENCES.get(error.cause, "{cause}: {id}")
+        raise NotDone(sentence.format(cause=error.cause, id=error.id)) from error
 
 
 SENTENCES = {
@@ -657,7 +666,8 @@ SENTENCES = {
     "WrongFamily": "These two can't be parent and part: their types don't go together.",
     "HasChildren": "{id} has parts.", "Orphan": "{id} would be a part of nothing.",
     "OpenShell": "A shell of the solid would be open.", "ShortRing": "A ring would be too short.",
-    "SameTwice": "Two neighbours in a ring would be equal.", "BadAttributes": "The attributes of {id} aren't an object.",
+    "SameTwice": "Two neighbours in a ring would be equal.",
+    "BadAttributes": "The attributes of {id} aren't an object.",
     "Unexpected": "{id} has been changed meanwhile.", "AlreadyAttached": "It is a part of it already.",
     "NotAttached": "It isn't a part of it.", "TypeFixed": "{id} has another type.",
 }
@@ -756,8 +766,8 @@ class _Grid:
     """Positions and metres of a model, without rounding."""
 
     def __init__(self, frame):
-        exact = {name: [Fraction(getattr(n, "text", str(n))) for n in frame["transform"][name]] for name in ("scale", "translate")}
-        self.scale, self.translate = exact["scale"], exact["translate"]
+        transform = frame["transform"]
+        self.scale, self.translate = ([_exact(n) for n in transform[name]] for name in ("scale", "translate"))
 
     def metres(self, vertex):
         return [n * s + t for n, s, t in zip(vertex, self.scale, self.translate)]
@@ -864,7 +874,8 @@ class _File:
         self.into, self.frame = _Grid(frame), frame
         here, there = (_reference_system(it) for it in (frame, self.model))
         if here and there and here != there:
-            raise NotDone("%s is in the reference system %s, and the model in %s: transform one of them first." % (path, there, here))
+            raise NotDone("%s is in the reference system %s, and the model in %s: transform one of them first."
+                          % (path, there, here))
         if not (here and there):
             self.notes.append("One of the files names no reference system; the coordinates are taken as they are.")
 
@@ -888,11 +899,12 @@ class _File:
 
         body = {name: it for name, it in self.objects[id].items() if name not in ("parents", "children")}
         if "geometry" in body:
-            body["geometry"] = [self.shape(id, {**shape, "boundaries": replaced(shape["boundaries"])}) for shape in body["geometry"]]
+            shapes = [{**shape, "boundaries": replaced(shape["boundaries"])} for shape in body["geometry"]]
+            body["geometry"] = [self.shape(id, shape) for shape in shapes]
         return body, list(numbers)
 
     def shape(self, id, shape):
-        """A geometry whose materials are numbered as in this model; those that it doesn't have, and textures, stay behind."""
+        """A geometry with materials as this model numbers them; those that it doesn't have, and textures, stay behind."""
         theirs, ours = (it.get("appearance", {}) for it in (self.model, self.frame))
         if theirs == ours:
             return shape
@@ -901,7 +913,8 @@ class _File:
         kept = {}
         for theme, of in shape.get("material", {}).items():
             try:
-                kept[theme] = {name: _numbered(it, theirs["materials"], ours.get("materials", [])) for name, it in of.items()}
+                mine = ours.get("materials", [])
+                kept[theme] = {name: _numbered(it, theirs["materials"], mine) for name, it in of.items()}
             except (ValueError, LookupError, TypeError):
                 self.note("materials of the theme " + theme, id)
         rest = {name: it for name, it in shape.items() if name not in ("material", "texture")}
@@ -942,7 +955,7 @@ async def _copy(city, hand, path, id, new):
     ids = file.family(id)
     names = {one: one for one in ids}
     if new is not None:  # parts are named after what they are parts of
-        names = {one: new if one == id else new + one[len(id):] if one.startswith(id) else "%s %s" % (new, one) for one in ids}
+        names = {one: new + one[len(id):] if one.startswith(id) else "%s %s" % (new, one) for one in ids}
 
     async def done(t):
         await _add(t, file, ids, names)
@@ -985,7 +998,9 @@ def _document(frame, family):
     numbers, objects = {}, {}
     for id, it in family.items():
         def replaced(item):
-            return [replaced(one) for one in item] if isinstance(item, list) else numbers.setdefault(it.vertices[item], len(numbers))
+            if isinstance(item, list):
+                return [replaced(one) for one in item]
+            return numbers.setdefault(it.vertices[item], len(numbers))
         body = dict(it.object)
         for list_ in ("parents", "children"):
             kept = [one for one in body.pop(list_, []) if one in family]
@@ -993,8 +1008,10 @@ def _document(frame, family):
         if "geometry" in body:
             body["geometry"] = [{**shape, "boundaries": replaced(shape["boundaries"])} for shape in body["geometry"]]
         objects[id] = body
-    metadata = {name: it for name, it in frame.get("metadata", {}).items() if name != "geographicalExtent"}
-    return {**frame, **({"metadata": metadata} if metadata else {}), "CityObjects": objects, "vertices": [list(v) for v in numbers]}
+    head = dict(frame)
+    if "metadata" in head:
+        head["metadata"] = {name: it for name, it in head["metadata"].items() if name != "geographicalExtent"}
+    return {**head, "CityObjects": objects, "vertices": [list(v) for v in numbers]}
 
 
 def _write_new(path, tree):
@@ -1071,11 +1088,12 @@ async def _flag(city, hand, picks, attributes):
 
 
 class _City:
-    def __init__(self, source, *, program=None, decimals=True, output=None, journal=None, hand=None, save=True, on_wait=None):
+    def __init__(self, source, *, program=None, decimals=True, output=None, journal=None, hand=None, save=True,
+                 on_wait=None):
         """`source` is a model's file, for which an engine is started, or `unix:PATH` of a gateway. An engine that was
         started saves to `output` at the end, unless its block ends by an error; `output` is `source` unless another is
-        named, and none where `save` is False. `hand` is who is told to have done a change. `on_wait(id, hands)` is called,
-        in the thread that reads, whenever a command has to wait. `program` is how an engine is started, such as
+        named, and none where `save` is False. `hand` is who is told to have done a change. `on_wait(id, hands)` is
+        called, in the thread that reads, whenever a command has to wait. `program` is how an engine is started, such as
         ["cityed", "--live"]; `decimals`: numbers may have fractions."""
         output = output or (source if save else None)
         self._source, self._program = source, program or os.environ.get("CITYED_LIVE", "cityed --live")
@@ -1389,7 +1407,7 @@ class AsyncWatch(_Watch):
 
 
 class AsyncCity(_City, _Verbs):
-    """The same for asyncio: `async with AsyncCity(..) as city`, `async with city.transaction() as t`, `await t.read(..)`."""
+    """The same for asyncio: `async with AsyncCity(..) as city`, `async with city.transaction() as t`, `await ..`."""
 
     async def __aenter__(self):
         return await asyncio.to_thread(self._open)
@@ -1453,7 +1471,7 @@ class AsyncCity(_City, _Verbs):
 
 USAGE = """usage: python3 -m cityed [--program WORDS] [--hand NAME] [--whole] MODEL VERB ..
 
-MODEL is a file, for which a program is started, or unix:PATH of a gateway. Each verb is a transaction of its own, in turn:
+MODEL is a file, for which a program is started, or unix:PATH of a gateway. Each verb is a transaction of its own:
 
   set ID NAME=VALUE ..       unset ID NAME ..           a VALUE is JSON, else it is taken as a text
   delete ID ..               with all parts
@@ -1464,15 +1482,15 @@ MODEL is a file, for which a program is started, or unix:PATH of a gateway. Each
   copy FILE ID               copy-as FILE ID NEW        with all parts, from another file
   merge FILE                 all objects of another file
   extract ID FILE            take-out ID FILE           into a file of its own; take-out deletes it here
-  flag NAME=VALUE where ..   of all objects with type=TYPE, NAME=VALUE, NAME!=VALUE, NAME<VALUE, NAME>VALUE, NAME? (there is one)
+  flag NAME=VALUE where ..   of all objects with type=TYPE, NAME=VALUE, NAME!=VALUE, NAME<VALUE, NAME>VALUE, NAME?
   look ID ..                 ids                        prints objects, or ids with types
   save                       save-as FILE               the model is written; without it nothing is
 
-A word that begins with : is taken without it, so :set is an id. --whole: numbers are whole alone. If a verb can't be done
-a sentence says why, nothing is saved, and the status is 1."""
+A word that begins with : is taken without it, so :set is an id. NAME? means that there is one. --whole: numbers are whole
+alone. If a verb can't be done a sentence says why, nothing is saved, and the status is 1."""
 
-LEAST = {"set": 2, "unset": 2, "delete": 1, "rename": 2, "retype": 2, "move": 4, "raise": 3, "split": 3, "copy": 2, "copy-as": 3, "merge": 1,
-         "extract": 2, "take-out": 2, "flag": 3, "look": 1, "ids": 0, "save": 0, "save-as": 1}
+LEAST = {"set": 2, "unset": 2, "delete": 1, "rename": 2, "retype": 2, "move": 4, "raise": 3, "split": 3, "copy": 2,
+         "copy-as": 3, "merge": 1, "extract": 2, "take-out": 2, "flag": 3, "look": 1, "ids": 0, "save": 0, "save-as": 1}
 MOST = {verb: least for verb, least in LEAST.items() if verb not in ("set", "unset", "delete", "split", "flag", "look")}
 
 
@@ -1512,6 +1530,10 @@ def _pairs(words):
     return {name: _value(value) for name, _, value in (word.partition("=") for word in words)}
 
 
+def _is_number(it):
+    return isinstance(it, (int, float)) and not isinstance(it, bool)
+
+
 def _condition(word):
     """A predicate of one condition."""
     if word.endswith("?"):
@@ -1529,8 +1551,8 @@ def _condition(word):
         else:
             mine = it[name]
         if sign in "<>":
-            both = isinstance(mine, type(value)) if isinstance(value, str) else not isinstance(mine, (str, list, dict, bool, type(None)))
-            return both and (mine < value if sign == "<" else mine > value)
+            texts = isinstance(mine, str) and isinstance(value, str)
+            return (texts or _is_number(mine) and _is_number(value)) and (mine < value if sign == "<" else mine > value)
         return (mine == value and isinstance(mine, bool) == isinstance(value, bool)) == (sign == "=")
     return holds
 
@@ -1573,8 +1595,8 @@ def _do_verb(city, verb, given):
     elif verb in ("copy", "copy-as", "merge"):
         notes = (city.merge if verb == "merge" else city.copy)(*given)
     else:
-        {"rename": city.rename, "retype": city.retype, "move": city.move, "raise": city.raise_top, "extract": city.extract,
-         "take-out": city.take_out}[verb](*given)
+        name = {"raise": "raise_top", "take-out": "take_out"}.get(verb, verb)  # rename, retype, move and extract as they are
+        getattr(city, name)(*given)
     for note in notes:
         print("cityed: %s: %s" % (verb, note), file=sys.stderr)
 
@@ -1620,7 +1642,8 @@ def main(words=None):
     verb = "start"
     try:
         saves = any(verb in ("save", "save-as") for verb, *_ in chain)
-        with City(model, program=given.program, decimals=not given.whole, output=output, hand=given.hand, save=saves) as city:
+        options = {"program": given.program, "decimals": not given.whole, "output": output, "hand": given.hand, "save": saves}
+        with City(model, **options) as city:
             for verb, *rest in chain:
                 _do_verb(city, verb, rest)
     except (CityedError, ValueError, OSError) as error:
