@@ -610,7 +610,7 @@ class _Verbs:
         return self._verb(_delete, (id,), hand)
 
     def raise_top(self, id, above, by, *, hand=None):
-        """Moves the points of an object, and of its parts, that lie above a height up by so many metres; gives how many."""
+        """Moves the points of an object and its parts that lie above a height up by so many metres; gives how many."""
         return self._verb(_raise_top, (id, above, by), hand)
 
     def move(self, id, x=0, y=0, z=0, *, hand=None):
@@ -904,7 +904,7 @@ class _File:
         return body, list(numbers)
 
     def shape(self, id, shape):
-        """A geometry with materials as this model numbers them; those that it doesn't have, and textures, stay behind."""
+        """A geometry with materials as this model numbers them; others, and textures, stay behind."""
         theirs, ours = (it.get("appearance", {}) for it in (self.model, self.frame))
         if theirs == ours:
             return shape
@@ -1486,8 +1486,8 @@ MODEL is a file, for which a program is started, or unix:PATH of a gateway. Each
   look ID ..                 ids                        prints objects, or ids with types
   save                       save-as FILE               the model is written; without it nothing is
 
-A word that begins with : is taken without it, so :set is an id. NAME? means that there is one. --whole: numbers are whole
-alone. If a verb can't be done a sentence says why, nothing is saved, and the status is 1."""
+A word that begins with : is taken without it, so :set is an id. NAME? means that there is one. --whole: numbers are
+whole alone. If a verb can't be done a sentence says why, nothing is saved, and the status is 1."""
 
 LEAST = {"set": 2, "unset": 2, "delete": 1, "rename": 2, "retype": 2, "move": 4, "raise": 3, "split": 3, "copy": 2,
          "copy-as": 3, "merge": 1, "extract": 2, "take-out": 2, "flag": 3, "look": 1, "ids": 0, "save": 0, "save-as": 1}
@@ -1595,8 +1595,7 @@ def _do_verb(city, verb, given):
     elif verb in ("copy", "copy-as", "merge"):
         notes = (city.merge if verb == "merge" else city.copy)(*given)
     else:
-        name = {"raise": "raise_top", "take-out": "take_out"}.get(verb, verb)  # rename, retype, move and extract as they are
-        getattr(city, name)(*given)
+        getattr(city, {"raise": "raise_top", "take-out": "take_out"}.get(verb, verb))(*given)
     for note in notes:
         print("cityed: %s: %s" % (verb, note), file=sys.stderr)
 
@@ -1642,8 +1641,8 @@ def main(words=None):
     verb = "start"
     try:
         saves = any(verb in ("save", "save-as") for verb, *_ in chain)
-        options = {"program": given.program, "decimals": not given.whole, "output": output, "hand": given.hand, "save": saves}
-        with City(model, **options) as city:
+        options = {"program": given.program, "decimals": not given.whole, "hand": given.hand}
+        with City(model, output=output, save=saves, **options) as city:
             for verb, *rest in chain:
                 _do_verb(city, verb, rest)
     except (CityedError, ValueError, OSError) as error:

@@ -4,8 +4,8 @@
     python3 testing/live_client.py PROGRAM [--live WORDS] [--seed N] [--rounds N] [TEST ..]
 
 PROGRAM runs texts of scripts; WORDS start its live editing and are "PROGRAM --live" unless they are given. At random,
-several hands do verbs at once. All that they committed, in the order of versions, is then run again by the batch program as
-a text of scripts, and has to give the same model, byte for byte.
+several hands do verbs at once. All that they committed, in the order of versions, is then run again by the batch
+program as a text of scripts, and has to give the same model, byte for byte.
 """
 import argparse
 import asyncio
@@ -25,7 +25,8 @@ from pathlib import Path
 ROOT = Path(__file__).resolve().parent.parent
 sys.path.insert(0, str(ROOT / "live"))
 import cityed  # noqa: E402
-from cityed import AsyncCity, City, Closed, Conflict, NotDone, Number, Refused, Stale, WrongRequest, dumps, loads  # noqa: E402
+from cityed import AsyncCity, City, Closed, Conflict, NotDone, Number, Refused, Stale, WrongRequest  # noqa: E402
+from cityed import dumps, loads  # noqa: E402
 
 TILE = ROOT / "examples/tile.city.json"
 NEIGHBOUR = ROOT / "examples/neighbour.city.json"
@@ -47,7 +48,8 @@ class Base(unittest.TestCase):
 
 class Numbers(unittest.TestCase):
     def test_digits(self):
-        text = '{"a":0.250,"b":-0,"c":[1e3,1E+3,1e999,18446744073709551616,48.0,7],"d":{"e":true,"f":null,"g":"\\u00e9"}}'
+        text = ('{"a":0.250,"b":-0,"c":[1e3,1E+3,1e999,18446744073709551616,48.0,7],'
+                '"d":{"e":true,"f":null,"g":"\\u00e9"}}')
         self.assertEqual(dumps(loads(text)), text)
         n = loads("48.0")
         self.assertEqual((n + 1, n.exact, n == 48, isinstance(n, float)), (49.0, Decimal("48.0"), True, True))
@@ -114,8 +116,10 @@ class Transactions(Base):
             with ann, ben:
                 self.assertEqual(ben.read("lime")["height"], 9.2)
                 ann.set("garden", use="orchard")
-                threading.Timer(0.2, ann.commit).start()
+                timer = threading.Timer(0.2, ann.commit)
+                timer.start()
                 ben.set("garden", area=50)  # dies, waits for Ann, reads the lime again, goes on
+                timer.join()
                 self.assertEqual(ben.restarts, 1)
             self.assertEqual(dict(city.look("garden")), {"use": "orchard", "area": 50})
 
@@ -131,8 +135,12 @@ class Transactions(Base):
                         ann.set("lime", height=10)
                         ann.commit()
 
-                    threading.Timer(0.2, rest).start()
-                    ben.set("garden", area=50)
+                    timer = threading.Timer(0.2, rest)
+                    timer.start()
+                    try:
+                        ben.set("garden", area=50)
+                    finally:
+                        timer.join()
             self.assertEqual(ben.end.outcome, "aborted")
 
     def test_attempts(self):
@@ -169,7 +177,8 @@ class Transactions(Base):
             self.assertEqual(e.end.replies, ["expected", "set", "unset"])
             with self.assertRaises(Conflict) as caught, city.edit("ben") as e:
                 area = e.look("garden")["area"]
-                city.script("meanwhile", [{"set": "garden", "attributes": {"area": Number("48.00")}}, "commit"], hand="cid")
+                commands = [{"set": "garden", "attributes": {"area": Number("48.00")}}, "commit"]
+                city.script("meanwhile", commands, hand="cid")
                 e.set("garden", area=area + 1)
             self.assertEqual(caught.exception.id, "garden")
             with city.edit() as e:
@@ -268,7 +277,8 @@ class Verbs(Base):
             self.assertEqual((now.type, now.attributes), ("BuildingInstallation", shed.attributes))
             self.assertEqual(now.vertices, shed.vertices)
             city.split_off("one", "two", ["shed"])
-            self.assertEqual((city.look("two").children, city.look("two").attributes), (["shed"], city.look("one").attributes))
+            self.assertEqual(city.look("two").children, ["shed"])
+            self.assertEqual(city.look("two").attributes, city.look("one").attributes)
             self.assertEqual(city.delete("one"), ["one", "mill-lane-1-house"])
             self.assertEqual(set(city.ids()), {"two", "shed", "mill-lane-3", "garden", "lime"})
             for wrong, text in (((city.rename, "none", "x"), "There is no object none."),
@@ -318,7 +328,8 @@ class Verbs(Base):
                 city.copy(far, "mill-lane-7", "x")
             self.assertIn("EPSG:28992", str(caught.exception))
             model = city.model()
-            self.assertEqual(city.take_out("mill-lane-1", out), ["mill-lane-1", "mill-lane-1-house", "mill-lane-1-shed"])
+            gone = city.take_out("mill-lane-1", out)
+            self.assertEqual(gone, ["mill-lane-1", "mill-lane-1-house", "mill-lane-1-shed"])
             self.assertIsNone(city.look("mill-lane-1-shed"))
             with self.assertRaises(NotDone):
                 city.take_out("lime", out)  # the file is there
@@ -348,8 +359,9 @@ class Verbs(Base):
                                  stdout=subprocess.PIPE, stderr=subprocess.PIPE, text=True, timeout=60)
             return ran.returncode, ran.stdout, ran.stderr
         before = self.path.read_bytes()
-        self.assertEqual(line(self.path, "set", "mill-lane-3", "storeys=3", "roof=steep", "delete", "lime", "rename",
-                              "mill-lane-1", "set", "flag", "old=true", "where", "type=Building", "built<1950", "save-as", out)[0], 0)
+        chain = ["set", "mill-lane-3", "storeys=3", "roof=steep", "delete", "lime", "rename", "mill-lane-1", "set",
+                 "flag", "old=true", "where", "type=Building", "built<1950", "save-as", out]
+        self.assertEqual(line(self.path, *chain)[0], 0)
         self.assertEqual(self.path.read_bytes(), before)
         objects = loads(out.read_text())["CityObjects"]
         self.assertEqual(objects["mill-lane-3"]["attributes"]["roof"], "steep")
@@ -395,8 +407,8 @@ class Random(Base):
         try:
             with self.city(output=self.path.parent / "out") as city:
                 city.frame()
-                threads = [threading.Thread(target=self.hand, args=(city, "h%d" % k, random.Random("%d %d" % (seed, k)), done))
-                           for k in range(5)]
+                given = [(city, "h%d" % k, random.Random("%d %d" % (seed, k)), done) for k in range(5)]
+                threads = [threading.Thread(target=self.hand, args=it) for it in given]
                 for it in threads:
                     it.start()
                 for it in threads:
@@ -445,11 +457,11 @@ class Random(Base):
             ids = list(city.ids()) or ["none"]
             one, new = rng.choice(ids), "%s-%d" % (hand, n)
             verb, *given = rng.choice([
-                ("rename", one, new), ("rename", one, rng.choice(ids)), ("retype", one, rng.choice(["Building", "BuildingPart"])),
-                ("delete", one) if n % 3 else ("delete", "none"), ("raise_top", one, 0, 1), ("move", one, 1, "0.25", 0), ("move", one, -1, 0, "0.125"),
-                ("split_off", one, new, [rng.choice(ids)]), ("copy", NEIGHBOUR, "mill-lane-7", new), ("merge", NEIGHBOUR),
-                ("set", one, {"n": n}), ("unset", one, "n"), ("flag", lambda it: it.type == "Building", {"seen by": new}),
-                ("take_out", one, self.path.parent / new)])
+                ("rename", one, new), ("rename", one, rng.choice(ids)), ("delete", one if n % 3 else "none"),
+                ("retype", one, rng.choice(["Building", "BuildingPart"])), ("raise_top", one, 0, 1),
+                ("move", one, 1, "0.25", 0), ("move", one, -1, 0, "0.125"), ("split_off", one, new, [rng.choice(ids)]),
+                ("copy", NEIGHBOUR, "mill-lane-7", new), ("merge", NEIGHBOUR), ("set", one, {"n": n}), ("unset", one, "n"),
+                ("flag", lambda it: it.type == "Building", {"seen by": new}), ("take_out", one, self.path.parent / new)])
             try:
                 getattr(city, verb)(*given, hand=hand)
                 done[verb] = done.get(verb, 0) + 1
