@@ -67,6 +67,7 @@ export class Edits {
         await app.live.reached(end.version);
         const now = app.city.get(id);
         if (old?.object) this.mine.push({ kind: "shape", id, old: [old.object.geometry ?? [], old.vertices], now: [now.object.geometry, now.vertices] });
+        app.render();
         toast(`${id} has its new shape.`);
         return true;
       }
