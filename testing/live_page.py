@@ -1,0 +1,464 @@
+#!/usr/bin/env python3
+"""Tries live/page in headless Chromium: two windows on one building, conflicts, undo, shapes, ends, keys, large models.
+
+    python3 testing/live_page.py PROGRAM [--live WORDS] [--pictures FOLDER] [TEST ..]
+
+WORDS start live editing, and are "PROGRAM --live" unless they are given. Needs python3-aiohttp, chromium, chromium-driver
+and python3-selenium; without one it says which and ends with status 0. libjs-three is for 3D; without it the plan alone
+is tried. Pictures of the page, in both schemes and in a wide and a narrow window, are left in FOLDER.
+"""
+import argparse
+import json
+import os
+import shlex
+import shutil
+import signal
+import statistics
+import sys
+import tempfile
+import time
+import unittest
+from pathlib import Path
+
+from live_gateway import GIVEN, ROOT, Running
+from live_town import write_town
+
+try:
+    from selenium import webdriver
+    from selenium.webdriver.chrome.service import Service
+    from selenium.webdriver.common.action_chains import ActionChains
+    from selenium.webdriver.common.by import By
+    from selenium.webdriver.common.keys import Keys
+except ModuleNotFoundError:
+    sys.exit(print("skipped: python3-selenium is missing"))
+
+CHROMIUM, DRIVER, THREE = "/usr/bin/chromium", "/usr/bin/chromedriver", "/usr/share/javascript/three/build/three.module.js"
+for needed, package in ((CHROMIUM, "chromium"), (DRIVER, "chromium-driver")):
+    if not os.path.exists(needed):
+        sys.exit(print("skipped: %s is missing" % package))
+HOUSE, OTHER = "house-0-0-01", "house-0-0-02"
+WORDS = ("--headless=new", "--no-sandbox", "--hide-scrollbars", "--force-device-scale-factor=1", "--use-angle=swiftshader",
+         "--enable-unsafe-swiftshader", "--disable-accelerated-2d-canvas", "--disable-background-networking", "--no-first-run",
+         "--disable-dev-shm-usage")
+AXE = "/usr/share/javascript/axe-core/axe.min.js"
+
+
+def browser(size="1360,820", dark=False):
+    options = webdriver.ChromeOptions()
+    options.binary_location = CHROMIUM
+    for word in (*WORDS, "--window-size=" + size):
+        options.add_argument(word)
+    options.set_capability("goog:loggingPrefs", {"browser": "ALL"})
+    driver = webdriver.Chrome(service=Service(DRIVER), options=options)
+    driver.set_page_load_timeout(60)
+    driver.set_script_timeout(60)
+    features = [{"name": "prefers-color-scheme", "value": "dark" if dark else "light"}]
+    driver.execute_cdp_cmd("Emulation.setEmulatedMedia", {"features": features})
+    return driver
+
+
+def until(what, seconds=15.0):
+    """How long it took until `what()` is true."""
+    started = time.monotonic()
+    while True:
+        found = what()
+        if found:
+            return time.monotonic() - started
+        if time.monotonic() - started > seconds:
+            raise AssertionError("it didn't come true in %s seconds" % seconds)
+        time.sleep(0.02)
+
+
+class Window:
+    def __init__(self, running, who, size="1360,820", dark=False, wait=30):
+        self.who, self.driver = who, browser(size, dark)
+        self.driver.get("http://127.0.0.1:%d/#token=%s" % (running.port, running.tokens[who]))
+        until(lambda: self.state() == "live", wait)
+
+    def find(self, css):
+        return self.driver.find_elements(By.CSS_SELECTOR, css)
+
+    def state(self):
+        return self.driver.find_element(By.ID, "state").text
+
+    def run(self, script, *given):
+        return self.driver.execute_script(script, *given)
+
+    def select(self, id=HOUSE):
+        self.run("cityed.select(arguments[0])", id)
+        until(lambda: self.title() == id and self.find("#object table"))
+
+    def title(self):
+        return self.run("return document.querySelector('#object h2')?.textContent")
+
+    def shown(self, name):
+        return self.run("const t=[...document.querySelectorAll('#object tr')].find(t=>t.dataset.name===arguments[0]);"
+                        "return t ? t.querySelector('.value>button,.value>input')?.textContent ?? null : null", name)
+
+    def row(self, name):
+        wanted = "#object tr[data-name='%s']" % name
+        until(lambda: self.find(wanted))
+        return self.find(wanted)[0]
+
+    def start(self, name, value):
+        """Opens the editor of an attribute and types, without Enter."""
+        until(lambda: self.row(name).find_element(By.CSS_SELECTOR, ".value > button").is_enabled())
+        self.row(name).find_element(By.CSS_SELECTOR, ".value > button").click()
+        box = self.row(name).find_element(By.CSS_SELECTOR, "input")
+        box.send_keys(Keys.CONTROL, "a")
+        box.send_keys(value)
+        return box
+
+    def edit(self, name, value):
+        self.start(name, value).send_keys(Keys.ENTER)
+
+    def texts(self, css):
+        return self.run("return [...document.querySelectorAll(arguments[0])].map(l => l.innerText.replaceAll('\\n', ' '))", css)
+
+    def past(self):
+        return self.texts("#history li")
+
+    def toasts(self):
+        return self.texts("#toasts div")
+
+    def settle(self):
+        """Until all tiles in view are drawn, and all shapes are there."""
+        until(lambda: self.run("const p=cityed.app.plan; return p.frame > 0 && !p.jobs.size && !p.drawing"), 30)
+
+    def picture(self, name):
+        if GIVEN.pictures:
+            self.driver.save_screenshot(os.path.join(GIVEN.pictures, name + ".png"))
+
+    def close(self):
+        """What the browser complained of."""
+        bad = [it for it in self.driver.get_log("browser") if it["level"] == "SEVERE"]
+        self.driver.quit()
+        return [it["message"] for it in bad if "WebSocket connection" not in it["message"]]
+
+
+class Pages(unittest.TestCase):
+    across = 4
+
+    @classmethod
+    def setUpClass(cls):
+        cls.folder = tempfile.TemporaryDirectory()
+        cls.model = Path(cls.folder.name) / "town.city.json"
+        cls.buildings = write_town(cls.model, cls.across)
+
+    @classmethod
+    def tearDownClass(cls):
+        cls.folder.cleanup()
+
+    def setUp(self):
+        self.running, self.windows = Running(self.model, options=["--save-every", "0"], wait=60), []
+
+    def tearDown(self):
+        bad = [it for window in self.windows for it in window.close()]
+        self.running.close()
+        self.assertEqual(bad, [])
+
+    def open(self, who, **more):
+        self.windows.append(Window(self.running, who, **more))
+        return self.windows[-1]
+
+
+class Together(Pages):
+    def test_two_edit_one_building(self):
+        ann, ben = self.open("ann"), self.open("ben")
+        until(lambda: len(ann.find("#people li")) == 2)
+        for window in (ann, ben):
+            window.select()
+        before = ben.shown("storeys")
+        ann.edit("storeys", "7")
+        took = until(lambda: ben.shown("storeys") == "7")
+        self.assertLess(took, 2)
+        until(lambda: ben.texts("#tags span") == ["ann"])
+        until(lambda: "storeys: %s → 7" % before in ben.past()[0] and "ann" in ben.past()[0])
+        ben.edit("roof", "hip")
+        back = until(lambda: ann.shown("roof") == "hip")
+        self.assertLess(back, 2)
+        print("seen after %.0f and %.0f ms, Selenium's own time included" % (took * 1000, back * 1000))
+
+        ben.start("height", "9.20")  # both begin to edit the height; Ann is first
+        ann.edit("height", "9.10")
+        until(lambda: "ann has just made it 9.10" in ben.row("height").text)
+        ben.row("height").find_element(By.CSS_SELECTOR, "input").send_keys(Keys.ENTER)
+        until(lambda: ben.find(".conflict"))
+        self.assertIn("ann made it 9.10 before your 9.20 arrived", ben.texts(".conflict")[0])
+        until(lambda: "refused" in ben.past()[0])
+        self.assertEqual(ann.shown("height"), "9.10")
+        ben.picture("conflict")
+        ben.find(".conflict button")[1].click()
+        until(lambda: ann.shown("height") == "9.20")
+        until(lambda: not ben.find(".conflict"))
+
+        ann.driver.find_element(By.ID, "undo").click()  # Ann's last edit can't be undone any more, Ben's can
+        until(lambda: any("Not undone" in it for it in ann.toasts()))
+        self.assertEqual(ben.shown("height"), "9.20")
+        ben.driver.find_element(By.ID, "undo").click()
+        until(lambda: ann.shown("height") == "9.10" and ben.shown("height") == "9.10")
+
+    def test_attributes_come_and_go(self):
+        ann, ben = self.open("ann"), self.open("ben")
+        for window in (ann, ben):
+            window.select()
+        boxes = ann.find("tr.add input")
+        boxes[0].send_keys("note", Keys.ENTER)
+        boxes[1].send_keys("0.250", Keys.ENTER)
+        until(lambda: ben.shown("note") == "0.250")
+        until(lambda: ann.find("tr[data-name=note]:not(.pending) .remove"))
+        ann.run("document.querySelector('tr[data-name=note] .remove').click()")
+        until(lambda: ben.shown("note") is None)
+        until(lambda: ann.driver.find_element(By.ID, "undo").is_enabled())
+        ann.driver.find_element(By.ID, "undo").click()
+        until(lambda: ben.shown("note") == "0.250")
+        before = ben.shown("storeys")
+        ann.start("storeys", "many").send_keys(Keys.ENTER)  # a wrong number isn't sent
+        time.sleep(0.3)
+        self.assertEqual(ben.shown("storeys"), before)
+        ann.row("storeys").find_element(By.CSS_SELECTOR, "input").send_keys(Keys.ESCAPE)
+        was = ben.shown("inspected")
+        ann.row("inspected").find_element(By.CSS_SELECTOR, ".value > button").click()
+        until(lambda: ben.shown("inspected") == ("false" if was == "true" else "true"))
+        ann.picture("history")
+
+    def test_both_at_once(self):
+        ann, ben = self.open("ann"), self.open("ben")
+        for window in (ann, ben):
+            window.select()
+            window.run("window.won = 0; window.lost = 0; window.edits = async (n, id) => { for (let k = 0; k < n; k++) {"
+                       "const seen = cityed.app.city.get(id).object.attributes.storeys;"
+                       "(await cityed.app.edits.edit(id, 'storeys', seen, seen + 1)) ? won++ : lost++; } window.ready = true }")
+        first = int(ann.shown("storeys"))
+        for window in (ann, ben):
+            window.run("edits(40, arguments[0])", HOUSE)
+        until(lambda: ann.run("return window.ready") and ben.run("return window.ready"), 60)
+        won = [window.run("return [won, lost]") for window in (ann, ben)]
+        until(lambda: ann.shown("storeys") == ben.shown("storeys") == str(first + won[0][0] + won[1][0]))
+        print("40 edits of each at once: done and refused", won)
+
+    def test_who_only_watches(self):
+        eve, ann = self.open("eve"), self.open("ann")
+        eve.select()
+        self.assertTrue(eve.driver.find_element(By.ID, "may").is_displayed())
+        self.assertFalse(eve.find("tr.add, .remove, .shape"))
+        self.assertTrue(all(not it.is_enabled() for it in eve.find(".value > button")))
+        ann.select()
+        ann.edit("storeys", "7")
+        until(lambda: eve.shown("storeys") == "7")
+        eve.run("cityed.app.edits.edit(arguments[0], 'storeys', 7, 8)", HOUSE)  # not even by hand
+        until(lambda: any("may watch" in it for it in eve.toasts()))
+        self.assertEqual(ann.shown("storeys"), "7")
+
+
+class Ends(Pages):
+    def test_engine_killed(self):
+        ann, ben = self.open("ann"), self.open("ben")
+        for window in (ann, ben):
+            window.select()
+        ann.edit("storeys", "4")
+        until(lambda: ben.shown("storeys") == "4")
+        started = time.monotonic()
+        os.kill(self.running.engine_pid(), signal.SIGKILL)
+        until(lambda: ann.state() != "live")
+        until(lambda: ann.state() == "live" and ben.state() == "live", 20)
+        print("live again %.1f s after the engine was killed" % (time.monotonic() - started))
+        until(lambda: ben.shown("storeys") == "4")
+        ben.edit("storeys", "5")
+        until(lambda: ann.shown("storeys") == "5")
+
+    def test_gateway_restarted(self):
+        ann = self.open("ann")
+        ann.select()
+        ann.edit("storeys", "4")
+        until(lambda: any("→ 4" in it for it in ann.past()))
+        self.running.process.send_signal(signal.SIGTERM)
+        self.running.process.wait(30)
+        until(lambda: "lost" in ann.state() or ann.state() == "connecting")
+        self.running.start()
+        until(lambda: ann.state() == "live", 30)
+        until(lambda: ann.shown("storeys") == "4")
+        ann.edit("roof", "dome")
+        until(lambda: any("→ dome" in it for it in ann.past()))
+
+    def test_unknown_token(self):
+        driver = browser()
+        try:
+            driver.get("http://127.0.0.1:%d/#token=wrong" % self.running.port)
+            until(lambda: driver.find_element(By.ID, "state").text == "unknown token")
+            self.assertTrue(driver.find_element(By.ID, "veil").is_displayed())
+        finally:
+            driver.quit()
+
+
+class Views(Pages):
+    def test_click_search_and_keys(self):
+        ann = self.open("ann")
+        ann.settle()
+        at = ann.run("const b=cityed.app.city.get(arguments[0]).box, p=cityed.app.plan.screen([(b[0]+b[3])/2-1,(b[1]+b[4])/2-1]);"
+                     "const r=document.getElementById('plan').getBoundingClientRect(); return [p[0]+r.left, p[1]+r.top]", HOUSE)
+        for kind in ("mousePressed", "mouseReleased"):
+            mouse = {"type": kind, "x": at[0], "y": at[1], "button": "left", "clickCount": 1}
+            ann.driver.execute_cdp_cmd("Input.dispatchMouseEvent", mouse)
+        until(lambda: ann.title() == HOUSE)
+        box = ann.driver.find_element(By.ID, "find-text")
+        box.send_keys("par")
+        until(lambda: ann.texts("#found li b") == ["park"])
+        box.send_keys(Keys.ARROW_DOWN, Keys.ENTER)
+        until(lambda: ann.title() == "park")
+        plan = ann.driver.find_element(By.ID, "plan")
+        plan.send_keys("n")
+        until(lambda: ann.title() == "plot-0-0")
+        plan.send_keys("p")
+        until(lambda: ann.title() == "park")
+        x, k = ann.run("return [cityed.app.plan.x, cityed.app.plan.k]")
+        plan.send_keys(Keys.ARROW_RIGHT, "+")
+        until(lambda: ann.run("return cityed.app.plan.x") > x and ann.run("return cityed.app.plan.k") > k)
+        plan.send_keys(Keys.ESCAPE)
+        until(lambda: ann.title() == "No object selected")
+        ann.run("cityed.go(arguments[0])", HOUSE)
+        plan.send_keys(Keys.ENTER)
+        until(lambda: ann.title() == HOUSE)
+
+    def test_parts(self):
+        ann = self.open("ann")
+        whole = ann.run("return [...cityed.app.city.below.keys()][0]")
+        ann.select(whole)
+        part = ann.texts(".links button")[0]
+        ann.find(".links button")[0].click()
+        until(lambda: ann.title() == part)
+        self.assertEqual(ann.texts(".links button"), [whole])
+
+    def test_pictures(self):
+        """Both schemes, wide and narrow; nothing is wider than its window, and text is readable on its ground."""
+        for size, dark in (("1360,820", False), ("1360,820", True), ("520,900", False), ("520,900", True)):
+            name = "%s-%s" % ("narrow" if size < "5300" and size[0] == "5" else "wide", "dark" if dark else "light")
+            ann = self.open("ann", size=size, dark=dark)
+            ann.settle()
+            ann.picture("plan-" + name)
+            ann.run("cityed.go(arguments[0])", HOUSE)
+            until(lambda: ann.find("#object table"))
+            ann.settle()
+            ann.picture("object-" + name)
+            wide = ann.run("return [document.documentElement.scrollWidth, innerWidth]")
+            self.assertLessEqual(wide[0], wide[1])
+            self.assertEqual(ann.run(UNREADABLE), [])
+            self.assertEqual(ann.run(UNNAMED), [])
+            if os.path.exists(AXE):
+                ann.run(Path(AXE).read_text())
+                found = ann.driver.execute_async_script("axe.run().then(r => arguments[0](r.violations.map(v => v.id)))")
+                self.assertEqual(found, [])
+            if os.path.exists(THREE):
+                ann.driver.find_element(By.ID, "to-solid").click()
+                until(lambda: ann.run("return cityed.app.solid?.shapes.size > 5"), 60)
+                time.sleep(1)
+                ann.picture("solid-" + name)
+        if not os.path.exists(AXE):
+            print("axe-core isn't there; names of controls and contrast were looked at by this trial's own rules")
+
+    def test_shapes(self):
+        ann, ben = self.open("ann"), self.open("ben")
+        for window in (ann, ben):
+            window.select()
+        shapes = self.shapes()
+        took = "cityed.takeFile(new File([arguments[0]], 'x.city.json'), arguments[1])"
+        ann.run(took, shapes["open"], HOUSE)
+        until(lambda: any("shell is open" in it for it in ann.toasts()))
+        if os.path.exists(THREE):
+            until(lambda: ann.run("return cityed.app.solid?.open !== null && cityed.app.view === cityed.app.solid"), 60)
+            time.sleep(1)
+            ann.picture("open-shell")
+        box = ben.run("return cityed.app.city.get(arguments[0]).box", HOUSE)
+        ann.run(took, shapes["good"], HOUSE)
+        until(lambda: ben.run("return cityed.app.city.get(arguments[0]).box", HOUSE)[5] == 20, 20)
+        until(lambda: ann.driver.find_element(By.ID, "undo").is_enabled())
+        ann.driver.find_element(By.ID, "undo").click()
+        until(lambda: ben.run("return cityed.app.city.get(arguments[0]).box", HOUSE) == box)
+        ann.run(took, "{}", HOUSE)
+        until(lambda: any("isn't a CityJSON model" in it for it in ann.toasts()))
+
+    def shapes(self):
+        """A file with a taller house, and one whose roof is missing; in centimetres, with a corner of their own."""
+        model = json.loads(self.model.read_text())
+        low = [model["vertices"][n] for n in model["CityObjects"][HOUSE]["geometry"][0]["boundaries"][0][0][0]][::-1]
+        points = [[p[0] / 10, p[1] / 10, z] for z in (0, 2000) for p in low]
+        faces = [[3, 2, 1, 0], [4, 5, 6, 7], [0, 1, 5, 4], [1, 2, 6, 5], [2, 3, 7, 6], [3, 0, 4, 7]]
+
+        def file(faces):
+            solid = {"type": "Solid", "lod": "2.2", "boundaries": [[[face] for face in faces]]}
+            return json.dumps({"type": "CityJSON", "version": "2.0", "transform": {**model["transform"], "scale": [0.01] * 3},
+                               "CityObjects": {"new": {"type": "Building", "geometry": [solid]}},
+                               "vertices": [[round(n) for n in point] for point in points]})
+        return {"good": file(faces), "open": file(faces[:1] + faces[2:])}
+
+
+# The texts whose contrast with their ground is below 4.5 (3 where they are disabled), by the page's own colours.
+UNREADABLE = """
+const channels = (c) => (c.match(/[\\d.]+/g) ?? []).map(Number);
+const light = (c) => channels(c).slice(0, 3).map((n) => n / 255).map((n) => n <= 0.03928 ? n / 12.92 : ((n + 0.055) / 1.055) ** 2.4)
+  .reduce((sum, n, k) => sum + n * [0.2126, 0.7152, 0.0722][k], 0);
+const ground = (it) => { for (; it; it = it.parentElement) { const c = getComputedStyle(it).backgroundColor, a = channels(c)[3];
+  if (a === undefined || a > 0.5) return c; } return getComputedStyle(document.body).backgroundColor; };
+return [...document.querySelectorAll('header *, aside *')].filter((it) => it.offsetParent && [...it.childNodes].some((n) => n.nodeType === 3 && n.data.trim()))
+  .map((it) => { const [a, b] = [light(getComputedStyle(it).color), light(ground(it))].sort((x, y) => y - x);
+    return [it.textContent.slice(0, 40), (a + 0.05) / (b + 0.05), it.disabled ? 3 : 4.5]; }).filter(([, is, least]) => is < least);
+"""
+# The controls that a screen reader has no name for.
+UNNAMED = """
+return [...document.querySelectorAll('button, input, [role=application], [role=listbox], canvas')].filter((it) => it.type !== 'file' && it.offsetParent)
+  .filter((it) => !(it.getAttribute('aria-label') || it.textContent.trim() || it.labels?.length || it.getAttribute('role') === 'img')).map((it) => it.outerHTML);
+"""
+
+
+class Large(Pages):
+    """20,000 buildings, and a model of 60 MB."""
+    across = 64
+
+    def test_large(self):
+        size, started = self.model.stat().st_size / 1e6, time.monotonic()
+        window = self.open("ann", wait=180)
+        print("%.0f MB, %d buildings: live after %.1f s" % (size, self.buildings, time.monotonic() - started))
+        window.settle()
+        window.picture("large")
+        window.run("cityed.go('house-30-30-01')")
+        until(lambda: window.find("#object table"), 30)
+        until(lambda: window.run("const p=cityed.app; return [...p.city.within(...p.plan.seen())].every((it) => it.object)"), 30)
+        for name, metres in (("20,000", 20_000), ("2,000", 2_000)):
+            share = (metres / self.buildings) ** 0.5
+            times = window.driver.execute_async_script(PANS, share)
+            print("panning over about %s buildings: script time of a frame p50 %.1f ms, p95 %.1f, longest %.1f; load %.1f" % (
+                name, statistics.median(times), sorted(times)[int(len(times) * 0.95)], max(times), os.getloadavg()[0]))
+            if os.getloadavg()[0] < os.cpu_count():
+                self.assertLessEqual(sorted(times)[int(len(times) * 0.95)], 12)
+        window.picture("large-panned")
+
+
+# 120 frames of panning over a share of the city's width, once what is in view is drawn; the script time of each.
+PANS = """
+const [share, done] = arguments, plan = cityed.app.plan, b = cityed.app.city.box(), [x, y] = [(b[0] + b[3]) / 2, (b[1] + b[4]) / 2];
+const half = [(b[3] - b[0]) * share / 2, (b[4] - b[1]) * share / 2];
+plan.fit([x - half[0], y - half[1], 0, x + half[0], y + half[1], 0], 1);
+const still = () => plan.jobs.size || plan.drawing ? setTimeout(still, 50) : begin();
+const begin = () => { plan.times.length = 0; let n = 0;
+  const step = () => { if (++n > 120) return done(plan.times.slice()); plan.pan(n <= 60 ? 6 : -6, n % 2 ? 3 : -3); requestAnimationFrame(step); };
+  step(); };
+setTimeout(still, 300);
+"""
+
+
+def main():
+    say = argparse.ArgumentParser(description=__doc__, formatter_class=argparse.RawDescriptionHelpFormatter)
+    say.add_argument("program")
+    say.add_argument("tests", nargs="*")
+    say.add_argument("--live", help="how live editing is started")
+    say.add_argument("--pictures", metavar="FOLDER")
+    given = say.parse_args()
+    GIVEN.live = given.live or shlex.join([os.path.abspath(given.program), "--live"])
+    GIVEN.pictures = given.pictures
+    if not os.path.exists(THREE):
+        print("libjs-three is missing: the plan alone is tried")
+    unittest.main(argv=[sys.argv[0], *given.tests])
+
+
+if __name__ == "__main__":
+    main()
