@@ -460,8 +460,9 @@ class Random(Base):
                 ("rename", one, new), ("rename", one, rng.choice(ids)), ("delete", one if n % 3 else "none"),
                 ("retype", one, rng.choice(["Building", "BuildingPart"])), ("raise_top", one, 0, 1),
                 ("move", one, 1, "0.25", 0), ("move", one, -1, 0, "0.125"), ("split_off", one, new, [rng.choice(ids)]),
-                ("copy", NEIGHBOUR, "mill-lane-7", new), ("merge", NEIGHBOUR), ("set", one, {"n": n}), ("unset", one, "n"),
-                ("flag", lambda it: it.type == "Building", {"seen by": new}), ("take_out", one, self.path.parent / new)])
+                ("copy", NEIGHBOUR, "mill-lane-7", new), ("merge", NEIGHBOUR), ("set", one, {"n": n}),
+                ("unset", one, "n"), ("flag", lambda it: it.type == "Building", {"seen by": new}),
+                ("take_out", one, self.path.parent / new)])
             try:
                 getattr(city, verb)(*given, hand=hand)
                 done[verb] = done.get(verb, 0) + 1

@@ -4,8 +4,8 @@
     python3 testing/live_page.py PROGRAM [--live WORDS] [--pictures FOLDER] [TEST ..]
 
 WORDS start live editing, and are "PROGRAM --live" unless they are given. Needs python3-aiohttp, chromium,
-chromium-driver and python3-selenium; without one it says which and ends with status 0. libjs-three is for 3D; without it
-the plan alone is tried. Pictures of the page, in both schemes and in a wide and a narrow window, are left in FOLDER.
+chromium-driver and python3-selenium; without one it says which and ends with status 0. libjs-three is for 3D; without
+it the plan alone is tried. Pictures of the page, in both schemes and in a wide and a narrow window, are left in FOLDER.
 """
 import argparse
 import json
@@ -414,7 +414,8 @@ return [p[0] + r.left, p[1] + r.top];
 UNREADABLE = """
 const channels = (c) => (c.match(/[\\d.]+/g) ?? []).map(Number);
 const linear = (n) => n <= 0.03928 ? n / 12.92 : ((n + 0.055) / 1.055) ** 2.4;
-const light = (c) => channels(c).slice(0, 3).reduce((sum, n, k) => sum + linear(n / 255) * [0.2126, 0.7152, 0.0722][k], 0);
+const weights = [0.2126, 0.7152, 0.0722];
+const light = (c) => channels(c).slice(0, 3).reduce((sum, n, k) => sum + linear(n / 255) * weights[k], 0);
 const ground = (it) => {
   for (; it; it = it.parentElement) {
     const c = getComputedStyle(it).backgroundColor, a = channels(c)[3];
@@ -454,8 +455,8 @@ class Large(Pages):
             share = (metres / self.buildings) ** 0.5
             times = window.driver.execute_async_script(PANS, share)
             middle, most, load = statistics.median(times), sorted(times)[int(len(times) * 0.95)], os.getloadavg()[0]
-            print("panning over about %s buildings: script time of a frame p50 %.1f ms, p95 %.1f, longest %.1f; load %.1f"
-                  % (name, middle, most, max(times), load))
+            print("panning over about %s buildings: script time of a frame p50 %.1f ms, p95 %.1f, longest %.1f, with a "
+                  "load of %.1f" % (name, middle, most, max(times), load))
             if load < os.cpu_count():
                 self.assertLessEqual(most, 12)
         window.picture("large-panned")

@@ -119,16 +119,18 @@ export class Plan {
 
   finish() {
     const until = performance.now() + BUDGET;
+    let made = 0;
     for (const [key, job] of this.jobs) {
       if (job.frame !== this.frame) { this.jobs.delete(key); continue; }  // out of view
       if (!this.work(job, until)) break;
       this.jobs.delete(key);
+      made++;
       this.tiles.set(key, { canvas: job.canvas, frame: this.frame, z: job.z, x: job.x, y: job.y });
       if (performance.now() > until) break;
     }
     if (this.tiles.size > KEPT)
       for (const [key, it] of this.tiles) if (it.frame < this.frame - 30 && this.tiles.size > KEPT) this.tiles.delete(key);
-    if (this.jobs.size) this.draw();
+    if (made || this.jobs.size) this.draw();
   }
 
   // What lies in a box has changed.
