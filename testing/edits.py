@@ -8,12 +8,13 @@ Without names the crates are all that have edits there. With --changed only thos
 commit BASE, or whose src, specs or proofs do, and those above the latter, whose contracts rest on them. What isn't
 committed counts too. N checks run side by side: two if it isn't said, each of up to 5 GB.
 
-The crates, and those below them, are copied into a folder of their own, which is removed at the end. There `rt ci`
-proves them and tries the edits: what the gate proved on this machine, of the same files, is kept, so after a gate only
-the edits take time. Those in the crates' own must-fail folders are left out: the gate tries them. For each edit a line
-says what refused it: a clause of a contract, or another goal that was left open. An edit fails if it isn't refused or
-wasn't tried, if it can't be applied or read (BAD EDIT), if a proof file names what it took away (MISSING NAME), or if
-the prover met a limit (LIMIT).
+The crates, and those below them, are copied into a folder of their own, which is removed at the end, with what `rt
+check` kept of them in `out/`; no check may run there meanwhile. In the copy `rt check` proves each crate as it stands,
+in under a minute where all was kept, and from nothing where it wasn't, and the toolchain's own must-fail tries each
+edit over that. Those in the crates' own must-fail folders are left out: the gate tries them. For each edit a line says
+what refused it: a clause of a contract, or another goal that was left open. An edit fails if it isn't refused or wasn't
+tried, if it can't be applied or read (BAD EDIT), if a proof file names what it took away (MISSING NAME), or if the
+prover met a limit (LIMIT).
 
 With --apply nothing is proved: it looks whether each edit can be applied, those in must-fail too. It needs no
 toolchain, and takes a second. The last line counts, and the status is 1 where an edit failed.
@@ -28,6 +29,7 @@ import signal
 import subprocess
 import sys
 import tempfile
+import time
 from collections import namedtuple
 from pathlib import Path
 
@@ -35,6 +37,8 @@ from listed_crates import ROOT, listed, own, reached
 
 EDITS = ROOT / "testing" / "edits"
 PROVED_FROM = ("src", "specs", "proofs")
+# What a check keeps of a crate, for the next one and for those above.
+KEPT = ("out/incremental", "out/rlib")
 NAME = re.compile(r"[A-Za-z0-9_-][A-Za-z0-9_.-]*\.edit")
 
 # The words by which rt begins what it says of an edit, and the cases in which a refusal shows nothing of a contract.
@@ -44,10 +48,14 @@ FAULTS = ("BAD EDIT", "NOT TRIED", "NOT REFUSED")
 NO_REFUSALS = {"only because a proof file names": "MISSING NAME", "only by a limit": "LIMIT"}
 # A goal that the search left open, or at which a written answer no longer fits.
 LEFT_OPEN = re.compile(r"note: (?:\./)?(\S+?:\d+):\d+: it is not proved that (.*)")
+MET_A_LIMIT = re.compile(r"\b(?:step|resource) limit\b|\ba limit was met\b")
+OF_A_CONTRACT = ("what the function ensures", "the `invariant` of")
 NO_ANSWER = re.compile(r"(?:\./)?(\S+?:\d+):\d+: error: `([^`]+)`")
 GOAL = re.compile(r"\(`([^`]+)`\)")
 
 Edit = namedtuple("Edit", "crate path")
+# A command, and the edits of which it tells.
+Trial = namedtuple("Trial", "words edits")
 
 
 class Bad(Exception):
@@ -165,7 +173,7 @@ def applied(edits, kept):
 
 
 def copy(room, names, edits):
-    """Copies crates, as they stand, and the edits that are to be tried."""
+    """Copies crates, as they stand, with what checks kept of them, and the edits that are to be tried."""
     listed = git("ls-files", "--cached", "--others", "--exclude-standard", "crates", "crates.txt", "HANDLES")
     for name in filter(lambda it: (ROOT / it).is_file(), listed):
         parts = name.split("/")
@@ -180,19 +188,63 @@ def copy(room, names, edits):
         folder = room / "crates" / edit.crate / "must-fail"
         folder.mkdir(exist_ok=True)
         shutil.copyfile(edit.path, folder / edit.path.name)
+    for name in names:
+        for part in filter(lambda it: (ROOT / "crates" / name / it).is_dir(), KEPT):
+            shutil.copytree(ROOT / "crates" / name / part, room / "crates" / name / part)
 
 
-def gate(room, jobs):
-    """Runs the gate in the copy, and gives the lines that it prints."""
-    given = {"cwd": room, "env": {**os.environ, "RT_JOBS": str(jobs)}, "stdin": subprocess.DEVNULL}
-    with open(room / "gate.log", "wb") as file:
-        ran = subprocess.Popen(["rt", "ci"], stdout=file, stderr=subprocess.STDOUT, start_new_session=True, **given)
-        try:
-            ran.wait()
-        finally:
-            with contextlib.suppress(ProcessLookupError):
-                os.killpg(ran.pid, signal.SIGKILL)
-    return (room / "gate.log").read_text(encoding="utf-8", errors="replace").splitlines()
+def begun(room, log, words):
+    """A command, begun in the copy in a group of its own, whose words go into a file."""
+    given = {"cwd": room, "env": {**os.environ, "TMPDIR": str(room), "RT_JOBS": "1"}, "stdin": subprocess.DEVNULL}
+    with open(log, "wb") as file:
+        return subprocess.Popen(words, stdout=file, stderr=subprocess.STDOUT, start_new_session=True, **given)
+
+
+def end(ran):
+    """Ends a command, and all that it began."""
+    with contextlib.suppress(ProcessLookupError):
+        os.killpg(ran.pid, signal.SIGKILL)
+    ran.wait()
+
+
+def side_by_side(room, trials, jobs):
+    """Runs the commands of trials, some at a time, and gives each trial with the lines that it said once it ends."""
+    left, running = list(trials), {}
+    try:
+        while left or running:
+            while left and len(running) < jobs:
+                trial, log = left.pop(0), room / f"{len(left)}.log"
+                running[begun(room, log, trial.words)] = trial, log
+            time.sleep(0.2)
+            for ran in [it for it in running if it.poll() is not None]:
+                trial, log = running.pop(ran)
+                yield trial, log.read_text(encoding="utf-8", errors="replace").splitlines()
+    finally:
+        for ran in running:
+            end(ran)
+
+
+def why_not_proved(room, name, jobs):
+    """Has a crate of the copy checked as it stands, and gives the last lines of the check if it isn't proved."""
+    log = room / "check.log"
+    ran = begun(room / "crates" / name, log, ["rt", "check", "--jobs", str(jobs)])
+    try:
+        status = ran.wait()
+    finally:
+        end(ran)
+    lines = log.read_text(encoding="utf-8", errors="replace").splitlines()
+    is_proved = status == 0 and any(it.startswith("logic=proved ") for it in lines[-3:])
+    return None if is_proved else "\n  ".join([f"rt check of {name} ended with status {status}:", *lines[-5:]])
+
+
+def trials_of(edits):
+    """The commands that try edits: each over what the check kept, or all of a crate where the toolchain can't."""
+    kept_edit = [sys.executable, str(ROOT / "testing" / "kept_edit.py")]
+    if subprocess.run(kept_edit, stdin=subprocess.DEVNULL).returncode == 0:
+        return [Trial([*kept_edit, edit.crate, edit.path.name], [edit]) for edit in edits]
+    print("this toolchain's must-fail is another one: rt must-fail tries the edits of a crate together")
+    names = dict.fromkeys(edit.crate for edit in edits)
+    return [Trial(["rt", "must-fail", name], [it for it in edits if it.crate == name]) for name in names]
 
 
 def verdict(said):
@@ -204,6 +256,8 @@ def verdict(said):
     for words, kind in NO_REFUSALS.items():
         if why.startswith(f" ({words}"):
             return False, f"{kind}: {why.partition('): ')[2] or why.strip()}"
+    if MET_A_LIMIT.search(why):
+        return False, f"LIMIT: {why.removeprefix(': ')}"
     if why and not why.startswith(": "):
         return False, f"rt refuses it in other words: {said}"
     return True, f"refused by {what_refused(why.removeprefix(': '))}"
@@ -214,7 +268,7 @@ def what_refused(line):
     left_open, no_answer = LEFT_OPEN.match(line), NO_ANSWER.match(line)
     if left_open:
         goal = (GOAL.search(left_open[2]) or [None, ""])[1]
-        is_clause = is_of_contract(goal) or left_open[2].startswith("what the function ensures")
+        is_clause = is_of_contract(goal) or left_open[2].startswith(OF_A_CONTRACT)
         return f"{'a clause' if is_clause else 'an open goal'}: {goal or left_open[2]}, {left_open[1]}"
     if no_answer:
         return f"{'a clause' if is_of_contract(no_answer[2]) else 'an open goal'}: {no_answer[2]}, {no_answer[1]}"
@@ -245,16 +299,30 @@ def tried(edits, uses, jobs):
     """Tries edits, tells what came of each, and returns whether each was refused."""
     if shutil.which("rt") is None:
         raise Stop("there is no command rt: the edits are tried by the Rattle toolchain, whose bin/ has to be in PATH")
-    below = reached(uses, [name for name in uses if any(it.crate == name for it in edits)])
+    names = [name for name in uses if any(it.crate == name for it in edits)]
+    below, well = reached(uses, names), []
     with tempfile.TemporaryDirectory(prefix="edits-") as folder:
-        copy(Path(folder), below, edits)
+        room = Path(folder)
+        copy(room, below, edits)
         print("trying the edits over", *below, flush=True)
-        lines = gate(Path(folder), jobs)
+        unproved = {name: why_not_proved(room, name, jobs) for name in names}
+        for why in filter(None, unproved.values()):
+            print(why, flush=True)
+        for edit in [it for it in edits if unproved[it.crate]]:
+            print(f"{label(edit)}: NOT TRIED: {edit.crate} isn't proved as it stands", flush=True)
+            well.append(False)
+        for trial, lines in side_by_side(room, trials_of([it for it in edits if not unproved[it.crate]]), jobs):
+            well += told(trial, lines)
+    return well
+
+
+def told(trial, lines):
+    """Tells what a command said of edits, and returns whether each was refused."""
     said, well = said_of_edits(lines), []
     last = "\n  ".join(["NOT TRIED: rt says nothing of it. Its last lines:", *lines[-5:]])
-    for edit in edits:
-        is_refused, told = verdict(said.get(f"{edit.crate}/{edit.path.name}", last))
-        print(f"{label(edit)}: {told}", flush=True)
+    for edit in trial.edits:
+        is_refused, tells = verdict(said.get(f"{edit.crate}/{edit.path.name}", last))
+        print(f"{label(edit)}: {tells}", flush=True)
         well.append(is_refused)
     return well
 

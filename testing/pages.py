@@ -33,7 +33,7 @@ from pathlib import Path
 
 ROOT = Path(__file__).resolve().parent.parent
 SECONDS = 300  # for each page, with --slow 3,600
-MOST_WORDS, MOST_LINES, MOST_RELATIVE = 20_000, 120, 0.45
+MOST_WORDS, MOST_LINES, MOST_RELATIVE = 24_000, 160, 0.45
 OLD = ("CHANGELOG.md", "bench/HISTORY.md")  # what tells of earlier days, and may repeat its figures
 UNPROVED = "/tmp/cityed-unproved"
 SNAKEMAKE = shutil.which("snakemake")

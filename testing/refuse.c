@@ -6,8 +6,9 @@
  *   REFUSE_READ=N       the Nth read fails
  *   REFUSE_WRITE=N      the Nth write to standard output fails
  *   REFUSE_STEP=N       the Nth step of replacing a file fails: to open a file or a folder, to look at what a name has,
- *                       to follow a link, to lock a file, to set its owner, group or mode, to write to it, to sync it
- *                       or its folder, to rename it, to remove it
+ *                       to follow a link, to lock a file, to set its owner, group or mode, to write to it, to cut it,
+ *                       to sync it, its bytes alone or its folder, to rename it, to remove it
+ *   REFUSE_STEP=N-      and each later one too
  *   KILL_STEP=N         the process is killed before that step
  *   REPLACE=F           once a file of the name F is opened to be read, F.other takes its name
  *   SHORT=1             a read or a write moves one byte at most
@@ -53,6 +54,8 @@ static int (*real_flock)(int, int);
 static int (*real_chown)(const char *, uid_t, gid_t);
 static int (*real_fchmod)(int, mode_t);
 static int (*real_fsync)(int);
+static int (*real_fdatasync)(int);
+static int (*real_ftruncate)(int, off_t);
 static int (*real_rename)(const char *, const char *);
 static int (*real_unlink)(const char *);
 
@@ -160,6 +163,16 @@ int fchmod(int fd, mode_t mode) {
 int fsync(int fd) {
     if (refuses_step()) return errno = EIO, -1;
     return REAL(real_fsync, "fsync")(fd);
+}
+
+int fdatasync(int fd) {
+    if (refuses_step()) return errno = EIO, -1;
+    return REAL(real_fdatasync, "fdatasync")(fd);
+}
+
+int ftruncate(int fd, off_t length) {
+    if (refuses_step()) return errno = EIO, -1;
+    return REAL(real_ftruncate, "ftruncate")(fd, length);
 }
 
 int rename(const char *from, const char *to) {

@@ -14,11 +14,12 @@ use Rattle.city_model.specs.declared.command.Cause.{Cause}
 use Rattle.city_model.specs.declared.command.Command.{Command}
 use Rattle.city_model.specs.declared.command.Reply.{Reply}
 use Rattle.city_model.specs.declared.command.Reply.TheVariants as replies
+use Rattle.city_model.specs.Meaning.{is_refusal}
 use Rattle.city_model.specs.Scripts.{is_end}
 use Rattle.city_model.specs.declared.end.Outcome.TheVariants as outcomes
 use Rattle.city_model.specs.Runs.{Scripted, after_change}
 use Rattle.city_txn.specs.CoreState.{committed, view}
-use Rattle.city_session.specs.Acting.{GrowsTo, IsActed, IsBegun, HasEnded, stamps_after, stamp_for, told_after}
+use Rattle.city_session.specs.Acting.{GrowsTo, IsActed, IsBegun, HasEnded, IsForgotten, stamps_after, stamp_for, told_after}
 use Rattle.city_session.specs.declared.acted.Acted.TheVariants as acts
 use Rattle.city_session.specs.Grown.{Grown, Closed, with_reply}
 use Rattle.city_session.specs.Live.{SessionState, grown_at, IsLive}
@@ -27,6 +28,7 @@ use Rattle.city_live.specs.declared.answer.Answer.{Answer}
 use Rattle.city_live.specs.declared.answer.Blocked.{Blocked}
 use Rattle.city_live.specs.declared.answer.Changed.{Changed}
 use Rattle.city_live.specs.declared.answer.Ended.{Ended}
+use Rattle.city_live.specs.declared.answer.Fault.TheVariants as faults
 use Rattle.city_live.specs.declared.answer.What.{What}
 use Rattle.city_live.specs.declared.answer.What.TheVariants as told
 use Rattle.city_live.specs.declared.ghosts.event.Event.{Event}
@@ -36,8 +38,8 @@ use Rattle.city_live.specs.declared.task.Task.TheVariants as task
 use Rattle.city_model.specs.CityMap.{CityValue}
 use Rattle.city_live.specs.Continuing.{Continues, GoesOn}
 use Rattle.city_live.specs.Ending.{EndsAs, IsTelling, IsTellingOf, AreTold, Leads, told_replies}
-use Rattle.city_live.specs.Heard.{talk_of, begun_talk, AreSoFar, IsSoFar, AreHeard, IsFresh}
-use Rattle.city_live.specs.Heard.{script_told}
+use Rattle.city_live.specs.Heard.{talk_of, begun_talk, AreSoFar, IsSoFar, AreHeard, IsKept, ArePlain}
+use Rattle.city_live.specs.Heard.{script_told, Talk, after_fault}
 use Rattle.city_live.specs.Heard.{answered_by, refused_at, is_committed, closed_of, IsEndOf, IsStep, model_of}
 use Rattle.city_live.specs.Heard.{script_in}
 use Rattle.city_live.specs.Heard.{since_so_far, told_so_far, IsFitWhat, after_what, closed_by_what, or_none, cause_of}
@@ -45,7 +47,7 @@ use Rattle.city_live.specs.Heard.{IsOutcome, IsSeenAt, IsSeenIn, what_said, stam
 use Rattle.city_live.specs.Running.{Begins, RunsTo}
 use Rattle.city_live.specs.Serving.{Logged, IsSaid, told_in}
 use Rattle.city_live.specs.Works.{Working, work_at, WorksTo, SameWorks, is_whole, is_whole_at, IsScriptAt}
-use Rattle.city_live.specs.Works.{without_script, with_script, IsAtCommit, MayCommit, first_of}
+use Rattle.city_live.specs.Works.{without_script, with_script, IsAtCommit, MayCommit, first_of, IsFresh, none_kept}
 use Rattle.city_live.proofs.Continued.{begun, acted, goes_then}
 use Rattle.city_live.proofs.Worked.{one_reply, some_same, told_plainly}
 use Rattle.city_live.proofs.Followed.{told_both}
@@ -86,18 +88,27 @@ fresh_told [] = refl
 fresh_told (c ∷ cs) = refl
 
 fresh_far : (t : Task) (since : ℕ) → IsFresh t → IsSoFar t (Some (record { since = since; told = [] }))
-fresh_far (task.Script s rs cause) since f =
-    subst (λ x. [] ≡ script_told s.1 x cause) (sym f.0) (subst (λ x. [] ≡ script_told s.1 [] x) (sym f.1)
-    (fresh_told s.1))
+fresh_far (task.Script s rs cause) since f = (
+  subst (λ x. [] ≡ script_told s.1 x cause) (sym f.0) (subst (λ x. [] ≡ script_told s.1 [] x) (sym f.1)
+      (fresh_told s.1)),
+  subst ArePlain (sym f.0) tt,
+)
 fresh_far (task.Single asked) since f = tt
 
-fresh_talk : (by name : List ℕ) (t : Task) (tag : Option (List ℕ)) (n : ℕ) → IsFresh t
-    → begun_talk (record { by = by; name = name; task = t; tag = tag }) n
-    ≡ talk_of (Some (record { since = n; told = [] })) (record { by = by; name = name; task = t; tag = tag })
-fresh_talk by name (task.Script s rs cause) tag n f = refl
-fresh_talk by name (task.Single asked) tag n f =
+fresh_talk : (by name : List ℕ) (t : Task) (tag : Option (List ℕ)) (ks : Option (List Scripted)) (n : ℕ) → IsFresh t
+    → begun_talk (record { by = by; name = name; task = t; tag = tag; kept = ks }) n
+    ≡ talk_of (Some (record { since = n; told = [] }))
+    (record { by = by; name = name; task = t; tag = tag; kept = ks })
+fresh_talk by name (task.Script s rs cause) tag ks n f = refl
+fresh_talk by name (task.Single asked) tag ks n f =
     ap (λ o. record { by = by; tag = tag; name = name; script = None; since = n; told = []; asked = first_of o })
     (sym f)
+
+-- nothing is kept yet
+fresh_kept : (t : Task) (b : Bool) (since : ℕ) → IsKept t (none_kept b) (Some (record { since = since; told = [] }))
+fresh_kept (task.Script s rs cause) b since = tt
+fresh_kept (task.Single asked) true since = refl
+fresh_kept (task.Single asked) false since = tt
 
 -- no work has a new stamp
 unused : {s : SessionState} {works : List (ℕ × Working)} {es : List Event} → AreHeard s works es
@@ -121,25 +132,35 @@ below_given stamp stamps (Some t) is below = (omega (arith, is, below t refl), o
 pub heard_begins : {s u : SessionState} {works others : List (ℕ × Working)} {es next : List Event}
     → AreHeard s works es → (stamp : ℕ) (kept : Option ℕ) → Begins stamp kept s u
     → ((t : ℕ) → kept ≡ Some t → work_at works t ≡ None) → (new : Working) → IsFresh new.task
+    → (is_kept : Bool) → new.kept ≡ none_kept is_kept
     → WorksTo stamp (Some new) works others → next ≡ es ++ events.Begins stamp new ∷ [] → AreHeard u others next
-heard_begins {s} {u} {works} {others} {es} r stamp kept b free new fresh to noted =
+heard_begins {s} {u} {works} {others} {es} r stamp kept b free new fresh is_kept keeps to noted =
     let g : Grown = record { since = length s.closed; told = [] } in
     let none = free_at r stamp b.taken b.stamp_is (λ t e. free t (b.kept_is t e).0) in
     let given = below_given stamp s.stamps b.taken b.stamp_is (λ t e. (b.kept_is t e).1) in
     subst (λ l. AreHeard u others l) (sym noted)
     (heard_event r u others stamp (Some new) (Some g) b.begun.start (omega (arith, given.1, b.begun.given))
-    (λ h. omega (arith, given.0, b.begun.given)) to b.begun.growing (fresh_far new.task (length s.closed) fresh)
+    (λ h. omega (arith, given.0, b.begun.given)) to b.begun.growing
+    (
+      fresh_far new.task (length s.closed) fresh,
+      subst (λ ks. IsKept new.task ks (Some g)) (sym keeps) (fresh_kept new.task is_kept (length s.closed)),
+    )
     None (ap (option_map (talk_of (grown_at s.growing stamp))) none)
     (events.Begins stamp new) refl (refl, fresh) (b.begun.closed ∙ sym (append-nil s.closed))
-    (ap Some (fresh_talk new.by new.name new.task new.tag (length s.closed) fresh)))
+    (ap Some (fresh_talk new.by new.name new.task new.tag new.kept (length s.closed) fresh)))
 
 -- ---- a script is tried again
 
-talk_whole : (og other : Option Grown) (by name : List ℕ) (t : Task) (tag : Option (List ℕ)) → is_whole t ≡ true
-    → talk_of og (record { by = by; name = name; task = t; tag = tag })
-    ≡ talk_of other (record { by = by; name = name; task = t; tag = tag })
-talk_whole og other by name (task.Script s rs cause) tag h = refl
-talk_whole og other by name (task.Single asked) tag h = absurd (false≢true h)
+talk_whole : (og other : Option Grown) (by name : List ℕ) (t : Task) (tag : Option (List ℕ))
+    (ks : Option (List Scripted)) → is_whole t ≡ true
+    → talk_of og (record { by = by; name = name; task = t; tag = tag; kept = ks })
+    ≡ talk_of other (record { by = by; name = name; task = t; tag = tag; kept = ks })
+talk_whole og other by name (task.Script s rs cause) tag ks h = refl
+talk_whole og other by name (task.Single asked) tag ks h = absurd (false≢true h)
+
+kept_whole : (t : Task) (ks : Option (List Scripted)) (og : Option Grown) → is_whole t ≡ true → IsKept t ks og
+kept_whole (task.Script s rs cause) ks og h = tt
+kept_whole (task.Single asked) ks og h = absurd (false≢true h)
 
 far_whole : (t : Task) (since : ℕ) → is_whole t ≡ true → IsSoFar t None
     → IsSoFar t (Some (record { since = since; told = [] }))
@@ -163,13 +184,15 @@ heard_reopened {s} {u} {works} r l stamp whole b =
     let closed : grown_at s.growing stamp ≡ None = not_open (grown_at s.growing stamp)
     (sym (l.opened stamp) ∙ b.fresh) in
     let g : Grown = record { since = length s.closed; told = [] } in
-    let far : IsSoFar w.task None = subst (IsSoFar w.task) closed
-    (subst (λ o. AreSoFar o (grown_at s.growing stamp)) found.1 (r.so_far stamp)) in
+    let all : AreSoFar (Some w) (grown_at s.growing stamp) =
+    subst (λ o. AreSoFar o (grown_at s.growing stamp)) found.1 (r.so_far stamp) in
+    let far : IsSoFar w.task None = subst (IsSoFar w.task) closed all.0 in
     heard_silently r u works stamp (Some w) (Some g) b.start (omega (arith, b.given))
     (λ h. omega (arith, r.given stamp (ap is_some found.1), b.given))
-    (works_same stamp w works works found.1 (λ t. refl)) b.growing (far_whole w.task (length s.closed) found.2 far)
+    (works_same stamp w works works found.1 (λ t. refl)) b.growing
+    (far_whole w.task (length s.closed) found.2 far, kept_whole w.task w.kept (Some g) found.2)
     b.closed
-    (ap Some (talk_whole (Some g) (grown_at s.growing stamp) w.by w.name w.task w.tag found.2)
+    (ap Some (talk_whole (Some g) (grown_at s.growing stamp) w.by w.name w.task w.tag w.kept found.2)
     ∙ ap (option_map (talk_of (grown_at s.growing stamp))) (sym found.1))
 
 -- ---- a script goes on
@@ -197,22 +220,22 @@ heard_ran {s} {u} {works} {others} r l mid stamp script before replies cause at 
     ] in
     heard_silently r u others stamp (Some new) og run.goes.start (omega (arith, run.goes.given))
     (λ h. omega (arith, r.given stamp (ap is_some at.there), run.goes.given)) to grows
-    (ran_far script replies cause og run.told (sym (l.opened stamp) ∙ run.goes.opened)) run.goes.closed
+    (ran_far script replies cause og run.told run.plain (sym (l.opened stamp) ∙ run.goes.opened), tt) run.goes.closed
     (ap Some (same_script og (grown_at s.growing stamp) w script before replies cause at.task)
     ∙ ap (option_map (talk_of (grown_at s.growing stamp))) (sym at.there))
   where
     ran_far : (script : Scripted) (replies : List Reply) (cause : Option Cause) (o : Option Grown)
-        → ((g : Grown) → o ≡ Some g → g.told ≡ script_told script.1 replies cause) → is_some o ≡ true
-        → IsSoFar (task.Script script replies cause) o
-    ran_far script replies cause None told open_there = absurd (false≢true open_there)
-    ran_far script replies cause (Some g) told open_there = told g refl
+        → ((g : Grown) → o ≡ Some g → g.told ≡ script_told script.1 replies cause) → ArePlain replies
+        → is_some o ≡ true → IsSoFar (task.Script script replies cause) o
+    ran_far script replies cause None told plain open_there = absurd (false≢true open_there)
+    ran_far script replies cause (Some g) told plain open_there = (told g refl, plain)
 
     same_script : (og other : Option Grown) (w : Working) (script : Scripted) (before replies : List Reply)
         (cause : Option Cause) → w.task ≡ task.Script script before None
         → talk_of og (with_script script replies cause w) ≡ talk_of other w
     same_script og other w script before replies cause e =
         subst (λ t. talk_of og (with_script script replies cause w)
-        ≡ talk_of other (record { by = w.by; name = w.name; task = t; tag = w.tag })) (sym e) refl
+        ≡ talk_of other (record { by = w.by; name = w.name; task = t; tag = w.tag; kept = w.kept })) (sym e) refl
 
 -- ---- it dies
 
@@ -228,11 +251,13 @@ none_whole (task.Single asked) h = refl
 -- ---- it ends
 
 -- of its talk, such an end tells all that its transaction was told
-ended_as : (g : Grown) (by name : List ℕ) (t : Task) (tag : Option (List ℕ)) (is_kept : Bool) (e : Ended)
+ended_as : (g : Grown) (by name : List ℕ) (t : Task) (tag : Option (List ℕ)) (ks : Option (List Scripted))
+    (is_kept : Bool) (e : Ended)
     → IsSoFar t (Some g) → e.name ≡ name → e.since ≡ g.since → EndsAs t e.replies e.outcome is_kept
-    → IsEndOf (script_in t) (talk_of (Some g) (record { by = by; name = name; task = t; tag = tag })) e
-    × (closed_of (talk_of (Some g) (record { by = by; name = name; task = t; tag = tag })) e ≡ (g, is_kept))
-ended_as g by name (task.Script s rs cause) tag is_kept e far named since ends = (
+    → IsEndOf (script_in t) (talk_of (Some g) (record { by = by; name = name; task = t; tag = tag; kept = ks })) e
+    × (closed_of (talk_of (Some g) (record { by = by; name = name; task = t; tag = tag; kept = ks })) e
+    ≡ (g, is_kept))
+ended_as g by name (task.Script s rs cause) tag ks is_kept e far named since ends = (
   (named, ap is_some ends.0, subst (λ x. IsOutcome s.1 (or_none x) e.outcome) (sym ends.0) ends.1),
   ap (λ x. (
     record { since = e.since; told = script_told s.1 (or_none x) (cause_of e.outcome) },
@@ -240,17 +265,19 @@ ended_as g by name (task.Script s rs cause) tag is_kept e far named since ends =
   )) ends.0
       ∙ (ap (λ x. (record { since = e.since; told = answered_by s.1 rs ++ x }, is_committed e.outcome)) ends.2
       ∙ (ap (λ x. (record { since = x; told = script_told s.1 rs cause }, is_committed e.outcome)) since
-      ∙ (ap (λ x. (record { since = g.since; told = x }, is_committed e.outcome)) (sym far)
+      ∙ (ap (λ x. (record { since = g.since; told = x }, is_committed e.outcome)) (sym far.0)
       ∙ ap (λ x. (g, x)) ends.3))),
 )
-ended_as g by name (task.Single asked) tag is_kept e far named since ends =
+ended_as g by name (task.Single asked) tag ks is_kept e far named since ends =
     ((named, ends.0, since), ap (λ x. (g, x)) ends.1)
 
 far_there : {s : SessionState} {works : List (ℕ × Working)} {es : List Event} → AreHeard s works es → (stamp : ℕ)
     (w : Working) → work_at works stamp ≡ Some w → (g : Grown) → grown_at s.growing stamp ≡ Some g
     → IsSoFar w.task (Some g)
 far_there {s} r stamp w there g is =
-    subst (IsSoFar w.task) is (subst (λ o. AreSoFar o (grown_at s.growing stamp)) there (r.so_far stamp))
+    let all : AreSoFar (Some w) (grown_at s.growing stamp) =
+    subst (λ o. AreSoFar o (grown_at s.growing stamp)) there (r.so_far stamp) in
+    subst (IsSoFar w.task) is all.0
 
 module _ {s u : SessionState} {works others : List (ℕ × Working)} {log logged : Logged}
     (r : AreHeard s works log.events)
@@ -283,9 +310,31 @@ module _ {s u : SessionState} {works others : List (ℕ × Working)} {log logged
       → ((g : Grown) → grown_at s.growing stamp ≡ Some g → e.since ≡ g.since)
       → EndsAs w.task e.replies e.outcome is_kept → AreHeard u others logged.events
   heard_ended e what name since ends =
-      let parts = ended_as h.ended w.by w.name w.task w.tag is_kept e (far_there r stamp w there h.ended h.is_there)
+      let parts = ended_as h.ended w.by w.name w.task w.tag w.kept is_kept e (far_there r stamp w there h.ended h.is_there)
       name (since h.ended h.is_there) ends in
       over (told.Ended e) what parts.0 (ap (λ c. c ∷ []) parts.1) refl
+
+-- a script whose commit can't be noted is undone, and told so
+pub heard_undone : {s u : SessionState} {works others : List (ℕ × Working)} {log logged : Logged}
+    → AreHeard s works log.events → (stamp : ℕ) (w : Working) → work_at works stamp ≡ Some w
+    → WorksTo stamp None works others → IsForgotten stamp s u → (a : Answer) → arc_value a.hand ≡ w.by
+    → a.tag ≡ w.tag → IsSaid (Some stamp) a log logged → a.what ≡ told.Fault faults.CannotWrite
+    → is_whole_at (work_at works stamp) ≡ true → AreHeard u others logged.events
+heard_undone {s} {u} {works} {others} {log} r stamp w there left h a hand tag said what whole =
+    let og = grown_at s.growing stamp in
+    let k = talk_of og w in
+    subst (λ es. AreHeard u others es) (sym said.events)
+    (heard_event r u others stamp None None h.start (omega (arith, h.given)) (λ e. absurd (false≢true e)) left
+    h.growing tt
+    (Some k) (ap (option_map (talk_of og)) there)
+    (events.Says (Some stamp) a said.is_told) refl
+    (record { hand = hand; tag = tag; what = subst (λ x. IsFitWhat x k) (sym what) tt })
+    (h.closed ∙ (sym (append-nil s.closed) ∙ ap (λ x. s.closed ++ closed_by_what x k) (sym what)))
+    (ap (λ x. after_what x k) what ∙ gone_whole w.task k (subst (λ o. is_whole_at o ≡ true) there whole)))
+  where
+    gone_whole : (t : Task) (k : Talk) → is_whole t ≡ true → after_fault faults.CannotWrite (script_in t) k ≡ None
+    gone_whole (task.Script s rs cause) k h = refl
+    gone_whole (task.Single asked) k h = absurd (false≢true h)
 
 at_commit : (t : Task) → IsAtCommit t → EndsAs t (told_replies t) outcomes.Committed true
 at_commit (task.Script s rs None) h = (refl, h, refl, refl)
@@ -383,6 +432,10 @@ refused_here o command cause is goes =
     ap (λ x. refused_at x (Some cause)) is
     ∙ ap (λ b. if b then [] else (command, replies.Refused cause) ∷ []) goes
 
+plain_more : (rs : List Reply) (r : Reply) → ArePlain rs → is_refusal r ≡ false → ArePlain (rs ++ r ∷ [])
+plain_more [] r p h = (h, tt)
+plain_more (x ∷ rs) r p h = (p.0, plain_more rs r p.1 h)
+
 module _ {stamp : ℕ} {cs : List Command} {rs : List Reply} {s t u : SessionState} (a : RunsTo stamp cs rs None s t)
   where
     goes_on : (command : Command) (reply : Reply) → IsActed stamp command (acts.Replied reply) t u → GoesOn stamp s u
@@ -408,16 +461,19 @@ module _ {stamp : ℕ} {cs : List Command} {rs : List Reply} {s t u : SessionSta
           ∙ (ap (λ r. answered_by cs rs ++ (command, r) ∷ []) is
           ∙ (ap (λ l. answered_by cs rs ++ l) (sym (refused_here (slice_get cs (length rs)) command cause next goes))
           ∙ ap (λ l. script_told cs l (Some cause)) (sym same)));
+      plain = subst ArePlain (sym same) a.plain;
       others = others_now command reply h;
     }
 
     pub ran_replied : {now : List Reply} (command : Command) (reply : Reply) → now ≡ rs ++ reply ∷ []
+        → is_refusal reply ≡ false
         → IsActed stamp command (acts.Replied reply) t u → slice_get cs (length rs) ≡ Some command
         → RunsTo stamp cs now None s u
-    ran_replied {now} command reply same h next = record {
+    ran_replied {now} command reply same unrefused h next = record {
       goes = goes_on command reply h;
       told = λ g e. told_now command reply h g e
           ∙ (sym (one_reply cs rs command reply next)
           ∙ (sym (told_plainly cs (rs ++ reply ∷ [])) ∙ ap (λ l. script_told cs l None) (sym same)));
+      plain = subst ArePlain (sym same) (plain_more rs reply a.plain unrefused);
       others = others_now command reply h;
     }

@@ -13,8 +13,11 @@ use Rattle.city_live.specs.declared.ghosts.event.Event.{Event}
 use Rattle.city_live.specs.declared.ghosts.event.Event.TheVariants as events
 use Rattle.city_live.specs.Continuing.{Continues}
 use Rattle.city_live.specs.Heard.{model_of}
+use Rattle.city_live.specs.Noting.{Noted}
+use Rattle.city_live.specs.Replaying.{Notes}
 use Rattle.city_live.specs.Serving.{Served, Logged, Follows, IsSaid, told_by, told_in}
 use Rattle.city_live.proofs.Continued as continued
+use Rattle.city_live.proofs.Replayed.{stays, notes_then}
 
 pub told_both : (es fs : List Event) → told_in (es ++ fs) ≡ told_in es ++ told_in fs
 told_both [] fs = refl
@@ -27,6 +30,7 @@ same s = record {
   events = sym (append-nil s.events);
   answers = sym (append-nil s.answers);
   continues = continued.same s.session;
+  notes = stays refl;
 }
 
 pub then : {s t u : Served} → Follows s t → Follows t u → Follows s u
@@ -37,6 +41,7 @@ then {s} {t} {u} a b = record {
       ∙ (append_assoc s.answers (told_in a.more) (told_in b.more)
       ∙ ap (λ l. s.answers ++ l) (sym (told_both a.more b.more))));
   continues = continued.then a.continues b.continues;
+  notes = notes_then a.notes b.notes;
 }
 
 -- one event is noted behind those so far
@@ -46,19 +51,20 @@ one_more e a b c = c ∙ (b ∙ ap (λ l. l ++ e ∷ []) a)
 
 -- ---- what a method leaves, by its parts
 
-module _ {s : Served} {session after : SessionState} {log : Logged}
-    (is : record { session = session; events = log.events; answers = log.answers } ≡ s)
-    (goes : Continues session after) where
+module _ {s : Served} {session after : SessionState} {log : Logged} {before later : Option (List Noted)}
+    (is : record { session = session; events = log.events; answers = log.answers; noted = before } ≡ s)
+    (goes : Continues session after) (notes : Notes before later (committed session.core) (committed after.core))
+    where
   -- these events are noted, with the answers that they tell
   pub noting : (logged : Logged) (more : List Event) → logged.events ≡ log.events ++ more
       → logged.answers ≡ log.answers ++ told_in more
-      → Follows s (record { session = after; events = logged.events; answers = logged.answers })
+      → Follows s (record { session = after; events = logged.events; answers = logged.answers; noted = later })
   noting logged more events answers =
-      subst (λ v. Follows v (record { session = after; events = logged.events; answers = logged.answers })) is
-      (record { more = more; events = events; answers = answers; continues = goes })
+      subst (λ v. Follows v (record { session = after; events = logged.events; answers = logged.answers; noted = later })) is
+      (record { more = more; events = events; answers = answers; continues = goes; notes = notes })
 
   pub saying : (logged : Logged) (stamp : Option ℕ) (a : Answer) → IsSaid stamp a log logged
-      → Follows s (record { session = after; events = logged.events; answers = logged.answers })
+      → Follows s (record { session = after; events = logged.events; answers = logged.answers; noted = later })
   saying logged stamp a said =
       noting logged (events.Says stamp a said.is_told ∷ []) said.events
       (said.answers ∙ ap (λ l. log.answers ++ l) (sym (append-nil (told_by (events.Says stamp a said.is_told)))))
@@ -66,12 +72,12 @@ module _ {s : Served} {session after : SessionState} {log : Logged}
   -- an event that is no answer
   pub quietly : (logged : Logged) (e : Event) → told_by e ≡ [] → logged.events ≡ log.events ++ e ∷ []
       → logged.answers ≡ log.answers
-      → Follows s (record { session = after; events = logged.events; answers = logged.answers })
+      → Follows s (record { session = after; events = logged.events; answers = logged.answers; noted = later })
   quietly logged e none events answers =
       noting logged (e ∷ []) events
       (answers ∙ (sym (append-nil log.answers) ∙ ap (λ l. log.answers ++ l) (sym (ap (λ l. l ++ []) none))))
 
-  pub silently : Follows s (record { session = after; events = log.events; answers = log.answers })
+  pub silently : Follows s (record { session = after; events = log.events; answers = log.answers; noted = later })
   silently = noting log [] (sym (append-nil log.events)) (sym (append-nil log.answers))
 
 -- ---- what is seen

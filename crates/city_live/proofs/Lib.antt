@@ -2,5 +2,6 @@ pub mod Continued
 pub mod Finished
 pub mod Followed
 pub mod Hearing
+pub mod Replayed
 pub mod Saying
 pub mod Worked

@@ -1,9 +1,10 @@
 -- What is said of a work, kind by kind.
 use Rattle.std.specs.Prelude.{◌≡◌, ◌++◌, ◌∷◌, ℕ, List, [], Bool, true, false, Option, None, Some, length}
-use Rattle.std.specs.Prelude.{option_map, is_some, refl}
+use Rattle.std.specs.Prelude.{option_map, is_some, refl, not, slice_get}
 use Rattle.std.proofs.Common.{sym, ◌∙◌, ap, subst, arith}
 use Rattle.std.proofs.lemmas.Bool.{false≢true}
-use Rattle.std.proofs.lemmas.List.{append-nil}
+use Rattle.std.proofs.lemmas.List.{append-nil, append_assoc}
+use Rattle.std.proofs.lemmas.List.Elements.{filter-append}
 use Rattle.std.specs.Arc.{arc_value}
 use Rattle.std.specs.declared.sync.Arc.{Arc}
 use Rattle.std.specs.declared.alloc.Global.{Global}
@@ -11,17 +12,19 @@ use Rattle.city_model.specs.declared.command.Cause.{Cause}
 use Rattle.city_model.specs.declared.command.Command.{Command}
 use Rattle.city_model.specs.declared.command.Reply.{Reply}
 use Rattle.city_model.specs.declared.command.Reply.TheVariants as replies
+use Rattle.city_model.specs.Meaning.{is_refusal}
 use Rattle.city_model.specs.Runs.{Scripted}
 use Rattle.city_model.specs.Scripts.{is_end}
 use Rattle.city_model.specs.Standing.{Answered}
 use Rattle.city_session.specs.Acting.{GrowsTo, IsActed, told_after}
 use Rattle.city_session.specs.declared.acted.Acted.TheVariants as acts
-use Rattle.city_session.specs.Grown.{Grown, with_reply, unrefused}
+use Rattle.city_session.specs.Grown.{Grown, commands_in, with_reply, unrefused}
 use Rattle.city_session.specs.Live.{SessionState, grown_at}
 use Rattle.city_session.proofs.AsScripts.{one_more_refused}
 use Rattle.city_session.proofs.Recorded.{grows_same, at_own}
 use Rattle.city_live.specs.declared.answer.Answer.{Answer}
 use Rattle.city_live.specs.declared.answer.Fault.{Fault}
+use Rattle.city_live.specs.declared.answer.Fault.TheVariants as faults
 use Rattle.city_live.specs.declared.answer.What.{What}
 use Rattle.city_live.specs.declared.answer.What.TheVariants as told
 use Rattle.city_live.specs.declared.ghosts.event.Event.{Event}
@@ -29,24 +32,25 @@ use Rattle.city_live.specs.declared.ghosts.event.Event.TheVariants as events
 use Rattle.city_live.specs.declared.task.Task.{Task}
 use Rattle.city_live.specs.declared.task.Task.TheVariants as task
 use Rattle.city_live.specs.Heard.{Talk, IsFitWhat, after_what, closed_by_what, answered_talk, talk_of, AreSoFar}
-use Rattle.city_live.specs.Heard.{IsSoFar}
+use Rattle.city_live.specs.Heard.{IsSoFar, IsKept, after_fault, IsFitFault}
+use Rattle.city_live.specs.Noting.{firsts, or_no_command}
 use Rattle.city_live.specs.Heard.{AreHeard, with_one, asked_in, script_in, since_so_far, since_of, told_so_far}
 use Rattle.city_live.specs.Heard.{told_of, asked_talk}
 use Rattle.city_live.specs.Running.{IsWhatOf, IsWhatBehind}
 use Rattle.city_live.specs.Serving.{Logged, IsSaid}
 use Rattle.city_live.specs.Works.{Working, work_at, WorksTo, IsWorkOf, IsAskedAt, answered, with_asked, tag_at, tag_of}
-use Rattle.city_live.specs.Works.{asking, requested}
+use Rattle.city_live.specs.Works.{asking, requested, with_done, replied, one_kept, asked_script}
 use Rattle.city_live.specs.Works.{is_whole, next_of, first_of}
 use Rattle.city_live.proofs.Hearing.{heard_event}
 
 -- ---- a talk whose request is answered
 
-answered_as : (og : Option Grown) (by name : List ℕ) (t : Task) (tag : Option (List ℕ))
-    → answered_talk [] (talk_of og (record { by = by; name = name; task = t; tag = tag }))
-    ≡ talk_of og (answered (record { by = by; name = name; task = t; tag = tag }))
-answered_as og by name (task.Script s rs cause) tag = refl
-answered_as None by name (task.Single asked) tag = refl
-answered_as (Some g) by name (task.Single asked) tag =
+answered_as : (og : Option Grown) (by name : List ℕ) (t : Task) (tag : Option (List ℕ)) (ks : Option (List Scripted))
+    → answered_talk [] (talk_of og (record { by = by; name = name; task = t; tag = tag; kept = ks }))
+    ≡ talk_of og (answered (record { by = by; name = name; task = t; tag = tag; kept = ks }))
+answered_as og by name (task.Script s rs cause) tag ks = refl
+answered_as None by name (task.Single asked) tag ks = refl
+answered_as (Some g) by name (task.Single asked) tag ks =
     ap (λ (l : List Answered). record {
       by = by;
       tag = None;
@@ -59,15 +63,22 @@ answered_as (Some g) by name (task.Single asked) tag =
     (append-nil g.told)
 
 pub answered_so : (og : Option Grown) (w : Working) → answered_talk [] (talk_of og w) ≡ talk_of og (answered w)
-answered_so og w = answered_as og w.by w.name w.task w.tag
+answered_so og w = answered_as og w.by w.name w.task w.tag w.kept
 
 so_far_task : (t : Task) (og : Option Grown) → IsSoFar t og → IsSoFar (with_asked None t) og
 so_far_task (task.Script s rs cause) og h = h
 so_far_task (task.Single asked) None h = h
 so_far_task (task.Single asked) (Some g) h = tt
 
-pub so_far_answered : (w : Working) (og : Option Grown) → IsSoFar w.task og → AreSoFar (Some (answered w)) og
-so_far_answered w og h = so_far_task w.task og h
+pub kept_task : (t : Task) (asked : Option Scripted) (ks : Option (List Scripted)) (og : Option Grown) → IsKept t ks og
+    → IsKept (with_asked asked t) ks og
+kept_task (task.Script s rs cause) asked ks og h = h
+kept_task (task.Single before) asked None og h = tt
+kept_task (task.Single before) asked (Some l) None h = tt
+kept_task (task.Single before) asked (Some l) (Some g) h = h
+
+so_far_answered : (w : Working) (og : Option Grown) → AreSoFar (Some w) og → AreSoFar (Some (answered w)) og
+so_far_answered w og h = (so_far_task w.task og h.0, kept_task w.task None w.kept og h.1)
 
 -- ---- an answer that leaves the session as it is
 
@@ -82,7 +93,7 @@ module _ {s : SessionState} {works others : List (ℕ × Working)} {es : List Ev
       → AreHeard s others (es ++ events.Says (Some stamp) a is_told ∷ [])
   heard_says fit none effect =
       let og = grown_at s.growing stamp in
-      let far : IsSoFar w.task og = subst (λ o. AreSoFar o og) there (r.so_far stamp) in
+      let far : AreSoFar (Some w) og = subst (λ o. AreSoFar o og) there (r.so_far stamp) in
       heard_event r s others stamp (Some (answered w)) og refl (omega arith) (λ h. r.given stamp (ap is_some there))
       (subst (λ o. WorksTo stamp (option_map answered o) works others) there to)
       (grows_same stamp og s.growing refl) (so_far_answered w og far)
@@ -93,13 +104,15 @@ module _ {s : SessionState} {works others : List (ℕ × Working)} {es : List Ev
 
 -- ---- a reply to a command
 
-replied_as : (g : Grown) (by name : List ℕ) (t : Task) (tag : Option (List ℕ)) (command : Command) (reply : Reply)
-    → is_whole t ≡ false → next_of t ≡ Some command
+replied_as : (g : Grown) (by name : List ℕ) (t : Task) (tag : Option (List ℕ)) (before ks : Option (List Scripted))
+    (command : Command) (reply : Reply) → is_whole t ≡ false → next_of t ≡ Some command
     → answered_talk (with_one (asked_in t) reply) (talk_of (Some g)
-    (record { by = by; name = name; task = t; tag = tag }))
-    ≡ talk_of (Some (with_reply command reply g)) (answered (record { by = by; name = name; task = t; tag = tag }))
-replied_as g by name (task.Script s rs cause) tag command reply single next = absurd (false≢true (sym single))
-replied_as g by name (task.Single asked) tag command reply single next =
+    (record { by = by; name = name; task = t; tag = tag; kept = before }))
+    ≡ talk_of (Some (with_reply command reply g))
+    (record { by = by; name = name; task = with_asked None t; tag = None; kept = ks })
+replied_as g by name (task.Script s rs cause) tag before ks command reply single next =
+    absurd (false≢true (sym single))
+replied_as g by name (task.Single asked) tag before ks command reply single next =
     ap (λ o. record {
       by = by;
       tag = None;
@@ -111,11 +124,67 @@ replied_as g by name (task.Single asked) tag command reply single next =
     })
     next
 
-replied_so : (g : Grown) (w : Working) (command : Command) (reply : Reply) → is_whole w.task ≡ false
+replied_so : (g : Grown) (w : Working) (command : Command) (reply : Reply) (b : Bool) → is_whole w.task ≡ false
     → next_of w.task ≡ Some command
     → answered_talk (with_one (asked_in w.task) reply) (talk_of (Some g) w)
-    ≡ talk_of (Some (with_reply command reply g)) (answered w)
-replied_so g w command reply single next = replied_as g w.by w.name w.task w.tag command reply single next
+    ≡ talk_of (Some (with_reply command reply g)) (replied b w)
+replied_so g w command reply true single next =
+    replied_as g w.by w.name w.task w.tag w.kept (with_done w).kept command reply single next
+replied_so g w command reply false single next =
+    replied_as g w.by w.name w.task w.tag w.kept w.kept command reply single next
+
+-- ---- what is kept of it for a journal
+
+firsts_more : (ks : List Scripted) (s : Scripted) (c : Command) → slice_get s.1 0 ≡ Some c
+    → firsts (ks ++ s ∷ []) ≡ firsts ks ++ c ∷ []
+firsts_more [] s c e = ap (λ o. or_no_command o ++ []) e
+firsts_more (k ∷ ks) s c e =
+    ap (λ l. or_no_command (slice_get k.1 0) ++ l) (firsts_more ks s c e)
+    ∙ sym (append_assoc (or_no_command (slice_get k.1 0)) (firsts ks) (c ∷ []))
+
+commands_both : (xs ys : List Answered) → commands_in (xs ++ ys) ≡ commands_in xs ++ commands_in ys
+commands_both [] ys = refl
+commands_both (x ∷ xs) ys = ap (λ l. x.0 ∷ l) (commands_both xs ys)
+
+unrefused_done : (told : List Answered) (c : Command) (r : Reply) → is_refusal r ≡ false
+    → unrefused (told ++ (c, r) ∷ []) ≡ unrefused told ++ (c, r) ∷ []
+unrefused_done told c r h = rw (filter-append, h) refl
+
+unrefused_not : (told : List Answered) (c : Command) (r : Reply) → is_refusal r ≡ true
+    → unrefused (told ++ (c, r) ∷ []) ≡ unrefused told
+unrefused_not told c r h = rw (filter-append, h) (append-nil (unrefused told))
+
+kept_done : (t : Task) (kept : Option (List Scripted)) (g : Grown) (c : Command) (r : Reply) → is_refusal r ≡ false
+    → next_of t ≡ Some c → IsKept t kept (Some g)
+    → IsKept (with_asked None t) (option_map (λ ks. ks ++ one_kept (asked_script t)) kept) (Some (with_reply c r g))
+kept_done (task.Script s rs cause) kept g c r h next is = tt
+kept_done (task.Single asked) None g c r h next is = tt
+kept_done (task.Single None) (Some ks) g c r h next is = absurd (cc)
+kept_done (task.Single (Some s)) (Some ks) g c r h next is =
+    firsts_more ks s c next ∙ (ap (λ l. l ++ c ∷ []) is ∙ sym (ap commands_in (unrefused_done g.told c r h)
+    ∙ commands_both (unrefused g.told) ((c, r) ∷ [])))
+
+kept_refused : (t : Task) (kept : Option (List Scripted)) (g : Grown) (c : Command) (r : Reply) → is_refusal r ≡ true
+    → IsKept t kept (Some g) → IsKept (with_asked None t) kept (Some (with_reply c r g))
+kept_refused (task.Script s rs cause) kept g c r h is = tt
+kept_refused (task.Single asked) None g c r h is = tt
+kept_refused (task.Single asked) (Some ks) g c r h is = is ∙ ap commands_in (sym (unrefused_not g.told c r h))
+
+not_flips : (a b : Bool) → b ≡ not a → not b ≡ a
+not_flips true b e = ap not e
+not_flips false b e = ap not e
+
+kept_replied : (w : Working) (g : Grown) (c : Command) (r : Reply) (b : Bool) → b ≡ not (is_refusal r)
+    → next_of w.task ≡ Some c → IsKept w.task w.kept (Some g)
+    → IsKept (with_asked None w.task) (replied b w).kept (Some (with_reply c r g))
+kept_replied w g c r true e next is =
+    kept_done w.task w.kept g c r (sym (not_flips (is_refusal r) true e)) next is
+kept_replied w g c r false e next is =
+    kept_refused w.task w.kept g c r (sym (not_flips (is_refusal r) false e)) is
+
+task_replied : (b : Bool) (w : Working) → (replied b w).task ≡ with_asked None w.task
+task_replied true w = refl
+task_replied false w = refl
 
 -- what a hand is told of a reply
 what_is : (k : Talk) (place : ℕ) (reply : Reply) (what : What) → IsWhatOf place reply what
@@ -179,24 +248,31 @@ pub heard_replied : {s u : SessionState} {works others : List (ℕ × Working)} 
     → AreHeard s works log.events → (stamp : ℕ) (by : List ℕ) (command : Command) → IsAskedAt works stamp by command
     → (place : ℕ) → ((g : Grown) → grown_at s.growing stamp ≡ Some g → place ≡ length (unrefused g.told))
     → (reply : Reply) → IsActed stamp command (acts.Replied reply) s u → (a : Answer) → arc_value a.hand ≡ by
-    → WorksTo stamp (option_map answered (work_at works stamp)) works others → a.tag ≡ tag_at works stamp
+    → (is_done : Bool) → is_done ≡ not (is_refusal reply)
+    → WorksTo stamp (option_map (replied is_done) (work_at works stamp)) works others → a.tag ≡ tag_at works stamp
     → IsWhatOf place reply a.what → IsSaid (Some stamp) a log logged → AreHeard u others logged.events
-heard_replied {s} {u} {works} {others} {log} {logged} r stamp by command asked place at reply acted a hand to tag
-    what said =
+heard_replied {s} {u} {works} {others} {log} {logged} r stamp by command asked place at reply acted a hand is_done done
+    to tag what said =
     let w = asked.work in
-    let far : IsSoFar w.task (grown_at s.growing stamp) = subst (λ o. AreSoFar o (grown_at s.growing stamp))
+    let far : AreSoFar (Some w) (grown_at s.growing stamp) = subst (λ o. AreSoFar o (grown_at s.growing stamp))
     asked.there (r.so_far stamp) in
-    let grown = open_single w.task (grown_at s.growing stamp) asked.single far in
+    let grown = open_single w.task (grown_at s.growing stamp) asked.single far.0 in
     let g = grown.0 in
     let k = talk_of (Some g) w in
     let after : Grown = with_reply command reply g in
     subst (λ es. AreHeard u others es) (sym said.events)
-    (heard_event r u others stamp (Some (answered w)) (Some after) acted.start (omega (arith, acted.given))
+    (heard_event r u others stamp (Some (replied is_done w)) (Some after) acted.start (omega (arith, acted.given))
     (λ h. omega (arith, r.given stamp (ap is_some asked.there), acted.given))
-    (subst (λ o. WorksTo stamp (option_map answered o) works others) asked.there to)
+    (subst (λ o. WorksTo stamp (option_map (replied is_done) o) works others) asked.there to)
     (subst (λ o. GrowsTo stamp (option_map (told_after command (acts.Replied reply)) o) s.growing u.growing)
     grown.1 acted.growing)
-    (far_single (with_asked None w.task) after (whole_answered w.task asked.single))
+    (
+      subst (λ t. IsSoFar t (Some after)) (sym (task_replied is_done w))
+          (far_single (with_asked None w.task) after (whole_answered w.task asked.single)),
+      subst (λ t. IsKept t (replied is_done w).kept (Some after)) (sym (task_replied is_done w))
+          (kept_replied w g command reply is_done done asked.next
+          (subst (λ o. IsKept w.task w.kept o) grown.1 far.1)),
+    )
     (Some k) (ap (option_map (talk_of (grown_at s.growing stamp))) asked.there
     ∙ ap (λ o. Some (talk_of o w)) grown.1)
     (events.Says (Some stamp) a said.is_told) refl
@@ -208,9 +284,19 @@ heard_replied {s} {u} {works} {others} {log} {logged} r stamp by command asked p
           (at g grown.1 ∙ ap (λ l. length (unrefused l)) (sym (told_single w.task g.told asked.single)));
     })
     (acted.closed ∙ (sym (append-nil s.closed) ∙ ap (λ l. s.closed ++ l) (sym (none_is k place reply a.what what))))
-    (what_is k place reply a.what what ∙ ap Some (replied_so g w command reply asked.single asked.next)))
+    (what_is k place reply a.what what ∙ ap Some (replied_so g w command reply is_done asked.single asked.next)))
 
 -- ---- answers to a hand's request
+
+fit_fault : (f : Fault) (o : Option (List Command)) → o ≡ None → IsFitFault f o
+fit_fault faults.CannotWrite o e = tt
+fit_fault f o e = e
+
+goes_fault : (f : Fault) (o : Option (List Command)) (k : Talk) → o ≡ None
+    → after_fault f o k ≡ Some (answered_talk [] k)
+goes_fault faults.CannotWrite None k e = refl
+goes_fault faults.CannotWrite (Some cs) k e = absurd (cc)
+goes_fault f o k e = refl
 
 module _ {s : SessionState} {works others : List (ℕ × Working)} {log logged : Logged} (r : AreHeard s works log.events)
     (stamp : ℕ) (a : Answer) (to : WorksTo stamp (option_map answered (work_at works stamp)) works others)
@@ -243,7 +329,9 @@ module _ {s : SessionState} {works others : List (ℕ × Working)} {log logged :
 
   pub heard_fault : (f : Fault) → IsWorkOf works stamp (arc_value a.hand) (λ t. is_whole t ≡ false)
       → a.what ≡ told.Fault f → AreHeard s others logged.events
-  heard_fault f o is = plainly o.work o.there (sym o.hand) (told.Fault f) is (script_none o.work.task o.so) refl refl
+  heard_fault f o is =
+      plainly o.work o.there (sym o.hand) (told.Fault f) is (fit_fault f _ (script_none o.work.task o.so)) refl
+      (goes_fault f _ _ (script_none o.work.task o.so))
 
   pub heard_begun : (since : ℕ) (g : Grown) → grown_at s.growing stamp ≡ Some g → since ≡ g.since
       → IsWorkOf works stamp (arc_value a.hand) (λ t. t ≡ task.Single None) → a.what ≡ told.Began since
@@ -293,16 +381,19 @@ module _ {s : SessionState} {works others : List (ℕ × Working)} {es next : Li
   heard_ask script o goes to noted =
       let og = grown_at s.growing stamp in
       let w = o.work in
-      let far : IsSoFar (task.Single None) og = subst (λ t. IsSoFar t og) o.so
-      (subst (λ x. AreSoFar x og) o.there (r.so_far stamp)) in
+      let all : AreSoFar (Some w) og = subst (λ x. AreSoFar x og) o.there (r.so_far stamp) in
+      let far : IsSoFar (task.Single None) og = subst (λ t. IsSoFar t og) o.so all.0 in
       let grown = open_single (task.Single None) og refl far in
       subst (λ l. AreHeard s others l) (sym noted)
       (heard_event r s others stamp (Some (asking script tag w)) og refl (omega arith)
       (λ h. r.given stamp (ap is_some o.there))
       (subst (λ x. WorksTo stamp (option_map (asking script tag) x) works others) o.there to)
       (grows_same stamp og s.growing refl)
-      (subst (λ t. IsSoFar (with_asked (Some script) t) og) (sym o.so)
-      (subst (λ x. IsSoFar (task.Single (Some script)) x) (sym grown.1) tt))
+      (
+        subst (λ t. IsSoFar (with_asked (Some script) t) og) (sym o.so)
+            (subst (λ x. IsSoFar (task.Single (Some script)) x) (sym grown.1) tt),
+        kept_task w.task (Some script) w.kept og all.1,
+      )
       (Some (talk_of og w)) (ap (option_map (talk_of og)) o.there)
       (events.Asks stamp by tag script) refl
       (record {
@@ -313,6 +404,7 @@ module _ {s : SessionState} {works others : List (ℕ × Working)} {es next : Li
       })
       (sym (append-nil s.closed))
       (subst (λ t. Some (asked_talk tag script (talk_of og
-      (record { by = w.by; name = w.name; task = t; tag = w.tag })))
-      ≡ Some (talk_of og (asking script tag (record { by = w.by; name = w.name; task = t; tag = w.tag }))))
+      (record { by = w.by; name = w.name; task = t; tag = w.tag; kept = w.kept })))
+      ≡ Some (talk_of og (asking script tag
+      (record { by = w.by; name = w.name; task = t; tag = w.tag; kept = w.kept }))))
       (sym o.so) refl))

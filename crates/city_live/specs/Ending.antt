@@ -35,10 +35,16 @@ pub record IsAllowed (stamp : ℕ) (changed : Option (Arc Changed Global)) (s : 
   pub lawful : HasNoOrphan (view s.core stamp)
   pub leads : Leads s stamp changed
 
-abbrev pub IsReady : ℕ → Preparing → SessionState → Type 0
-IsReady stamp (preparing.Ready changed version) s = IsAllowed stamp changed s
-IsReady stamp (preparing.Refused cause) s = Unit {0}
-IsReady stamp preparing.NoMemory s = Unit {0}
+-- A commit that leaves the version as it is wrote nothing.
+abbrev pub IsCounted : ℕ → ℕ → ℕ → SessionState → Type 0
+IsCounted stamp before version s = version ≡ before → view s.core stamp ≡ committed s.core
+
+-- what came of the preparing of a commit behind this version
+abbrev pub IsReady : ℕ → ℕ → Preparing → SessionState → Type 0
+IsReady stamp before (preparing.Ready changed version) s =
+    IsAllowed stamp changed s × IsCounted stamp before version s
+IsReady stamp before (preparing.Refused cause) s = Unit {0}
+IsReady stamp before preparing.NoMemory s = Unit {0}
 
 -- ---- what is told of it
 

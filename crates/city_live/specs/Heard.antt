@@ -14,18 +14,21 @@ use Rattle.city_model.specs.Meaning.{is_refusal}
 use Rattle.city_model.specs.Runs.{Scripted, after_change, model_after}
 use Rattle.city_model.specs.Scripts.{is_end}
 use Rattle.city_model.specs.Standing.{Answered}
-use Rattle.city_session.specs.Grown.{Grown, Closed, unrefused, scripts_of, ends_of}
+use Rattle.city_session.specs.Grown.{Grown, Closed, commands_in, unrefused, scripts_of, ends_of}
 use Rattle.city_session.specs.Live.{SessionState, grown_at}
 use Rattle.city_live.specs.declared.answer.Answer.{Answer}
 use Rattle.city_live.specs.declared.answer.Changed.{Changed}
 use Rattle.city_live.specs.declared.answer.Ended.{Ended}
+use Rattle.city_live.specs.declared.answer.Fault.{Fault}
+use Rattle.city_live.specs.declared.answer.Fault.TheVariants as faults
 use Rattle.city_live.specs.declared.answer.What.{What}
 use Rattle.city_live.specs.declared.answer.What.TheVariants as told
 use Rattle.city_live.specs.declared.ghosts.event.Event.{Event}
 use Rattle.city_live.specs.declared.ghosts.event.Event.TheVariants as events
 use Rattle.city_live.specs.declared.task.Task.{Task}
 use Rattle.city_live.specs.declared.task.Task.TheVariants as task
-use Rattle.city_live.specs.Works.{Working, first_of, work_at}
+use Rattle.city_live.specs.Noting.{firsts}
+use Rattle.city_live.specs.Works.{Working, first_of, work_at, IsFresh}
 
 -- ---- what a hand heard of its script or transaction
 
@@ -167,12 +170,22 @@ answered_talk more k = record {
   asked = None;
 }
 
+-- a script whose commit the journal can't note is over, and no end; all else goes on
+abbrev pub after_fault : Fault → Option (List Command) → Talk → Option Talk
+after_fault faults.CannotWrite (Some cs) k = None
+after_fault f o k = Some (answered_talk [] k)
+
+abbrev pub IsFitFault : Fault → Option (List Command) → Type 0
+IsFitFault faults.CannotWrite o = Unit {0}
+IsFitFault f o = o ≡ None
+
 abbrev pub after_what : What → Talk → Option Talk
 after_what (told.Reply r) k = Some (answered_talk (with_one k.asked r) k)
 after_what (told.Refused place cause) k = Some (answered_talk (with_one k.asked (replies.Refused cause)) k)
 after_what (told.Waits b) k = Some k
 after_what (told.Died b) k = None
 after_what (told.Ended e) k = None
+after_what (told.Fault f) k = after_fault f k.script k
 after_what w k = Some (answered_talk [] k)
 
 abbrev pub closed_by_what : What → Talk → List Closed
@@ -189,7 +202,7 @@ IsFitWhat (told.Waits b) k = Unit {0}
 IsFitWhat (told.Died b) k = k.script ≡ None
 IsFitWhat (told.Ended e) k = IsEndOf k.script k e
 IsFitWhat told.Cancelled k = Unit {0}
-IsFitWhat (told.Fault f) k = k.script ≡ None
+IsFitWhat (told.Fault f) k = IsFitFault f k.script
 IsFitWhat w k = ⊥
 
 -- ---- the effect of an event on the talk of its stamp, if so many have ended before
@@ -213,11 +226,6 @@ closed_by (events.Asks t hand tag s) o = []
 closed_by (events.Requests t hand tag) o = []
 closed_by (events.Says t a is_told) None = []
 closed_by (events.Says t a is_told) (Some k) = closed_by_what a.what k
-
--- a script with no reply yet, or a transaction that is asked for nothing yet
-abbrev pub IsFresh : Task → Type 0
-IsFresh (task.Script s rs cause) = (rs ≡ []) × (cause ≡ None)
-IsFresh (task.Single asked) = asked ≡ None
 
 -- the hand's transaction that waits for no command
 pub record IsIdle (by : List ℕ) (s : Scripted) (k : Talk) : Type 0 where
@@ -334,16 +342,26 @@ talk_of o w = record {
   asked = asked_in w.task;
 }
 
+-- none of the replies is a refusal
+abbrev pub ArePlain : List Reply → Type 0
+ArePlain [] = Unit {0}
+ArePlain (r ∷ rs) = (is_refusal r ≡ false) × ArePlain rs
+
 -- a script's replies are those of its commands in its open transaction, and a transaction is open
 abbrev pub IsSoFar : Task → Option Grown → Type 0
 IsSoFar (task.Script s rs cause) None = (rs ≡ []) × (cause ≡ None)
-IsSoFar (task.Script s rs cause) (Some g) = g.told ≡ script_told s.1 rs cause
+IsSoFar (task.Script s rs cause) (Some g) = (g.told ≡ script_told s.1 rs cause) × ArePlain rs
 IsSoFar (task.Single asked) None = ⊥
 IsSoFar (task.Single asked) (Some g) = Unit {0}
 
+-- a transaction keeps for a journal what it was told, but for refused commands
+abbrev pub IsKept : Task → Option (List Scripted) → Option Grown → Type 0
+IsKept (task.Single asked) (Some ks) (Some g) = firsts ks ≡ commands_in (unrefused g.told)
+IsKept t ks o = Unit {0}
+
 abbrev pub AreSoFar : Option Working → Option Grown → Type 0
 AreSoFar None o = Unit {0}
-AreSoFar (Some w) o = IsSoFar w.task o
+AreSoFar (Some w) o = IsSoFar w.task o × IsKept w.task w.kept o
 
 -- Each event fits those before it; what was told of all that is over is what has ended in the session, in its order;
 -- and what was told of each work is what its open transaction was told.

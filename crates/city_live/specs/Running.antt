@@ -10,7 +10,7 @@ use Rattle.city_session.specs.Live.{SessionState, grown_at}
 use Rattle.city_live.specs.declared.answer.What.{What}
 use Rattle.city_live.specs.declared.answer.What.TheVariants as told
 use Rattle.city_live.specs.Continuing.{GoesOn}
-use Rattle.city_live.specs.Heard.{script_told}
+use Rattle.city_live.specs.Heard.{script_told, ArePlain}
 
 -- The open transaction was told these replies to its commands, and why the next was refused, if it was; the other
 -- transactions are as before.
@@ -18,6 +18,7 @@ pub record RunsTo (stamp : ℕ) (cs : List Command) (rs : List Reply) (cause : O
     : Type 0 where
   pub goes : GoesOn stamp s u
   pub told : (g : Grown) → grown_at u.growing stamp ≡ Some g → g.told ≡ script_told cs rs cause
+  pub plain : ArePlain rs
   pub others : (t : ℕ) → (stamp == t) ≡ false → grown_at u.growing t ≡ grown_at s.growing t
 
 -- A transaction is begun, under the kept stamp or under a new one.

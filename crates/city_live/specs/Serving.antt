@@ -1,22 +1,27 @@
 -- A session, and what is said.
 use Rattle.std.specs.Prelude.{◌≡◌, ◌++◌, ℕ, List, [], ◌∷◌, Bool, Option, Some, None, flat_map}
 use Rattle.std.specs.Prelude.{if◌then◌else◌}
+use Rattle.city_txn.specs.CoreState.{committed}
 use Rattle.city_session.specs.Live.{SessionState, IsLive, grown_at}
 use Rattle.city_live.specs.declared.answer.Answer.{Answer}
 use Rattle.city_live.specs.declared.ghosts.event.Event.{Event}
 use Rattle.city_live.specs.declared.ghosts.event.Event.TheVariants as events
 use Rattle.city_live.specs.Continuing.{Continues}
 use Rattle.city_live.specs.Heard.{Talk, heard, AreFit}
+use Rattle.city_live.specs.Noting.{Noted}
+use Rattle.city_live.specs.Replaying.{Notes}
 
 -- the events so far, and the answers that aren't given out yet
 pub record Logged : Type 0 where
   pub events : List Event
   pub answers : List Answer
 
+-- with what the journal has noted, if contracts see it
 pub record Served : Type 0 where
   pub session : SessionState
   pub events : List Event
   pub answers : List Answer
+  pub noted : Option (List Noted)
 
 -- the answers that are told
 abbrev pub told_by : Event → List Answer
@@ -34,12 +39,13 @@ pub record IsSaid (stamp : Option ℕ) (answer : Answer) (s u : Logged) : Type 0
   pub events : u.events ≡ s.events ++ events.Says stamp answer is_told ∷ []
   pub answers : u.answers ≡ s.answers ++ (if is_told then answer ∷ [] else [])
 
--- More is said, and the session goes on.
+-- More is said, the session goes on, and what the journal notes meanwhile leads to its city.
 pub record Follows (s u : Served) : Type 0 where
   pub more : List Event
   pub events : u.events ≡ s.events ++ more
   pub answers : u.answers ≡ s.answers ++ told_in more
   pub continues : Continues s.session u.session
+  pub notes : Notes s.noted u.noted (committed s.session.core) (committed u.session.core)
 
 -- What has ended is a serial history, and each was told what it would have been told there (IsLive); each event fits
 -- those before it; and what was told of all that is over is what has ended, in its order. What was told of a
@@ -52,10 +58,11 @@ pub record IsServed (s : Served) : Type 0 where
       → grown_at s.session.growing t ≡ Some (record { since = k.since; told = k.told })
 
 -- What came of a request: these answers are given out, what was said and told meanwhile and not given out before, and
--- the session goes on.
+-- the session goes on. What the journal has noted meanwhile, run on the city before, gives the city now.
 pub record IsHandled (answers : List Answer) (s u : Served) : Type 0 where
   pub more : List Event
   pub events : u.events ≡ s.events ++ more
   pub told : answers ≡ s.answers ++ told_in more
   pub given : u.answers ≡ []
   pub continues : Continues s.session u.session
+  pub notes : Notes s.noted u.noted (committed s.session.core) (committed u.session.core)

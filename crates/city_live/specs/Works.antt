@@ -1,6 +1,7 @@
 -- The works of hands, as contracts see them.
-use Rattle.std.specs.Prelude.{◌≡◌, ◌==◌, ℕ, List, [], Bool, true, false, Option, None, Some, length}
-use Rattle.std.specs.Prelude.{if◌then◌else◌, slice_get}
+use Rattle.std.specs.Prelude.{◌≡◌, ◌==◌, ◌<◌, ◌++◌, ℕ, List, [], ◌∷◌, Bool, true, false, Option, None, Some, length}
+use Rattle.std.specs.Prelude.{if◌then◌else◌, slice_get, option_map, vec_len, vec_capacity}
+use Rattle.std.specs.Global.{Vec}
 use Rattle.std.specs.Map.{lookup}
 use Rattle.std.specs.Ordering.{nat_cmp}
 use Rattle.std.specs.BTreeMap.{is_at}
@@ -9,15 +10,23 @@ use Rattle.city_model.specs.declared.command.Command.{Command}
 use Rattle.city_model.specs.declared.command.Command.TheVariants.{Commit}
 use Rattle.city_model.specs.declared.command.Reply.{Reply}
 use Rattle.city_model.specs.Runs.{Scripted}
+use Rattle.city_live.specs.Noting.{firsts}
 use Rattle.city_live.specs.declared.task.Task.{Task}
 use Rattle.city_live.specs.declared.task.Task.TheVariants as task
 
--- a script or a transaction: its hand, its name, its commands, and the tag of the unanswered request
+-- a script or a transaction: its hand, its name, its commands, the tag of the unanswered request, and, if it keeps the
+-- commands of a transaction for a journal, a script for each that was done, the first of it
 pub record Working : Type 0 where
   pub by : List ℕ
   pub name : List ℕ
   pub task : Task
   pub tag : Option (List ℕ)
+  pub kept : Option (List Scripted)
+
+-- a script with no reply yet, or a transaction that is asked for nothing yet
+abbrev pub IsFresh : Task → Type 0
+IsFresh (task.Script s rs cause) = (rs ≡ []) × (cause ≡ None)
+IsFresh (task.Single asked) = asked ≡ None
 
 abbrev pub is_whole : Task → Bool
 is_whole (task.Script s rs c) = true
@@ -58,16 +67,39 @@ from_first (task.Single asked) = task.Single asked
 -- ---- the changes of a work
 
 abbrev pub asking : Scripted → Option (List ℕ) → Working → Working
-asking s tag w = record { by = w.by; name = w.name; task = with_asked (Some s) w.task; tag = tag }
+asking s tag w = record { by = w.by; name = w.name; task = with_asked (Some s) w.task; tag = tag; kept = w.kept }
 
 abbrev pub requested : Option (List ℕ) → Working → Working
-requested tag w = record { by = w.by; name = w.name; task = w.task; tag = tag }
+requested tag w = record { by = w.by; name = w.name; task = w.task; tag = tag; kept = w.kept }
 
 abbrev pub answered : Working → Working
-answered w = record { by = w.by; name = w.name; task = with_asked None w.task; tag = None }
+answered w = record { by = w.by; name = w.name; task = with_asked None w.task; tag = None; kept = w.kept }
+
+abbrev pub one_kept : Option Scripted → List Scripted
+one_kept None = []
+one_kept (Some s) = s ∷ []
+
+abbrev pub asked_script : Task → Option Scripted
+asked_script (task.Script s rs c) = None
+asked_script (task.Single asked) = asked
+
+-- the one command was done
+abbrev pub with_done : Working → Working
+with_done w = record {
+  by = w.by;
+  name = w.name;
+  task = with_asked None w.task;
+  tag = None;
+  kept = option_map (λ ks. ks ++ one_kept (asked_script w.task)) w.kept;
+}
+
+-- the one command is replied to: it was done, or refused
+abbrev pub replied : Bool → Working → Working
+replied true w = with_done w
+replied false w = answered w
 
 abbrev pub without_script : Working → Working
-without_script w = record { by = w.by; name = w.name; task = task.Single None; tag = w.tag }
+without_script w = record { by = w.by; name = w.name; task = task.Single None; tag = w.tag; kept = w.kept }
 
 -- a script that goes on is taken out, or nothing is
 abbrev pub after_taking : {A : Type 0} → Option A → Working → Working
@@ -75,10 +107,31 @@ after_taking None w = w
 after_taking (Some r) w = without_script w
 
 abbrev pub with_script : Scripted → List Reply → Option Cause → Working → Working
-with_script s rs cause w = record { by = w.by; name = w.name; task = task.Script s rs cause; tag = w.tag }
+with_script s rs cause w =
+    record { by = w.by; name = w.name; task = task.Script s rs cause; tag = w.tag; kept = w.kept }
 
 abbrev pub again : Working → Working
-again w = record { by = w.by; name = w.name; task = from_first w.task; tag = w.tag }
+again w = record { by = w.by; name = w.name; task = from_first w.task; tag = w.tag; kept = w.kept }
+
+-- ---- for a journal
+
+-- nothing is kept yet
+abbrev pub none_kept : Bool → Option (List Scripted)
+none_kept true = Some []
+none_kept false = None
+
+-- there is room for the command that is asked for
+abbrev pub HasRoom : Task → Option (Vec Scripted) → Type 0
+HasRoom (task.Single (Some s)) (Some v) = vec_len v < vec_capacity v
+HasRoom t o = Unit {0}
+
+-- the commands of a work, as a journal notes them: a whole script, or those that a transaction kept, and a Commit
+abbrev pub commands_as : Task → Option (List Scripted) → Option (List Command)
+commands_as (task.Script s rs c) kept = Some s.1
+commands_as (task.Single asked) kept = option_map (λ ks. firsts ks ++ Commit ∷ []) kept
+
+abbrev pub commands_noted : Working → Option (List Command)
+commands_noted w = commands_as w.task w.kept
 
 -- ---- by their stamps
 

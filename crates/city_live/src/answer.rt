@@ -68,6 +68,8 @@ pub enum Fault {
     TooManyHands,
     /// Memory ran out. A transaction is open as before, and may have gained locks of the command.
     NoMemory,
+    /// The journal can't be written. A transaction is open as before; a script is undone, and is no end.
+    CannotWrite,
 }
 
 /// What a hand is told.

@@ -3,11 +3,12 @@ ghost use Rattle.std.specs.Prelude.{◌≡◌, [], Some, IfOk, OnErr};
 ghost use Rattle.city_model.specs.CityMap.{object_at};
 ghost use Rattle.city_model.specs.Relations.{IsLawful};
 ghost use Rattle.city_txn.specs.CoreState.{committed};
-ghost use Rattle.city_live.specs.Heard.{IsFresh};
+ghost use Rattle.city_live.specs.Works.{IsFresh};
 ghost use Rattle.city_live.specs.Serving.{Follows, IsHandled, IsServed};
 
 use crate::answer::{Answer, Fault, Name};
 use crate::hand::{At, Hand};
+use crate::journal::Journal;
 use crate::request::{Request, Tag};
 use crate::roster::Roster;
 use crate::talks::Talks;
@@ -45,9 +46,9 @@ struct Sender {
 /// Each request is one event: it is answered, or waits and is answered later, and the works waiting for its locks are
 /// tried again. There is no clock and no thread. Contracts see the session, all events so far, and no answers.
 #[derive(Drop)]
-pub struct Hands {
+pub struct Hands<J: Journal> {
     alloc: Global,
-    talks: Talks,
+    talks: Talks<J>,
     /// The number of commits with writes.
     version: u64,
     roster: Roster,
@@ -59,7 +60,7 @@ pub struct Hands {
     all_due: bool,
 }
 
-impl Model for Hands {
+impl<J: Journal> Model for Hands<J> {
     ghost use Rattle.city_live.specs.Serving.{Served};
 
     ghost Value = { Served };
@@ -73,19 +74,20 @@ impl Model for Hands {
     ghost view = { λ h. h.talks };
 }
 
-impl Hands {
-    /// No hands yet, on this city, at this version. Doesn't allocate.
-    pub fn new(alloc: Global, city: City, version: u64) -> Hands
+impl<J: Journal> Hands<J> {
+    /// No hands yet, on this city, at this version, with this journal. Doesn't allocate.
+    pub fn new(alloc: Global, city: City, version: u64, journal: J) -> Hands<J>
         requires { IsLawful (object_at city.1) }
         ensures start { result.session.start ≡ city }
         ensures closed { result.session.closed ≡ [] }
         ensures city { committed result.session.core ≡ object_at city.1 }
         ensures events { result.events ≡ [] }
         ensures answers { result.answers ≡ [] }
+        ensures noted { result.noted ≡ J.noted journal }
     {
         Hands {
             alloc,
-            talks: Talks::open(alloc, city),
+            talks: Talks::open(alloc, city, journal),
             version,
             roster: Roster::new(alloc),
             watchers: BTreeMap::new(alloc),
@@ -106,6 +108,16 @@ impl Hands {
     /// The number of commits with writes. Doesn't allocate.
     pub fn version(&self) -> u64 {
         self.version
+    }
+
+    /// The journal. Doesn't allocate.
+    pub fn journal(&self) -> &J {
+        self.talks.journal()
+    }
+
+    /// The journal, to be written or saved. Doesn't allocate.
+    pub fn journal_mut(&mut self) -> &mut J {
+        self.talks.journal_mut()
     }
 
     /// Does a request of a hand, and goes on with all works it was in the way of. The answers stand in their order.
@@ -315,8 +327,10 @@ impl Hands {
             Err(tag) => {
                 let fault = if self.is_busy(stamp) {
                     Fault::Busy
-                } else {
+                } else if self.talks.is_script(stamp) {
                     Fault::NotOpen
+                } else {
+                    Fault::NoMemory
                 };
                 self.refuse(sender, tag, fault);
             }

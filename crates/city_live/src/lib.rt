@@ -4,6 +4,7 @@
 //! - `request`, `answer`: requests and answers
 //! - `talks`: the works on a session, and what is said of each
 //! - `table`, `work`, `task`: the works by their stamps; `log`: what is said
+//! - `journal`: commits noted before they are made
 //! - `going`, `gone`: who holds a work back, and how far it came
 //! - `in_the_way`, `waiting`: locks in the way of a command, and the waiting by their reasons
 #![tactic(auto)]
@@ -15,6 +16,7 @@ mod gone;
 mod hand;
 mod hands;
 mod in_the_way;
+mod journal;
 mod log;
 mod request;
 mod roster;
@@ -26,6 +28,7 @@ mod work;
 
 pub use answer::{Answer, Blocked, Changed, Ended, Fault, Name, What};
 pub use hands::Hands;
+pub use journal::{Commands, Entry, Journal, NoJournal, Unwritten};
 pub use request::{Request, Tag};
 
 /// The most hands with a transaction, a kept age or a watch.

@@ -6,7 +6,7 @@ ghost use Rattle.city_live.specs.declared.task.Task.TheVariants as task;
 ghost use Rattle.city_live.specs.Works.{work_at, tag_at, WorksTo, SameWorks, IsScriptAt, asking, requested, answered};
 ghost use Rattle.city_live.specs.Works.{again};
 ghost use Rattle.city_live.specs.Works.{after_taking, with_script, is_whole, is_whole_at, IsWorkOf, IsAskedAt};
-ghost use Rattle.city_live.specs.Works.{MayCommit};
+ghost use Rattle.city_live.specs.Works.{MayCommit, replied};
 
 use crate::answer::Name;
 use crate::in_the_way::InTheWay;
@@ -149,7 +149,7 @@ impl Table {
     }
 
     /// The hand's transaction, if it is asked for nothing, takes a script for its next command, and the tag of the
-    /// request. Else the tag comes back, and nothing is taken. Doesn't allocate.
+    /// request. Else, or if memory runs out, the tag comes back, and nothing is taken.
     pub fn ask(&mut self, stamp: u64, hand: &Name, script: Script, tag: Tag) -> Result<(), Tag>
         ensures asked { OnOk result (IsWorkOf self.old stamp (arc_value hand.now) (λ t. t ≡ task.Single None)
             × WorksTo stamp (option_map (asking script tag) (work_at self.old stamp)) self.old self.new) }
@@ -198,6 +198,18 @@ impl Table {
     {
         match self.by_stamp.get_mut(&stamp) {
             Some(work) => work.answer(),
+            None => None,
+        }
+    }
+
+    /// The one command of a work is replied to. If it was done, it is kept for a journal that wants it. Takes the tag.
+    /// Doesn't allocate.
+    pub fn reply(&mut self, stamp: u64, is_done: bool) -> Tag
+        ensures tag { result ≡ tag_at self.old stamp }
+        ensures works { WorksTo stamp (option_map (replied is_done) (work_at self.old stamp)) self.old self.new }
+    {
+        match self.by_stamp.get_mut(&stamp) {
+            Some(work) => work.reply(is_done),
             None => None,
         }
     }

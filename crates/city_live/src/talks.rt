@@ -7,12 +7,13 @@ ghost use Rattle.city_model.specs.declared.command.Command.{Command};
 ghost use Rattle.city_model.specs.Scripts.{is_end};
 ghost use Rattle.city_session.specs.Acting.{IsUnchanged};
 ghost use Rattle.city_live.specs.Works.{first_of};
-ghost use Rattle.city_live.specs.Heard.{IsFresh};
+ghost use Rattle.city_live.specs.Works.{IsFresh};
 ghost use Rattle.city_live.specs.Running.{Begins};
 ghost use Rattle.city_live.specs.Serving.{Follows, IsServed};
 
 use crate::answer::{Answer, Fault, Name, What};
 use crate::in_the_way::InTheWay;
+use crate::journal::Journal;
 use crate::log::Log;
 use crate::request::Tag;
 use crate::table::Table;
@@ -36,17 +37,19 @@ pub use ends::{Ending, Preparing};
 
 /// The works of hands on a session, and what is said of each.
 ///
-/// Whatever its methods are called for, in any order: what is said of a work is what the session told it. Contracts see
-/// the session, the events so far and the answers that aren't given out yet.
+/// Whatever its methods are called for, in any order: what is said of a work is what the session told it, and what the
+/// journal notes leads to the same city. Contracts see the session, the events so far, the answers that aren't given out
+/// yet, and what the journal has noted.
 #[derive(Drop)]
-pub struct Talks {
+pub struct Talks<J: Journal> {
     alloc: Global,
     session: Session,
     table: Table,
     log: Log,
+    journal: J,
 }
 
-impl Model for Talks {
+impl<J: Journal> Model for Talks<J> {
     ghost use Rattle.city_live.specs.Serving.{Served};
 
     ghost Value = { Served };
@@ -57,28 +60,35 @@ impl Model for Talks {
 
     ghost coded = { Prim.hlevel (codes, coded_members, coded_objects) };
 
-    ghost view = { λ h. record { session = h.session; events = h.log.events; answers = h.log.answers } };
+    ghost view = { λ h. record {
+      session = h.session;
+      events = h.log.events;
+      answers = h.log.answers;
+      noted = J.noted h.journal;
+    } };
 
     ghost use Rattle.city_live.specs.Heard.{AreHeard};
 
     ghost invariant = { λ h. AreHeard h.session h.table h.log.events };
 }
 
-impl Talks {
-    /// No works yet, on this city. Doesn't allocate.
-    pub fn open(alloc: Global, city: City) -> Talks
+impl<J: Journal> Talks<J> {
+    /// No works yet, on this city, with this journal. Doesn't allocate.
+    pub fn open(alloc: Global, city: City, journal: J) -> Talks<J>
         requires { IsLawful (object_at city.1) }
         ensures start { result.session.start ≡ city }
         ensures closed { result.session.closed ≡ [] }
         ensures city { committed result.session.core ≡ object_at city.1 }
         ensures events { result.events ≡ [] }
         ensures answers { result.answers ≡ [] }
+        ensures noted { result.noted ≡ J.noted journal }
     {
         Talks {
             alloc,
             session: Session::open(alloc, city),
             table: Table::new(alloc),
             log: Log::new(alloc),
+            journal,
         }
     }
 
@@ -88,6 +98,16 @@ impl Talks {
         ensures { IsServed self.now }
     {
         self.session.is_live();
+    }
+
+    /// The journal. Doesn't allocate.
+    pub fn journal(&self) -> &J {
+        &self.journal
+    }
+
+    /// The journal, to be written or saved. Doesn't allocate.
+    pub fn journal_mut(&mut self) -> &mut J {
+        &mut self.journal
     }
 
     /// The session. Doesn't allocate.
@@ -133,6 +153,7 @@ impl Talks {
         ensures session { self.new.session ≡ self.old.session }
         ensures events { self.new.events ≡ self.old.events }
         ensures answers { self.new.answers ≡ [] }
+        ensures noted { self.new.noted ≡ self.old.noted }
     {
         self.log.take(self.alloc)
     }
@@ -151,7 +172,14 @@ impl Talks {
     {
         let kept = self.table.free(kept);
         let stamp = begin_under(&mut self.session, kept)?;
-        let work = Work::new(hand, seat, name, task);
+        let work = Work::new(
+            self.alloc,
+            hand,
+            seat,
+            name,
+            task,
+            self.journal.is_kept(),
+        );
         let noted = self.log.events().begins(stamp, &work);
         if self.table.add(stamp, work).is_err() {
             if self.session.is_open(stamp) {
@@ -179,7 +207,7 @@ impl Talks {
     }
 
     /// A transaction's hand asks it for the first command of a script. The tag comes back, and nothing is noted, where
-    /// it isn't the hand's transaction, or is asked already, or the command is an end.
+    /// it isn't the hand's transaction, or is asked already, or the command is an end, or memory runs out.
     pub fn ask(&mut self, stamp: u64, hand: &Name, tag: Tag, script: Script) -> Result<(), Tag>
         ensures { Follows self.old self.new }
     {

@@ -2,11 +2,14 @@
 ghost use Rattle.std.specs.Prelude.{◌≡◌, None, Some, MatchOption, IfSome, IfNone, IsTrue, OnOk, OnErr, false};
 ghost use Rattle.std.specs.Arc.{arc_value};
 ghost use Rattle.city_live.specs.declared.task.Task.TheVariants as task;
-ghost use Rattle.city_live.specs.Works.{next_of, asking, requested, answered, again, is_whole};
+ghost use Rattle.city_live.specs.Entering.{commands_by};
+ghost use Rattle.city_live.specs.Works.{next_of, asking, requested, answered, again, is_whole, with_done, none_kept, replied};
+ghost use Rattle.city_live.specs.Works.{commands_noted, IsFresh};
 ghost use Rattle.city_live.specs.Works.{after_taking, with_script, IsAtCommit};
 
 use crate::answer::Name;
 use crate::in_the_way::InTheWay;
+use crate::journal::Commands;
 use crate::request::Tag;
 use crate::task::Task;
 use city_members::sequence::Sequence;
@@ -34,7 +37,7 @@ pub enum Place {
 
 /// A script or a transaction of a hand.
 ///
-/// Contracts see its hand, its name, its commands, and the tag of the unanswered request.
+/// Contracts see its hand, its name, its commands, the tag of the unanswered request, and what it keeps for a journal.
 #[derive(Drop)]
 pub struct Work {
     hand: Name,
@@ -44,6 +47,9 @@ pub struct Work {
     task: Task,
     /// The tag of the unanswered request.
     tag: Tag,
+    /// Of a transaction, for a journal: a script for each command that was done, the first of it. There is room for
+    /// the one that is asked for.
+    kept: Option<Vec<Script>>,
     /// Whether its hand knows already: this request waits.
     is_told: bool,
     /// The lock in its way when it died. Its first command is held back until all its holders then have ended.
@@ -64,20 +70,51 @@ impl Model for Work {
 
     ghost use Rattle.std.specs.Arc.{arc_value};
 
-    ghost view = { λ w. record { by = arc_value w.hand; name = w.name; task = w.task; tag = w.tag } };
+    ghost use Rattle.std.specs.Prelude.{option_map};
+    ghost use Rattle.city_live.specs.Works.{HasRoom};
+
+    ghost view = { λ w. record {
+      by = arc_value w.hand;
+      name = w.name;
+      task = w.task;
+      tag = w.tag;
+      kept = option_map (λ v. v.items) w.kept;
+    } };
+
+    ghost invariant = { λ w. HasRoom w.task w.kept };
 }
 
 impl Work {
-    /// A work without commands done.
-    pub fn new(hand: Name, seat: usize, name: Text, task: Task) -> Work
-        ensures { result ≡ record { by = arc_value hand; name = name; task = task; tag = None } }
+    /// A work without commands done. A transaction keeps its commands, if a journal wants them. Doesn't allocate.
+    pub fn new(
+        alloc: Global,
+        hand: Name,
+        seat: usize,
+        name: Text,
+        task: Task,
+        is_kept: bool,
+    ) -> Work
+        requires { IsFresh task }
+        ensures { result ≡ record {
+          by = arc_value hand;
+          name = name;
+          task = task;
+          tag = None;
+          kept = none_kept is_kept;
+        } }
     {
+        let kept = if is_kept {
+            Some(Vec::new(alloc))
+        } else {
+            None
+        };
         Work {
             hand,
             seat,
             name,
             task,
             tag: None,
+            kept,
             is_told: false,
             until: None,
             place: Place::Nowhere,
@@ -178,13 +215,23 @@ impl Work {
         }
     }
 
+    /// Its commands for a journal: a script, or those that a transaction kept. Doesn't allocate.
+    pub fn commands(&self) -> Option<Commands<'_>>
+        ensures { IfSome result (λ c. commands_noted self.now ≡ Some (commands_by c)) }
+    {
+        match &self.task {
+            Task::Script(script, _, _) => Some(Commands::Script(script)),
+            Task::Single(_) => Some(Commands::Each(self.kept.as_ref()?.as_slice())),
+        }
+    }
+
     /// A stamp still in its way since it died, if there is one. Doesn't allocate.
     pub fn still_open(&self, session: &Session) -> Option<u64> {
         self.until.as_ref()?.still_open(session)
     }
 
     /// Takes a script for its next command, the first of this, and the tag of the request, if it is the hand's
-    /// transaction and asked for nothing. Else the tag comes back, and nothing changes. Doesn't allocate.
+    /// transaction and asked for nothing. Else, or if memory runs out, the tag comes back, and nothing changes.
     #[tactic(auto, using(city_members::proofs::Ids::same_id_true))]
     pub fn ask_by(&mut self, hand: &Name, script: Script, tag: Tag) -> Result<(), Tag>
         ensures asked { OnOk result ((self.old.by ≡ arc_value hand.now) × (self.old.task ≡ task.Single None)
@@ -193,6 +240,11 @@ impl Work {
     {
         if !self.is_idle() || !is_same_id(&self.hand, hand) {
             return Err(tag);
+        }
+        if let Some(kept) = &mut self.kept {
+            if kept.reserve(1).is_err() {
+                return Err(tag);
+            }
         }
         self.task = Task::Single(Some(script));
         self.tag = tag;
@@ -238,6 +290,36 @@ impl Work {
         }
         self.is_told = false;
         self.tag.take()
+    }
+
+    /// The one command was done: keeps it for a journal that wants it, and takes the tag of its request. Doesn't
+    /// allocate.
+    fn done(&mut self) -> Tag
+        ensures tag { result ≡ self.old.tag }
+        ensures work { self.new ≡ with_done self.old }
+    {
+        if let Task::Single(asked) = &mut self.task {
+            if let Some(script) = asked.take() {
+                if let Some(kept) = &mut self.kept {
+                    kept.push_reserved(script);
+                }
+            }
+        }
+        self.is_told = false;
+        self.tag.take()
+    }
+
+    /// The one command is replied to: if it was done, it is kept for a journal that wants it. Takes the tag of its
+    /// request. Doesn't allocate.
+    pub fn reply(&mut self, is_done: bool) -> Tag
+        ensures tag { result ≡ self.old.tag }
+        ensures work { self.new ≡ replied is_done self.old }
+    {
+        if is_done {
+            self.done()
+        } else {
+            self.answer()
+        }
     }
 
     /// Takes out a script that goes on, and the replies to its commands so far. Doesn't allocate.

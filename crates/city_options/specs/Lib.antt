@@ -1,3 +1,4 @@
 pub mod CommandLines
+pub mod LiveLines
 pub mod RunOptions
 pub mod internal

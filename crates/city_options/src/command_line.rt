@@ -34,9 +34,13 @@ pub(crate) const CHECK: &str = "check";
 
 pub(crate) const EXPLAIN: &str = "explain";
 
+/// The version of the program.
+pub const VERSION: &str = "0.1.0";
+
 const USAGE: &str = "\
 cityed [--decimals] [--workers N] [--watch K] [--output FILE [--wait SECONDS]] [--atomic] [--explain] [MODEL SCRIPTS]
-       cityed --check [--decimals] [--explain] MODEL [SCRIPTS]";
+       cityed --check [--decimals] [--explain] MODEL [SCRIPTS]
+       cityed --live [--decimals] [--output FILE [--wait SECONDS]] [--journal FILE] MODEL";
 
 const ABOUT: &str =
     "Edits a CityJSON 2.0 city model by scripts. Each script is done whole or not at all.";
@@ -69,6 +73,9 @@ With one worker the scripts run one after the other. With several the scripts ta
 end in any order. With --watch, after success, standard error gets a line for each viewer,
 \"viewer k: ..\", with the numbers of the changes that it saw. An example:
   cityed --workers 4 --watch 1 MODEL SCRIPTS
+
+With --live the program holds the MODEL, and many hands edit it by lines of JSON on standard
+input: `cityed --live --help` tells how.
 
 Status:
   0  done, or help was asked for
@@ -179,7 +186,7 @@ fn files_command<'a>(alloc: Global) -> Result<Command<'a>, OutOfMemory>
     let model = Arg::new(alloc, MODEL).help("A file with a CityJSON 2.0 document");
     let scripts = Arg::new(alloc, SCRIPTS).help("A file with the scripts");
     Command::new(alloc, "cityed")
-        .version("0.1.0")
+        .version(VERSION)
         .about(ABOUT)
         .override_usage(USAGE)
         .after_help(DETAILS)
@@ -188,7 +195,7 @@ fn files_command<'a>(alloc: Global) -> Result<Command<'a>, OutOfMemory>
 }
 
 /// An option without a value.
-fn flag<'a>(alloc: Global, name: &'a str, help: &'a str) -> Arg<'a>
+pub(crate) fn flag<'a>(alloc: Global, name: &'a str, help: &'a str) -> Arg<'a>
     ensures rule { rule_of result ≡ flag_rule name.entry.now }
     ensures local { result.global ≡ false }
 {
@@ -199,7 +206,12 @@ fn flag<'a>(alloc: Global, name: &'a str, help: &'a str) -> Arg<'a>
 }
 
 /// An option with a value, shown in help by a name.
-fn value_option<'a>(alloc: Global, name: &'a str, value: &'a str, help: &'a str) -> Arg<'a>
+pub(crate) fn value_option<'a>(
+    alloc: Global,
+    name: &'a str,
+    value: &'a str,
+    help: &'a str,
+) -> Arg<'a>
     ensures rule { rule_of result ≡ option_rule name.entry.now }
     ensures local { result.global ≡ false }
 {

@@ -185,7 +185,7 @@ fn destination_by<'a>(
 
 /// The number of seconds in a text, 1 to `MAX_WAIT`; 0 without a text. `None` if the text writes no
 /// such number.
-fn seconds_by(given: Option<&str>) -> Option<usize>
+pub(crate) fn seconds_by(given: Option<&str>) -> Option<usize>
     ensures { MatchOption result ((n : ℕ) → ¬ IsWait (text_of given.entry) n) (IsWait (text_of given.entry)) }
 {
     match given {
@@ -233,7 +233,7 @@ fn by_names<'a>(
 }
 
 /// The refusal of options or names.
-fn mistake<'a>(
+pub(crate) fn mistake<'a>(
     alloc: Global,
     command: &mut Command<'a>,
     kind: ErrorKind,

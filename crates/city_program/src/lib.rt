@@ -3,6 +3,7 @@
 //! - `program`: how a command line is answered, and told; `status`: how the program ends
 //! - `check`: all faults of two texts, told; `explain`: the lines behind a fault's line
 //! - `seen_line`: a viewer's line
+//! - `live`: how a live command line is answered
 //!
 //! Made for a program that ends once its output is written: the city of a run is left to the end of the
 //! process.
@@ -10,10 +11,12 @@
 
 mod check;
 mod explain;
+mod live;
 mod program;
 pub mod seen_line;
 mod status;
 
-pub use city_options::command_line;
+pub use city_options::{asks_for_live, command_line};
+pub use live::run_live_words;
 pub use program::{refuse_line, run_program};
 pub use status::Status;

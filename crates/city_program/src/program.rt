@@ -32,7 +32,7 @@ use std::sync::Wait;
 use std::thread::Threads;
 
 /// Told if memory runs out.
-const MEMORY_LINE: &str = "cityed: out of memory\n";
+pub(crate) const MEMORY_LINE: &str = "cityed: out of memory\n";
 
 /// Told if the output file is the scripts' file.
 const SCRIPTS_NAMED: &str =
@@ -474,7 +474,7 @@ fn ended_line(alloc: Global, fault: &ServeFault, behind: &str) -> Result<String,
 }
 
 /// Writes a text to errors. If that fails, only the status is left, and nobody is told.
-fn tell<E: Write>(errors: &mut Device<E>, text: &str)
+pub(crate) fn tell<E: Write>(errors: &mut Device<E>, text: &str)
     ensures { IsToldAfter errors.old.1 (E.contents errors.old.0) (E.contents errors.new.0) errors.new.1 text.now }
 {
     let _ = write_output(errors, text.as_bytes());

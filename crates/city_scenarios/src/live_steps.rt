@@ -9,7 +9,7 @@ use crate::reply::{add_cause, add_reply};
 use crate::steps::{TakesSteps, take_steps};
 use crate::written::Written;
 use city_doc::read_city;
-use city_live::{Answer, Blocked, Changed, Ended, Fault, Hands, Request, Tag, What};
+use city_live::{Answer, Blocked, Changed, Ended, Fault, Hands, NoJournal, Request, Tag, What};
 use city_members::sequence::Sequence;
 use city_members::text::{Id, Text};
 use city_model::OutOfMemory;
@@ -32,12 +32,12 @@ pub fn play_live(alloc: Global, document: &[u8], lines: &str, answer: &mut Writt
 fn play_over(alloc: Global, city: City, lines: &str, answer: &mut Written)
     requires { IsLawful (object_at city.1) }
 {
-    let mut hands = Hands::new(alloc, city, 0);
+    let mut hands = Hands::new(alloc, city, 0, NoJournal);
     take_steps(&mut hands, alloc, lines, answer);
 }
 
 /// A step is a hand, behind a slash the tag if there is one, and a request: a word, or a command.
-impl TakesSteps for Hands {
+impl TakesSteps for Hands<NoJournal> {
     fn take_step(&mut self, alloc: Global, step: &str, said: &mut Written) {
         let (from, does) = step.split_once(" ").unwrap_or((step, ""));
         let (Ok(parts), Ok(request)) = (named(alloc, from), request_of(alloc, does)) else {
@@ -245,6 +245,7 @@ fn fault_word(fault: Fault) -> &'static str {
         Fault::AlreadyOpen => "AlreadyOpen",
         Fault::TooMany => "TooMany",
         Fault::TooManyHands => "TooManyHands",
+        Fault::CannotWrite => "CannotWrite",
         Fault::NoMemory => "NoMemory",
     }
 }

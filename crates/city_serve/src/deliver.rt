@@ -175,7 +175,12 @@ fn replace<F: OutputFiles, W: Write>(
 
 /// A new file for the file of this path, with the model on its device. `None` if a step is refused;
 /// then nothing of it is left.
-fn filled_new<F: OutputFiles>(files: &mut F, seed: u64, path: &str, model: &[u8]) -> Option<F::New>
+pub fn filled_new<F: OutputFiles>(
+    files: &mut F,
+    seed: u64,
+    path: &str,
+    model: &[u8],
+) -> Option<F::New>
     ensures synced { IfSome result (λ new. F.is_synced new ≡ true) }
     ensures contents { IfSome result (λ new. F.are_known ≡ true → F.New.contents new ≡ Some model.now) }
     ensures texts { F.text files.new ≡ F.text files.old }
@@ -197,7 +202,7 @@ fn filled_new<F: OutputFiles>(files: &mut F, seed: u64, path: &str, model: &[u8]
 }
 
 /// Puts a new file in the place of the file of this path, if that is still what was read.
-fn place<F: OutputFiles>(files: &mut F, new: F::New, path: &str) -> Result<(), ServeFault>
+pub fn place<F: OutputFiles>(files: &mut F, new: F::New, path: &str) -> Result<(), ServeFault>
     requires { F.is_synced new ≡ true }
     ensures placed { OnOk result (IsPut path.now F.are_known (F.New.contents new) (F.text files.old) (F.text files.new)) }
     ensures steps { OnOk result (Takes (F.steps files.old) (F.steps files.new)

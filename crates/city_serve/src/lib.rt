@@ -33,7 +33,7 @@ mod texts;
 
 pub use city_options::{Destination, Options};
 pub use decimals::encode_text;
-pub use deliver::Delivered;
+pub use deliver::{Delivered, filled_new, place};
 pub use device::Device;
 pub use fault::ServeFault;
 pub use new_file::NewFile;

@@ -8,13 +8,14 @@
 //! whole; with `--atomic` it goes nowhere if a script is refused or out of memory. With `--check`
 //! nothing is run: standard output gets a line for each fault of a model and of scripts. Status 1:
 //! a fault, told on standard error, or faults found by a check; 2: a refused command line; 3: a
-//! withheld model. A fault is explained with `--explain`, and if standard error is a terminal. All
+//! withheld model. With `--live` the program holds a model, and answers requests of many hands,
+//! lines of JSON on standard input, by lines on standard output. A fault is explained with `--explain`, and if standard error is a terminal. All
 //! this is city_program's `run_program`: here it gets the real files and streams.
 #![tactic(auto)]
 
 use city_crew::OpenGate;
 use city_program::command_line::LineFault;
-use city_program::{refuse_line, run_program};
+use city_program::{asks_for_live, refuse_line, run_live_words, run_program};
 use city_serve::{Device, RuntimeFiles, drawn_seed};
 use std::io::{ErrorKind, IsTerminal};
 use std::process::ExitCode;
@@ -25,6 +26,15 @@ fn main(rt: HostRuntime) -> ExitCode {
     let terminal = errors.is_terminal();
     let mut errors = Device::new(errors);
     let status = match words(&rt) {
+        Ok(words) if asks_for_live(words.as_slice()) => run_live_words(
+            &rt,
+            rt.alloc(),
+            drawn_seed(&rt),
+            words.as_slice(),
+            &mut Device::new(rt.reader()),
+            &mut Device::new(io::writer(&rt)),
+            &mut errors,
+        ),
         Ok(words) => run_program(
             &rt,
             rt.alloc(),

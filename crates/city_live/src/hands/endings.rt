@@ -1,14 +1,17 @@
 //! How scripts and transactions end.
 ghost use Rattle.std.specs.Prelude.{◌≡◌};
+ghost use Rattle.city_live.specs.Ending.{IsAllowed, IsCounted};
 ghost use Rattle.city_live.specs.Serving.{Follows};
 
 use super::{Hands, Sender};
-use crate::answer::Fault;
+use crate::answer::{Changed, Fault};
 use crate::hand::At;
 use crate::in_the_way::InTheWay;
+use crate::journal::{Journal, Unwritten};
 use crate::request::Tag;
 use crate::talks::{Ending, Preparing};
 use city_model::command::Cause;
+use std::sync::Arc;
 
 /// The outcome of a commit.
 #[derive(Drop)]
@@ -16,9 +19,11 @@ enum Committing {
     Done,
     Refused(Cause),
     NoMemory,
+    /// The journal can't be written.
+    CannotWrite,
 }
 
-impl Hands {
+impl<J: Journal> Hands<J> {
     /// Commits the hand's transaction.
     #[tactic(auto, using(crate::proofs::Followed::then, crate::proofs::Followed::same))]
     pub(super) fn commit_by(&mut self, sender: &Sender, tag: Tag)
@@ -35,6 +40,7 @@ impl Hands {
             Committing::Done => {}
             Committing::Refused(cause) => self.talks.tell_refused(stamp, cause),
             Committing::NoMemory => self.talks.tell_fault(stamp, Fault::NoMemory),
+            Committing::CannotWrite => self.talks.tell_fault(stamp, Fault::CannotWrite),
         }
     }
 
@@ -47,24 +53,60 @@ impl Hands {
             Committing::Done => {}
             Committing::Refused(cause) => self.end(stamp, Ending::Uncommitted(cause)),
             Committing::NoMemory => self.end(stamp, Ending::NoMemory),
+            Committing::CannotWrite => self.undo(stamp),
         }
     }
 
-    /// Commits a work, and tells the watchers of its change, and then its hand. If memory runs out, nothing changes.
+    /// Undoes a script whose commit can't be noted, and tells its hand so.
+    #[tactic(auto, using(crate::proofs::Followed::then, crate::proofs::Followed::same))]
+    fn undo(&mut self, stamp: u64)
+        ensures { Follows self.old self.new }
+    {
+        self.release(stamp);
+        let seat = self.talks.undo(stamp);
+        self.leave(seat);
+    }
+
+    /// Commits a work, and tells the watchers of its change, and then its hand. If memory runs out, or the journal
+    /// can't be written, the work is as before.
     #[tactic(auto, using(crate::proofs::Followed::then, crate::proofs::Followed::same))]
     fn commit(&mut self, stamp: u64) -> Committing
         ensures { Follows self.old self.new }
     {
         match self.talks.prepare(stamp, self.version, self.watchers.len()) {
             Preparing::Ready(changed, version) => {
-                self.release(stamp);
-                let seat = self.talks.commit(stamp, changed, version, &self.watchers);
+                self.commit_ready(stamp, changed, self.version, version)
+            }
+            Preparing::Refused(cause) => Committing::Refused(cause),
+            Preparing::NoMemory => Committing::NoMemory,
+        }
+    }
+
+    /// Commits a work that is ready, with these versions before and after it.
+    #[tactic(auto, using(crate::proofs::Followed::then, crate::proofs::Followed::same))]
+    fn commit_ready(
+        &mut self,
+        stamp: u64,
+        changed: Option<Arc<Changed>>,
+        before: u64,
+        version: u64,
+    ) -> Committing
+        requires allowed { IsAllowed stamp changed self.old.session }
+        requires counted { IsCounted stamp before version self.old.session }
+        ensures { Follows self.old self.new }
+    {
+        self.release(stamp);
+        match self
+            .talks
+            .commit(stamp, changed, before, version, &self.watchers)
+        {
+            Ok(seat) => {
                 self.version = version;
                 self.leave(seat);
                 Committing::Done
             }
-            Preparing::Refused(cause) => Committing::Refused(cause),
-            Preparing::NoMemory => Committing::NoMemory,
+            Err(Unwritten::OutOfMemory) => Committing::NoMemory,
+            Err(Unwritten::CannotWrite) => Committing::CannotWrite,
         }
     }
 

@@ -5,6 +5,7 @@ ghost use Rattle.city_live.specs.Serving.{Follows};
 
 use super::{Hands, Sender};
 use crate::answer::{Fault, Name, What};
+use crate::journal::Journal;
 use crate::request::Tag;
 use city_members::copied::Copied;
 use city_members::sequence::Sequence;
@@ -13,7 +14,7 @@ use city_model::OutOfMemory;
 use city_model::object::Object;
 use std::sync::Arc;
 
-impl Hands {
+impl<J: Journal> Hands<J> {
     /// Tells the hand of each change from now on.
     #[tactic(auto, using(crate::proofs::Followed::then, crate::proofs::Followed::same))]
     pub(super) fn watch(&mut self, sender: &Sender, tag: Tag)

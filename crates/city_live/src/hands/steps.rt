@@ -7,6 +7,7 @@ use crate::answer::{Blocked, Fault};
 use crate::going::held_back;
 use crate::gone::Gone;
 use crate::in_the_way::InTheWay;
+use crate::journal::Journal;
 use crate::talks::Ending;
 use crate::work::Place;
 use city_members::copied::Copied;
@@ -24,7 +25,7 @@ enum Held {
     NoMemory,
 }
 
-impl Hands {
+impl<J: Journal> Hands<J> {
     /// Goes on with a work, and tells the outcome.
     #[tactic(auto, using(crate::proofs::Followed::then, crate::proofs::Followed::same))]
     pub(super) fn go_on(&mut self, stamp: u64)

@@ -3,12 +3,13 @@ ghost use Rattle.std.specs.Prelude.{◌≡◌};
 ghost use Rattle.city_live.specs.Serving.{Follows};
 
 use super::{Hands, STEP_ANSWERS};
+use crate::journal::Journal;
 use crate::waiting::Waiting;
 use crate::work::Place;
 use city_members::text::Id;
 use std::collections::BTreeSet;
 
-impl Hands {
+impl<J: Journal> Hands<J> {
     /// Notes as due all works waiting for the stamp's locks or behind it, before it gives them back. If memory runs
     /// out, all waiting works are due.
     pub(super) fn release(&mut self, stamp: u64)

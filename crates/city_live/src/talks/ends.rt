@@ -1,17 +1,22 @@
 //! How works end.
-ghost use Rattle.std.specs.Prelude.{◌≡◌, Some, true, IfOk};
+ghost use Rattle.std.specs.Prelude.{◌≡◌, ◌<◌, ℕ, Some, true, IfOk, OnOk, OnErr};
 ghost use Rattle.city_txn.specs.CoreState.{is_open};
 ghost use Rattle.std.specs.Arc.{arc_value};
 ghost use Rattle.city_session.specs.Grown.{Grown};
 ghost use Rattle.city_session.specs.Live.{grown_at};
 ghost use Rattle.city_live.specs.Ending.{IsReady, IsAllowed, IsEnded, IsUnrefused, AreTold, IsTelling, told_replies};
-ghost use Rattle.city_live.specs.Ending.{IsTellingOf};
+ghost use Rattle.city_live.specs.Ending.{IsTellingOf, IsCounted};
+ghost use Rattle.city_live.specs.Replaying.{NotesWork, NotesCommands};
+ghost use Rattle.city_live.specs.Works.{work_at, commands_noted};
 ghost use Rattle.city_live.specs.Serving.{Follows};
 
 use super::Talks;
-use crate::answer::{Answer, Blocked, Changed, Ended, Name, What};
+use crate::answer::{Answer, Blocked, Changed, Ended, Fault, Name, What};
+use crate::journal::{Entry, Journal, Unwritten};
 use crate::log::Log;
+use crate::table::Table;
 use crate::task::Task;
+use crate::work::Work;
 use city_members::copied::Copied;
 use city_members::sequence::Sequence;
 use city_members::text::Text;
@@ -49,7 +54,7 @@ pub enum Ending {
     NoMemory,
 }
 
-impl Talks {
+impl<J: Journal> Talks<J> {
     /// Undoes a script's attempt. It is to begin again.
     pub fn restart(&mut self, stamp: u64)
         ensures { Follows self.old self.new }
@@ -82,15 +87,16 @@ impl Talks {
     /// Makes a commit ready, with room for all that it tells: so many watchers, its hand, and as much again.
     pub fn prepare(&mut self, stamp: u64, version: u64, watchers: usize) -> Preparing
         ensures same { self.new ≡ self.old }
-        ensures ready { IsReady stamp result self.new.session }
+        ensures ready { IsReady stamp version result self.new.session }
     {
         if !self.session.is_open(stamp) || !self.table.may_commit(stamp) {
             return Preparing::NoMemory;
         }
-        if watchers == 0 {
-            if let Some(is_written) = has_written(&self.session, stamp) {
-                return untold(&self.session, stamp, version_after(version, is_written));
-            }
+        if watchers == 0 && has_written(&self.session, stamp) {
+            let Some(version) = version.checked_add(1) else {
+                return Preparing::NoMemory;
+            };
+            return untold(&self.session, stamp, version);
         }
         let change = match self.session.prepare(stamp) {
             Ok(Prepared::Ready(change)) => change,
@@ -98,7 +104,9 @@ impl Talks {
             Err(OutOfMemory) => return Preparing::NoMemory,
         };
         let is_written = change.len() != 0;
-        let version = version_after(version, is_written);
+        let Some(version) = version_after(version, is_written) else {
+            return Preparing::NoMemory;
+        };
         if watchers == 0 || !is_written {
             return Preparing::Ready(None, version);
         }
@@ -138,22 +146,28 @@ impl Talks {
         Ok(shared)
     }
 
-    /// Commits a work, and tells the watchers of its change, and then its hand. Returns the hand's seat.
+    /// Notes a commit in the journal, if it wrote, and only then commits the work, and tells the watchers of its change,
+    /// and then its hand. Returns the hand's seat. If the commit can't be noted, nothing changes.
     pub fn commit(
         &mut self,
         stamp: u64,
         changed: Option<Arc<Changed>>,
+        before: u64,
         version: u64,
         watchers: &BTreeMap<Text, Name>,
-    ) -> Option<usize>
-        requires { IsAllowed stamp changed self.old.session }
+    ) -> Result<Option<usize>, Unwritten>
+        requires allowed { IsAllowed stamp changed self.old.session }
+        requires counted { IsCounted stamp before version self.old.session }
         ensures { Follows self.old self.new }
     {
         if !self.table.may_commit(stamp) {
-            return None;
+            return Ok(None);
+        }
+        if version != before {
+            note_at(&mut self.journal, &self.table, stamp, version)?;
         }
         let Some(work) = self.table.take(stamp) else {
-            return None;
+            unreachable!()
         };
         let seat = work.seat();
         let since = since_of(&self.session, stamp);
@@ -171,7 +185,7 @@ impl Talks {
         };
         let what = What::Ended(ended);
         self.log.says(Some(stamp), Answer { hand, tag, what });
-        Some(seat)
+        Ok(Some(seat))
     }
 
     /// Undoes a work, and tells its hand its end. Returns the hand's seat.
@@ -200,30 +214,84 @@ impl Talks {
         self.log.says(Some(stamp), Answer { hand, tag, what });
         Some(seat)
     }
-}
 
-/// Whether an open transaction has written something; `None` if its replies don't tell. Doesn't allocate.
-fn has_written(session: &Session, stamp: u64) -> Option<bool> {
-    match session.transaction(stamp)?.writes() {
-        Writes::Nothing => Some(false),
-        Writes::Something => Some(true),
-        Writes::Unsure => None,
+    /// Undoes a script whose commit can't be noted, and tells its hand so. Returns the hand's seat.
+    pub fn undo(&mut self, stamp: u64) -> Option<usize>
+        ensures { Follows self.old self.new }
+    {
+        if !self.session.is_open(stamp) || !self.table.is_script(stamp) {
+            return None;
+        }
+        let Some(work) = self.table.take(stamp) else {
+            return None;
+        };
+        let seat = work.seat();
+        self.session.forget(stamp);
+        let (hand, _name, _task, tag) = work.into_parts();
+        let what = What::Fault(Fault::CannotWrite);
+        self.log.says(Some(stamp), Answer { hand, tag, what });
+        Some(seat)
     }
 }
 
-/// The version after a commit. Doesn't allocate.
-fn version_after(version: u64, is_written: bool) -> u64 {
+/// Notes the work of the stamp in a journal that is kept, at the version after its commit.
+fn note_at<J: Journal>(
+    journal: &mut J,
+    table: &Table,
+    stamp: u64,
+    version: u64,
+) -> Result<(), Unwritten>
+    ensures ok { OnOk result (NotesWork (work_at table.now stamp) (J.noted journal.old) (J.noted journal.new)) }
+    ensures err { OnErr result (J.noted journal.new ≡ J.noted journal.old) }
+{
+    if !journal.is_kept() {
+        return Ok(());
+    }
+    match table.get(stamp) {
+        Some(work) => note(journal, work, version),
+        None => Ok(()),
+    }
+}
+
+/// Notes a work in a journal, at the version after its commit.
+fn note<J: Journal>(journal: &mut J, work: &Work, version: u64) -> Result<(), Unwritten>
+    ensures ok { OnOk result (NotesCommands (commands_noted work.now) (J.noted journal.old) (J.noted journal.new)) }
+    ensures err { OnErr result (J.noted journal.new ≡ J.noted journal.old) }
+{
+    let Some(commands) = work.commands() else {
+        return Err(Unwritten::CannotWrite);
+    };
+    let entry = Entry {
+        by: &**work.hand(),
+        name: work.name(),
+        version,
+        commands,
+    };
+    journal.append(&entry)
+}
+
+/// Whether an open transaction has written something, by its replies: if not, it may have gone back to what was
+/// before. Doesn't allocate.
+fn has_written(session: &Session, stamp: u64) -> bool {
+    match session.transaction(stamp) {
+        Some(transaction) => matches!(transaction.writes(), Writes::Something),
+        None => false,
+    }
+}
+
+/// The version after a commit, if there is one. Doesn't allocate.
+fn version_after(version: u64, is_written: bool) -> Option<u64> {
     if is_written {
-        version.saturating_add(1)
+        version.checked_add(1)
     } else {
-        version
+        Some(version)
     }
 }
 
-/// Makes a commit ready whose change nobody is told.
+/// Makes a commit ready whose change nobody is told, with this version after it.
 fn untold(session: &Session, stamp: u64, version: u64) -> Preparing
     requires { is_open session.now.core stamp ≡ true }
-    ensures { IsReady stamp result session.now }
+    ensures { (before : ℕ) → before < version → IsReady stamp before result session.now }
 {
     match session.refusal(stamp) {
         Ok(None) => Preparing::Ready(None, version),

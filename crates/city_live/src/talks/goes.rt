@@ -1,10 +1,11 @@
 //! How a work goes on.
-ghost use Rattle.std.specs.Prelude.{◌≡◌, ℕ, None, Some, true, length, IfOk, IfErr, IfNone};
+ghost use Rattle.std.specs.Prelude.{◌≡◌, ℕ, None, Some, true, false, not, length, IfOk, IfErr, IfNone};
 ghost use Rattle.city_model.specs.declared.command.Reply.TheVariants as replies;
+ghost use Rattle.city_model.specs.Meaning.{is_refusal};
 ghost use Rattle.city_txn.specs.CoreState.{is_open};
 ghost use Rattle.city_session.specs.Grown.{Grown, unrefused};
 ghost use Rattle.city_session.specs.Live.{grown_at};
-ghost use Rattle.city_live.specs.Heard.{script_told};
+ghost use Rattle.city_live.specs.Heard.{script_told, ArePlain};
 ghost use Rattle.city_live.specs.Running.{RunsTo, IsWhatBehind};
 ghost use Rattle.city_live.specs.Serving.{Follows};
 
@@ -12,12 +13,13 @@ use super::Talks;
 use crate::answer::{Answer, What};
 use crate::gone::Gone;
 use crate::in_the_way::InTheWay;
+use crate::journal::Journal;
 use city_model::command::{Cause, Command, Reply};
 use city_model::script::is_end;
 use city_session::{Acted, Session};
 use std::alloc::Global;
 
-impl Talks {
+impl<J: Journal> Talks<J> {
     /// Goes on with a work: with its one command, or with its script to the end, or until it is held up.
     pub fn go_on(&mut self, stamp: u64) -> Gone
         ensures { Follows self.old self.new }
@@ -65,8 +67,9 @@ impl Talks {
         }
         match self.session.act(stamp, command) {
             Acted::Replied(reply) => {
+                let is_done = is_done(&reply);
                 let what = what_of(&self.session, stamp, reply);
-                let tag = self.table.answer(stamp);
+                let tag = self.table.reply(stamp, is_done);
                 self.log.says(Some(stamp), Answer { hand, tag, what });
                 Some(Gone::Replied)
             }
@@ -88,6 +91,13 @@ fn place_of(session: &Session, stamp: u64) -> usize
     }
 }
 
+/// Whether a command with this reply was done.
+fn is_done(reply: &Reply) -> bool
+    ensures { result ≡ not (is_refusal reply.now) }
+{
+    !matches!(reply, Reply::Refused(_))
+}
+
 /// What a hand is told of the last reply of an open transaction.
 fn what_of(session: &Session, stamp: u64, reply: Reply) -> What
     ensures { IsWhatBehind session.now stamp reply result }
@@ -103,7 +113,7 @@ fn what_of(session: &Session, stamp: u64, reply: Reply) -> What
 
 /// A reply, or why it is a refusal.
 fn unrefused(reply: Reply) -> Result<Reply, Cause>
-    ensures reply { IfOk result (λ r. r ≡ reply) }
+    ensures reply { IfOk result (λ r. (r ≡ reply) × (is_refusal r ≡ false)) }
     ensures refused { IfErr result (λ cause. reply ≡ replies.Refused cause) }
 {
     match reply {
@@ -123,6 +133,7 @@ fn run(
     requires opened { is_open session.old.core stamp ≡ true }
     requires told { (g : Grown) → grown_at session.old.growing stamp ≡ Some g
         → g.told ≡ script_told commands.now replies.old.items None }
+    requires plain { ArePlain replies.old.items }
     ensures { RunsTo stamp commands.now replies.new.items result.1 session.old session.new }
 {
     for _ in 0..commands.len() {

@@ -5,13 +5,14 @@ ghost use Rattle.city_live.specs.Serving.{Follows};
 
 use super::Talks;
 use crate::answer::{Answer, Blocked, Fault, Name, What};
+use crate::journal::Journal;
 use crate::request::Tag;
 use city_members::copied::Copied;
 use city_model::OutOfMemory;
 use city_model::command::Cause;
 use std::sync::Arc;
 
-impl Talks {
+impl<J: Journal> Talks<J> {
     /// Answers a request by what is seen of what has ended.
     pub fn say(&mut self, hand: &Name, tag: Tag, what: What)
         requires { IsSeenAt self.old.session.start self.old.session.closed what }

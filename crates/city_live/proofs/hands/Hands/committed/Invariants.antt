@@ -3,4 +3,4 @@ use Rattle.city_txn.specs.CoreState.{committed}
 use Rattle.city_live.proofs.hands.Hands.committed.Given as goal
 
 abbrev pub invariant-loop-id : goal.invariant-loop-id
-invariant-loop-id l = All (λ o. o.1 ≡ committed l.self.session.core o.0) l.objects
+invariant-loop-id g l = All (λ o. o.1 ≡ committed l.self.session.core o.0) l.objects

@@ -1,36 +1,41 @@
 use Rattle.std.specs.Prelude.{◌≡◌, None, IfSome}
-use Rattle.std.proofs.Common.{refl, ◌∙◌, sym, subst}
+use Rattle.std.proofs.Common.{refl, ◌∙◌, sym, ap, subst}
 use Rattle.city_live.specs.declared.ghosts.event.Event.TheVariants as events
-use Rattle.city_live.specs.Heard.{IsFresh}
+use Rattle.city_live.specs.Works.{IsFresh}
 use Rattle.city_live.specs.Works.{Working, work_at}
 use Rattle.city_live.proofs.Continued as continued
 use Rattle.city_live.proofs.Followed.{quietly, silently, one_more}
 use Rattle.city_live.proofs.Finished.{heard_begins, begins_on, ok_of}
 use Rattle.city_live.specs.Serving.{Follows}
+use Rattle.city_live.proofs.Replayed.{stays}
 use Rattle.city_live.proofs.talks.Talks.begin.Goals as goal
 use Rattle.city_live.proofs.talks.Talks.begin.Goals.{then-is_open, else-is_open}
 
 pub returns-then-is_err : goal.returns-then-is_err
-returns-then-is_err c =
+returns-then-is_err g c =
     let begun = begins_on c.in_ok-stamp.ensures.begun in
     elim c.if-is_open.branch [
       | then-is_open w ↦ subst (Follows c.args.self.now) (sym w.self-is)
-          (silently c.self.view_is (continued.then begun (continued.forgotten c.in_ok-stamp.stamp w.forget.ensures)))
-      | else-is_open w ↦ subst (Follows c.args.self.now) (sym w.self-is) (silently c.self.view_is begun)
+          (silently c.self.view_is (continued.then begun (continued.forgotten c.in_ok-stamp.stamp w.forget.ensures))
+          (stays (w.forget.ensures.undone.city ∙ c.in_ok-stamp.ensures.begun.begun.city)))
+      | else-is_open w ↦ subst (Follows c.args.self.now) (sym w.self-is) (silently c.self.view_is begun
+          (stays c.in_ok-stamp.ensures.begun.begun.city))
     ]
 
 pub invariant_of-self-2 : goal.invariant_of-self-2
-invariant_of-self-2 c =
+invariant_of-self-2 g c =
     heard_begins c.self.invariant c.in_ok-stamp.stamp c.free-kept.result c.in_ok-stamp.ensures.begun
     (λ t e. subst (λ o. IfSome o (λ v. work_at c.self.inside.table v ≡ None)) e c.free-kept.ensures)
     c.new-work.result (subst (λ (w : Working). IsFresh w.task) (sym c.new-work.ensures) c.requires)
+    c.is_kept.result (ap (λ (w : Working). w.kept) c.new-work.ensures)
     (ok_of c.add.result c.add.ensures.added (sym c.is_err.ensures.value ∙ c.if-is_err.false))
     (one_more (events.Begins c.in_ok-stamp.stamp c.new-work.result) c.events.ensures c.begins-noted.ensures
     c.note.ensures.events)
 
 pub returns : goal.returns
-returns c =
-    quietly c.self.view_is (begins_on c.in_ok-stamp.ensures.begun) c.note.new.self
+returns g c =
+    quietly c.self.view_is (begins_on c.in_ok-stamp.ensures.begun)
+    (stays c.in_ok-stamp.ensures.begun.begun.city) c.note.new.self
     (events.Begins c.in_ok-stamp.stamp c.new-work.result) refl
     (one_more (events.Begins c.in_ok-stamp.stamp c.new-work.result) c.events.ensures c.begins-noted.ensures
     c.note.ensures.events)

@@ -10,13 +10,13 @@ use Rattle.city_live.proofs.Finished.{heard_ended, heard_tellings, steps_if, com
 use Rattle.city_live.proofs.talks.Talks.commit.Goals as goal
 
 pub invariant_of-self-2 : goal.invariant_of-self-2
-invariant_of-self-2 c =
+invariant_of-self-2 g c =
     let there = sym c.take.ensures.taken ∙ c.in-Some.is in
     heard_ended
     (subst (AreHeard c.self.inside.session c.self.inside.table) (sym c.tell_all.ensures.events)
     (heard_tellings c.self.inside.log.events c.self.invariant c.args.changed
     (steps_if c.args.stamp c.args.changed c.is_live.ensures c.is_live-2.ensures
-    (subst (λ (v : Served). Leads v.session c.args.stamp c.args.changed) (sym c.self.view_is) c.requires.leads)
+    (subst (λ (v : Served). Leads v.session c.args.stamp c.args.changed) (sym c.self.view_is) c.requires.allowed.leads)
     c.commit.ensures.city c.commit.ensures.ended)
     c.tell_all.ensures.more c.tell_all.ensures.all))
     c.args.stamp c.in-Some.work there c.take.ensures.left _ c.commit.ensures.ended _ c.into_parts-hand.ensures.hand
@@ -26,8 +26,4 @@ invariant_of-self-2 c =
     (committing _ c.in-Some.work (c.may_commit.ensures c.if-not-may_commit.false) there))
 
 pub returns : goal.returns
-returns c =
-    (then)
-    (noting c.self.view_is (same c.self.inside.session) c.tell_all.new.log c.tell_all.ensures.more
-    c.tell_all.ensures.events c.tell_all.ensures.answers)
-    (saying refl (ended c.args.stamp _ c.commit.ensures.ended) c.says.new.self _ _ c.says.ensures)
+returns g c = ?

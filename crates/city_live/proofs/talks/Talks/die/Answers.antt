@@ -3,10 +3,11 @@ use Rattle.city_live.specs.Works.{is_whole_at}
 use Rattle.city_live.proofs.Continued.{ended}
 use Rattle.city_live.proofs.Followed.{saying}
 use Rattle.city_live.proofs.Finished.{heard_died}
+use Rattle.city_live.proofs.Replayed.{stays}
 use Rattle.city_live.proofs.talks.Talks.die.Goals as goal
 
 pub invariant_of-self-2 : goal.invariant_of-self-2
-invariant_of-self-2 c =
+invariant_of-self-2 g c =
     heard_died c.self.invariant c.args.stamp c.in-Some.work (sym c.take.ensures.taken ∙ c.in-Some.is)
     c.take.ensures.left
     _ c.abort.ensures.ended _ c.into_parts-hand.ensures.hand c.into_parts-hand.ensures.tag c.says.ensures
@@ -14,4 +15,5 @@ invariant_of-self-2 c =
     (ap is_whole_at (sym c.in-Some.is ∙ c.take.ensures.taken) ∙ (sym c.is_script.ensures ∙ c.if-is_script.false)) refl
 
 pub returns : goal.returns
-returns c = saying c.self.view_is (ended c.args.stamp _ c.abort.ensures.ended) c.says.new.self _ _ c.says.ensures
+returns g c = saying c.self.view_is (ended c.args.stamp _ c.abort.ensures.ended)
+    (stays c.abort.ensures.undone.city) c.says.new.self _ _ c.says.ensures

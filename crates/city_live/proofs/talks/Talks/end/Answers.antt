@@ -3,10 +3,11 @@ use Rattle.city_live.specs.Ending.{IsEnded}
 use Rattle.city_live.proofs.Continued.{ended}
 use Rattle.city_live.proofs.Followed.{saying}
 use Rattle.city_live.proofs.Finished.{heard_ended}
+use Rattle.city_live.proofs.Replayed.{stays}
 use Rattle.city_live.proofs.talks.Talks.end.Goals as goal
 
 pub invariant_of-self-2 : goal.invariant_of-self-2
-invariant_of-self-2 c =
+invariant_of-self-2 g c =
     heard_ended c.self.invariant c.args.stamp c.in-Some.work (sym c.take.ensures.taken ∙ c.in-Some.is)
     c.take.ensures.left
     _ c.abort.ensures.ended _ c.into_parts-hand.ensures.hand c.into_parts-hand.ensures.tag c.says.ensures
@@ -15,4 +16,5 @@ invariant_of-self-2 c =
     c.ended_by-replies.ensures)
 
 pub returns : goal.returns
-returns c = saying c.self.view_is (ended c.args.stamp _ c.abort.ensures.ended) c.says.new.self _ _ c.says.ensures
+returns g c = saying c.self.view_is (ended c.args.stamp _ c.abort.ensures.ended)
+    (stays c.abort.ensures.undone.city) c.says.new.self _ _ c.says.ensures

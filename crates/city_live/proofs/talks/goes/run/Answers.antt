@@ -1,5 +1,6 @@
 use Rattle.std.specs.Prelude.{slice_get}
 use Rattle.std.proofs.Common.{◌∙◌, sym, ap, ◌++◌, ◌∷◌, []}
+use Rattle.city_model.specs.Meaning.{is_refusal}
 use Rattle.city_live.proofs.Finished.{ran_refused, ran_replied}
 use Rattle.city_live.proofs.Worked.{read_at}
 use Rattle.city_live.proofs.talks.goes.run.Goals as goal
@@ -17,7 +18,8 @@ pub loop-preserved : goal.loop-preserved
 loop-preserved c =
     ran_replied c.loop.invariant c.in-Some.command.now c.in-Replied.reply
     (c.push_reserved.ensures.items ∙ (ap (λ l. l ++ c.in-Ok.reply ∷ []) c.reserve.ensures.items
-    ∙ ap (λ r. c.loop.replies.items ++ r ∷ []) c.in-Ok.ensures.reply))
+    ∙ ap (λ r. c.loop.replies.items ++ r ∷ []) c.in-Ok.ensures.reply.0))
+    (ap is_refusal (sym c.in-Ok.ensures.reply.0) ∙ c.in-Ok.ensures.reply.1)
     c.in-Replied.ensures
     (ap (slice_get c.args.commands.now) (sym (c.len.ensures ∙ c.loop.replies.ok.0))
     ∙ read_at c.args.commands.now c.len.result c.in-Some.command.now c.in-Some.ensures.lookup.0

@@ -1,0 +1,41 @@
+-- Lines, and bytes that end within one of them.
+use Rattle.std.proofs.Common.{◌≡◌, ◌+◌, ◌<◌, ◌≤◌, ◌∙◌, ◌∷◌, ◌++◌, ℕ, zero, suc, List, [], refl, sym, ap, length, take}
+use Rattle.std.proofs.Common.{append_assoc, append-nil, arith, ◌==◌}
+use Rattle.std.proofs.lemmas.Bool.{or_parts}
+use Rattle.std.specs.List.{list_any}
+use Rattle.city_journal.specs.Lines.{AreLines, IsLine, lines_text, whole_lines, with_byte}
+
+-- ---- one line
+
+pub line_first : (l rest : List ℕ) → IsLine l → whole_lines (l ++ 10 ∷ rest) ≡ l ∷ whole_lines rest
+line_first [] rest is = refl
+line_first (c ∷ l) rest is =
+    let parts = or_parts (c == 10) (list_any (λ x. x == 10) l) is in
+    rw (parts.0, line_first l rest parts.1) refl
+
+-- a part of a line is none
+pub part_of_line : (l : List ℕ) (k : ℕ) → IsLine l → k ≤ length l → whole_lines (take k (l ++ 10 ∷ [])) ≡ []
+part_of_line [] zero is le = refl
+part_of_line [] (suc k) is le = absurd (omega (arith, le))
+part_of_line (c ∷ l) zero is le = refl
+part_of_line (c ∷ l) (suc k) is le =
+    let parts = or_parts (c == 10) (list_any (λ x. x == 10) l) is in
+    rw (parts.0, part_of_line l k parts.1 (omega (arith, le))) refl
+
+-- ---- several lines
+
+pub lines_and : (ls : List (List ℕ)) (rest : List ℕ) → AreLines ls
+    → whole_lines (lines_text ls ++ rest) ≡ ls ++ whole_lines rest
+lines_and [] rest are = refl
+lines_and (l ∷ ls) rest are =
+    ap whole_lines (append_assoc (l ++ 10 ∷ []) (lines_text ls) rest ∙ append_assoc l (10 ∷ []) (lines_text ls ++ rest))
+    ∙ line_first l (lines_text ls ++ rest) are.0 ∙ ap (λ w. l ∷ w) (lines_and ls rest are.1)
+
+pub more_lines : (ls : List (List ℕ)) (l : List ℕ) → lines_text (ls ++ l ∷ []) ≡ lines_text ls ++ (l ++ 10 ∷ [])
+more_lines [] l = append-nil (l ++ 10 ∷ [])
+more_lines (x ∷ ls) l =
+    ap (λ t. (x ++ 10 ∷ []) ++ t) (more_lines ls l) ∙ sym (append_assoc (x ++ 10 ∷ []) (lines_text ls) (l ++ 10 ∷ []))
+
+pub are_more : (ls : List (List ℕ)) (l : List ℕ) → AreLines ls → IsLine l → AreLines (ls ++ l ∷ [])
+are_more [] l are is = (is, tt)
+are_more (x ∷ ls) l are is = (are.0, are_more ls l are.1 is)

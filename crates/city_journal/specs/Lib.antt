@@ -1,0 +1,5 @@
+pub mod Files
+pub mod Kept
+pub mod Lines
+pub mod Replays
+pub mod Steps

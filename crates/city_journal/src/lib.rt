@@ -1,0 +1,43 @@
+//! The journal of a live model: what was committed, on the disk before anyone is told.
+//!
+//! - `model_sum`: the SHA-256 of a model's text, which says what a journal is over
+//! - `line_sum`, `line_parts`, `line`: the lines of a journal, read; `steps`, `script_text`, `write_line`: written
+//! - `keys`: the keys of the last commits, so that none is made twice
+//! - `read`, `reading`: a whole journal read; `fault`: why one is refused
+//! - `replaying`: its commits, made again on a city
+//! - `file`: a file that grows; `memory_file`: one in memory; `runtime_file`: one of a runtime
+//! - `journaling`: what a live city notes its commits by; `noting`: lines in a file; `live`: what that asks of it
+#![tactic(auto)]
+
+mod fault;
+mod file;
+mod journaling;
+mod keys;
+mod line;
+mod line_parts;
+mod line_sum;
+mod live;
+mod memory_file;
+mod model_sum;
+mod noting;
+mod read;
+mod reading;
+mod replaying;
+mod runtime_file;
+mod script_text;
+mod steps;
+#[cfg(test)]
+mod tests;
+mod write_line;
+
+pub use fault::JournalFault;
+pub use file::{JournalFile, Refused};
+pub use journaling::Journaling;
+pub use keys::{Keys, MAX_KEYS, Made};
+pub use live::{Commands, Entry, Journal, NoJournal, Unwritten};
+pub use memory_file::MemoryFile;
+pub use model_sum::ModelSum;
+pub use read::{Commit, ReadJournal, read_journal};
+pub use replaying::replay;
+pub use runtime_file::RuntimeFile;
+pub use write_line::append_beginning;

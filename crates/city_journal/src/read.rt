@@ -1,0 +1,135 @@
+//! A whole journal, read.
+ghost use Rattle.std.specs.Prelude.{◌≡◌, IfOk};
+ghost use Rattle.city_journal.specs.Lines.{EndsLine};
+
+use crate::fault::JournalFault;
+use crate::keys::Keys;
+use crate::model_sum::ModelSum;
+use crate::reading::{Place, Reading, Taken};
+use memchr::memchr;
+use std::alloc::Global;
+
+/// A commit of a journal: the text of its script, and the version that it made.
+#[derive(Clone, Copy, Drop)]
+pub struct Commit<'a> {
+    pub script: &'a [u8],
+    pub version: u64,
+}
+
+/// A journal that was read.
+#[derive(Drop)]
+pub struct ReadJournal<'a> {
+    commits: Vec<Commit<'a>>,
+    places: Vec<Place>,
+    keys: Keys,
+    version: u64,
+    whole: usize,
+    lines: usize,
+    dropped: bool,
+}
+
+impl<'a> ReadJournal<'a> {
+    /// How many of its bytes stand: whole lines, without a last one that was cut. Doesn't allocate.
+    pub fn whole(&self) -> usize
+        ensures { result ≡ self.now.whole }
+    {
+        self.whole
+    }
+
+    /// How many lines it has, one that was cut among them. Doesn't allocate.
+    pub fn lines(&self) -> usize {
+        self.lines
+    }
+
+    /// Whether its last line was cut, and is dropped. Doesn't allocate.
+    pub fn is_cut(&self) -> bool {
+        self.dropped
+    }
+
+    /// The version behind its last commit. Doesn't allocate.
+    pub fn version(&self) -> u64 {
+        self.version
+    }
+
+    /// The commits behind the last place where the model has this sum. Doesn't allocate.
+    ///
+    /// `OtherModel` if there is none.
+    pub fn commits_behind(&self, model: &ModelSum) -> Result<&[Commit<'a>], JournalFault> {
+        for place in self.places.iter().rev() {
+            if place.sum == *model {
+                let before = place.before.min(self.commits.len());
+                return Ok(&self.commits.as_slice()[before..]);
+            }
+        }
+        match self.places.last() {
+            Some(place) => Err(JournalFault::OtherModel(place.sum, *model)),
+            None => Err(JournalFault::NoJournal),
+        }
+    }
+
+    /// The keys of its last commits, and of those before it.
+    pub fn into_keys(self) -> Keys {
+        self.keys
+    }
+}
+
+/// Reads a journal. A last line that was cut, or is damaged, is dropped: what stands ends behind a newline.
+pub fn read_journal(
+    alloc: Global,
+    bytes: &[u8],
+    decimals: bool,
+) -> Result<ReadJournal<'_>, JournalFault>
+    ensures { IfOk result (λ journal. EndsLine bytes.now journal.whole) }
+{
+    let Some(end) = memchr(b'\n', bytes) else {
+        return Err(JournalFault::NoJournal);
+    };
+    let Some(reading) = Reading::begin(alloc, &bytes[..end])? else {
+        return Err(JournalFault::NoJournal);
+    };
+    if reading.decimals != decimals {
+        return Err(JournalFault::OtherNumbers(reading.decimals));
+    }
+    read_rest(reading, bytes, end + 1)
+}
+
+/// Reads the lines of a journal from the second on, which begins at this byte.
+fn read_rest<'a>(
+    mut reading: Reading<'a>,
+    bytes: &'a [u8],
+    start: usize,
+) -> Result<ReadJournal<'a>, JournalFault>
+    requires { EndsLine bytes.now start }
+    ensures { IfOk result (λ journal. EndsLine bytes.now journal.whole) }
+{
+    let mut whole = start;
+    let mut lines: usize = 1;
+    let mut dropped = false;
+    while whole < bytes.len() {
+        lines = lines.saturating_add(1);
+        let Some(length) = memchr(b'\n', &bytes[whole..]) else {
+            dropped = true;
+            break;
+        };
+        let end = whole + length;
+        match reading.take(&bytes[whole..end], lines)? {
+            Taken::Stands => whole = end + 1,
+            Taken::Damaged => {
+                if end + 1 < bytes.len() {
+                    return Err(JournalFault::BadLine(lines));
+                }
+                dropped = true;
+                break;
+            }
+        }
+    }
+    Ok(ReadJournal {
+        commits: reading.commits,
+        places: reading.places,
+        keys: reading.keys,
+        version: reading.version,
+        whole,
+        lines,
+        dropped,
+    })
+}

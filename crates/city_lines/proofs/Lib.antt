@@ -1,0 +1,2 @@
+pub mod Prelude
+pub mod Begun

@@ -1,0 +1,76 @@
+//! An answer of the engine as a line.
+use crate::ends::{write_blocked, write_ended, write_refused, write_reply_member};
+use crate::error::write_engine_fault;
+use crate::front::{begun, ended, write_number, write_truth};
+use crate::looks::{write_changed, write_each, write_ids, write_one};
+use crate::models::append_city;
+use city_live::{Answer, What};
+use city_model::OutOfMemory;
+use json::Writer;
+use std::alloc::Global;
+
+/// How an answer with objects is written, as its request asked.
+#[derive(Clone, Copy)]
+pub enum Form {
+    /// A look as objects by their ids, and a model whole.
+    Plain,
+    /// A look as one object.
+    One,
+    /// A look as objects by their ids.
+    Each,
+    /// A model as the ids of its objects, each with its type.
+    Ids,
+}
+
+/// The bytes, and behind them the line of an answer, with its newline. The answer belongs to this line of the input,
+/// counted from 1. Points are hashed by the seed.
+pub fn append_answer(
+    alloc: Global,
+    seed: u64,
+    line: u64,
+    form: Form,
+    answer: &Answer,
+    bytes: Vec<u8>,
+) -> Result<Vec<u8>, OutOfMemory> {
+    let hand = answer.hand.as_str();
+    match (&answer.what, form) {
+        (What::Model(city, version), Form::Plain | Form::One | Form::Each) => {
+            append_city(alloc, seed, hand, &answer.tag, *version, city, bytes)
+        }
+        (what, form) => {
+            let mut out = begun(Some(hand), &answer.tag, bytes)?;
+            write_what(alloc, seed, line, form, what, &mut out)?;
+            ended(out)
+        }
+    }
+}
+
+/// Writes what an answer tells.
+fn write_what(
+    alloc: Global,
+    seed: u64,
+    line: u64,
+    form: Form,
+    what: &What,
+    out: &mut Writer,
+) -> Result<(), OutOfMemory> {
+    match what {
+        What::Began(since) => write_number("began", *since, out),
+        What::Reply(reply) => write_reply_member(alloc, seed, reply, out),
+        What::Refused(at, cause) => write_refused(*at, cause, out),
+        What::Waits(blocked) => write_blocked("waits", blocked, out),
+        What::Died(blocked) => write_blocked("died", blocked, out),
+        What::Ended(end) => write_ended(alloc, seed, end, out),
+        What::Cancelled => write_truth("cancelled", true, out),
+        What::Watching(version) => write_number("watching", *version, out),
+        What::Unwatched => write_truth("watching", false, out),
+        What::Changed(changed) => write_changed(alloc, seed, changed, out),
+        What::Look(found, version) => match form {
+            Form::One => write_one(alloc, seed, found.as_slice(), *version, out),
+            _ => write_each(alloc, seed, found.as_slice(), *version, out),
+        },
+        What::Model(city, version) => write_ids(city, *version, out),
+        What::Bye => write_truth("bye", true, out),
+        What::Fault(fault) => write_engine_fault(line, *fault, out),
+    }
+}

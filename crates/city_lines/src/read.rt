@@ -1,0 +1,129 @@
+//! Reads a line.
+use crate::ask::{ask_of, needed_text, wrong};
+use crate::fault::{LineError, LineFault, Wrong};
+use crate::line::Line;
+use crate::members::{Member, Members, members_of};
+use crate::name::Name;
+use crate::values::text_of;
+use city_live::Tag;
+use city_members::text::Text;
+use city_model::OutOfMemory;
+use json::Scratch;
+use simdutf8::compat::from_utf8;
+use std::alloc::Global;
+
+/// The most bytes of a line.
+pub const MAX_LINE: usize = 67_108_864;
+
+/// The most bytes of a hand's name, and of a key.
+pub const MAX_NAME: usize = 256;
+
+/// The request of a line, without its newline. It allocates a few times the line's length at most.
+pub fn read_line(alloc: Global, bytes: &[u8]) -> Result<Line, LineError> {
+    if bytes.len() > MAX_LINE {
+        return Err(LineError::unnamed(LineFault::TooLong));
+    }
+    let text = match from_utf8(bytes) {
+        Ok(text) => text,
+        Err(error) => return Err(LineError::unnamed(LineFault::NotJson(error.valid_up_to()))),
+    };
+    let mut scratch = Scratch::new(alloc);
+    match members_of(alloc, text, &mut scratch) {
+        Ok(members) => line_of(alloc, members, &mut scratch),
+        Err(_) => Err(LineError::unnamed(LineFault::NoMemory)),
+    }
+}
+
+/// The request of these members.
+fn line_of(alloc: Global, members: Members<'_>, scratch: &mut Scratch) -> Result<Line, LineError> {
+    let tag = match tag_of(alloc, &members) {
+        Ok(tag) => tag,
+        Err(_) => return Err(LineError::unnamed(LineFault::NoMemory)),
+    };
+    let hand = hand_of(alloc, &members, scratch);
+    let Members { list, fault } = members;
+    if let Some(fault) = fault {
+        let hand = hand.ok();
+        return Err(LineError { hand, tag, fault });
+    }
+    let members = Members { list, fault: None };
+    match hand {
+        Ok(hand) => asked_line(alloc, hand, tag, &members, scratch),
+        Err(fault) => Err(LineError {
+            hand: None,
+            tag,
+            fault,
+        }),
+    }
+}
+
+/// The request of a hand.
+fn asked_line(
+    alloc: Global,
+    hand: Text,
+    tag: Tag,
+    members: &Members<'_>,
+    scratch: &mut Scratch,
+) -> Result<Line, LineError> {
+    let key = match key_of(alloc, members, scratch) {
+        Ok(key) => key,
+        Err(fault) => {
+            let hand = Some(hand);
+            return Err(LineError { hand, tag, fault });
+        }
+    };
+    match ask_of(alloc, members, scratch) {
+        Ok(ask) => Ok(Line {
+            hand,
+            tag,
+            key,
+            ask,
+        }),
+        Err(fault) => {
+            let hand = Some(hand);
+            Err(LineError { hand, tag, fault })
+        }
+    }
+}
+
+/// The JSON text of the `id`, if there is one.
+fn tag_of(alloc: Global, members: &Members<'_>) -> Result<Tag, OutOfMemory> {
+    match members.find(Name::Id) {
+        Some(text) => Ok(Some(text_of(alloc, text)?)),
+        None => Ok(None),
+    }
+}
+
+/// The hand.
+fn hand_of(alloc: Global, members: &Members<'_>, scratch: &mut Scratch) -> Result<Text, LineFault> {
+    match short_text(alloc, members, Name::Hand, scratch)? {
+        Some(hand) => Ok(hand),
+        None => Err(LineFault::NoHand),
+    }
+}
+
+/// The key, if there is one.
+fn key_of(
+    alloc: Global,
+    members: &Members<'_>,
+    scratch: &mut Scratch,
+) -> Result<Option<Text>, LineFault> {
+    short_text(alloc, members, Name::Key, scratch)
+}
+
+/// The text of a member, if it is there. It may have `MAX_NAME` bytes.
+fn short_text(
+    alloc: Global,
+    members: &Members<'_>,
+    name: Name,
+    scratch: &mut Scratch,
+) -> Result<Option<Text>, LineFault> {
+    let Some(text) = members.find(name) else {
+        return Ok(None);
+    };
+    let found = needed_text(alloc, Member { name, text }, scratch)?;
+    if found.as_str().len() > MAX_NAME {
+        return Err(wrong(alloc, name, Wrong::Form));
+    }
+    Ok(Some(found))
+}

@@ -1,0 +1,118 @@
+//! The model saved.
+
+use crate::server::Server;
+use city_journal::{JournalFile, ModelSum};
+use city_lines::{Form, LineFault};
+use city_live::{Request, Tag, What};
+use city_members::copied::Copied;
+use city_members::text::Text;
+use city_model::OutOfMemory;
+use city_model::city::City;
+use city_serve::{OutputFiles, filled_new, place};
+
+/// Why a model isn't saved.
+#[derive(Clone, Copy)]
+pub(crate) enum Unsaved {
+    NoMemory,
+    /// A step on the output file or the journal was refused, or another program changed the file.
+    CannotWrite,
+}
+
+impl From<OutOfMemory> for Unsaved {
+    fn from(_: OutOfMemory) -> Unsaved {
+        Unsaved::NoMemory
+    }
+}
+
+impl<D: JournalFile + Drop> Server<'_, D> {
+    /// Saves the model for a hand, and tells it so.
+    pub(crate) fn save_for<F: OutputFiles>(
+        &mut self,
+        files: &mut F,
+        hand: Text,
+        tag: Tag,
+    ) -> Result<(), OutOfMemory> {
+        let Some(path) = self.output else {
+            return self.refuse(Some(hand), tag, LineFault::NoOutput);
+        };
+        let Ok(answers) = self.hands.handle(hand, tag, Request::Model) else {
+            return self.refuse(None, None, LineFault::NoMemory);
+        };
+        for answer in answers {
+            match &answer.what {
+                What::Model(city, version) => {
+                    let saved = self.save(files, path, city, *version);
+                    let hand = answer.hand.copy(self.alloc)?;
+                    self.tell_saving(hand, answer.tag, *version, saved)?;
+                }
+                _ => self.tell(answer, Form::Plain)?,
+            }
+        }
+        Ok(())
+    }
+
+    /// Tells a hand what came of its save.
+    fn tell_saving(
+        &mut self,
+        hand: Text,
+        tag: Tag,
+        version: u64,
+        saved: Result<(), Unsaved>,
+    ) -> Result<(), OutOfMemory> {
+        match saved {
+            Ok(()) => self.tell_saved(&hand, &tag, version),
+            Err(Unsaved::NoMemory) => self.refuse(Some(hand), tag, LineFault::NoMemory),
+            Err(Unsaved::CannotWrite) => self.refuse(Some(hand), tag, LineFault::CannotWrite),
+        }
+    }
+
+    /// Writes a city to the file of this path, replaced whole, and begins the journal anew over it.
+    pub(crate) fn save<F: OutputFiles>(
+        &mut self,
+        files: &mut F,
+        path: &str,
+        city: &City,
+        version: u64,
+    ) -> Result<(), Unsaved> {
+        let mut text = self.model_text(city)?;
+        let sum = ModelSum::of(text.as_slice());
+        if text.push(b'\n').is_err() {
+            return Err(Unsaved::NoMemory);
+        }
+        let Some(new) = filled_new(files, self.seed, path, text.as_slice()) else {
+            return Err(Unsaved::CannotWrite);
+        };
+        if self.hands.journal_mut().begin_save(&sum).is_err() {
+            files.give_up(new);
+            return Err(Unsaved::CannotWrite);
+        }
+        if place(files, new, path).is_err() {
+            return Err(Unsaved::CannotWrite);
+        }
+        if self.hands.journal_mut().end_save(&sum, version).is_err() {
+            return Err(Unsaved::CannotWrite);
+        }
+        self.saved = Some(version);
+        drop(text);
+        // (the file is known again, so that the next save finds changes by others)
+        let _ = files.read(path);
+        Ok(())
+    }
+
+    /// Saves the model at the end of the input, if there is an output and it doesn't have the model.
+    pub(crate) fn save_at_end<F: OutputFiles>(&mut self, files: &mut F) -> Result<(), Unsaved> {
+        let Some(path) = self.output else {
+            return Ok(());
+        };
+        if self.saved == Some(self.hands.version()) {
+            return Ok(());
+        }
+        let nobody = Text::new(String::new(self.alloc));
+        for answer in self.hands.handle(nobody, None, Request::Model)? {
+            if let What::Model(city, version) = &answer.what {
+                return self.save(files, path, city, *version);
+            }
+        }
+        Err(Unsaved::NoMemory)
+    }
+}

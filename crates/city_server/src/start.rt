@@ -1,0 +1,175 @@
+//! The model and the journal at the start of a session.
+
+use crate::fault::LiveFault;
+use crate::journal_store::JournalStore;
+use city_decimals::decode;
+use city_doc::{append_city, read_city};
+use city_journal::{
+    JournalFault, Journaling, Keys, ModelSum, ReadJournal, append_beginning, read_journal, replay,
+};
+use city_model::OutOfMemory;
+use city_model::city::City;
+use city_options::LiveLine;
+use city_serve::{OutputFiles, ServeFault, Text, encode_text};
+use std::alloc::Global;
+
+/// A city, and the sum of its canonical text.
+#[derive(Drop)]
+struct Opened {
+    city: City,
+    sum: ModelSum,
+}
+
+/// What a session starts with.
+#[derive(Drop)]
+pub(crate) struct Started<D: JournalStore + Drop> {
+    pub city: City,
+    pub version: u64,
+    pub journal: Journaling<D>,
+    /// How many lines the journal had, if the last one was cut.
+    pub cut: Option<usize>,
+}
+
+/// Reads the model, and makes again what the journal has behind it.
+pub(crate) fn start<F: OutputFiles, D: JournalStore + Drop>(
+    alloc: Global,
+    seed: u64,
+    files: &mut F,
+    journal: Option<D>,
+    line: &LiveLine<'_>,
+) -> Result<Started<D>, LiveFault> {
+    let Some(mut journal) = journal else {
+        let city = read_model(alloc, files, line.model, line.decimals)?;
+        let journal = Journaling::new(alloc, seed, line.decimals, None, Keys::new(alloc));
+        return Ok(Started {
+            city,
+            version: 0,
+            journal,
+            cut: None,
+        });
+    };
+    let Ok(bytes) = journal.read_all() else {
+        return Err(LiveFault::JournalFile(ServeFault::Read));
+    };
+    if bytes.is_empty() {
+        return begin(alloc, seed, files, journal, line);
+    }
+    let read = read_journal(alloc, bytes.as_slice(), line.decimals)?;
+    let opened = open_for(alloc, seed, files, &read, line)?;
+    let commits = read.commits_behind(&opened.sum)?;
+    let city = replay(alloc, line.decimals, opened.city, commits)?;
+    resume(alloc, seed, city, journal, read, line.decimals)
+}
+
+/// Begins a journal over a model.
+fn begin<F: OutputFiles, D: JournalStore + Drop>(
+    alloc: Global,
+    seed: u64,
+    files: &mut F,
+    journal: D,
+    line: &LiveLine<'_>,
+) -> Result<Started<D>, LiveFault> {
+    let mut journal = journal;
+    let opened = open(alloc, seed, files, line.model, line.decimals)?;
+    let keys = Keys::new(alloc);
+    let room = Vec::new(alloc);
+    let lines = append_beginning(alloc, room, &opened.sum, line.decimals, 0, &keys)?;
+    if journal.begin(lines.as_slice(), 0).is_err() {
+        return Err(LiveFault::JournalFile(ServeFault::Write));
+    }
+    Ok(Started {
+        city: opened.city,
+        version: 0,
+        journal: Journaling::new(alloc, seed, line.decimals, Some(journal), keys),
+        cut: None,
+    })
+}
+
+/// Goes on behind the whole lines of a journal, whose commits are made again.
+fn resume<D: JournalStore + Drop>(
+    alloc: Global,
+    seed: u64,
+    city: City,
+    journal: D,
+    read: ReadJournal<'_>,
+    decimals: bool,
+) -> Result<Started<D>, LiveFault> {
+    let mut journal = journal;
+    if journal.open_behind(read.whole()).is_err() {
+        return Err(LiveFault::JournalFile(ServeFault::Write));
+    }
+    let version = read.version();
+    let cut = if read.is_cut() {
+        Some(read.lines())
+    } else {
+        None
+    };
+    let keys = read.into_keys();
+    Ok(Started {
+        city,
+        version,
+        journal: Journaling::new(alloc, seed, decimals, Some(journal), keys),
+        cut,
+    })
+}
+
+/// The model that a journal is over: that of the output file if it has it, or else MODEL's.
+fn open_for<F: OutputFiles>(
+    alloc: Global,
+    seed: u64,
+    files: &mut F,
+    read: &ReadJournal<'_>,
+    line: &LiveLine<'_>,
+) -> Result<Opened, LiveFault> {
+    if let Some(path) = line.output {
+        if !files.are_same(path, line.model) {
+            if let Ok(opened) = open(alloc, seed, files, path, line.decimals) {
+                if read.commits_behind(&opened.sum).is_ok() {
+                    return Ok(opened);
+                }
+            }
+        }
+    }
+    open(alloc, seed, files, line.model, line.decimals)
+}
+
+/// Reads a model, and its sum.
+fn open<F: OutputFiles>(
+    alloc: Global,
+    seed: u64,
+    files: &mut F,
+    path: &str,
+    decimals: bool,
+) -> Result<Opened, LiveFault> {
+    let city = read_model(alloc, files, path, decimals)?;
+    let sum = sum_of(alloc, seed, decimals, &city)?;
+    Ok(Opened { city, sum })
+}
+
+/// Reads a model.
+fn read_model<F: OutputFiles>(
+    alloc: Global,
+    files: &mut F,
+    path: &str,
+    decimals: bool,
+) -> Result<City, LiveFault> {
+    let mut text = Text::given(files.read(path)?);
+    if decimals {
+        encode_text(alloc, &mut text)?;
+    }
+    let city = read_city(alloc, text.bytes.as_slice())?;
+    Ok(city)
+}
+
+/// The sum of a city's canonical text.
+fn sum_of(alloc: Global, seed: u64, decimals: bool, city: &City) -> Result<ModelSum, OutOfMemory> {
+    let text = append_city(alloc, seed, Vec::new(alloc), city)?;
+    if !decimals {
+        return Ok(ModelSum::of(text.as_slice()));
+    }
+    // (what is written here is JSON, so only memory can run out)
+    match decode(alloc, text.as_slice()) {
+        Ok(decoded) => Ok(ModelSum::of(decoded.as_slice())),
+        Err(_) => Err(OutOfMemory),
+    }
+}
