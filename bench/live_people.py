@@ -22,7 +22,7 @@ import time
 from pathlib import Path
 
 sys.path.insert(0, str(Path(__file__).resolve().parent.parent / "testing"))
-from live_gateway import GIVEN, Running, aiohttp  # noqa: E402
+from live_running import GIVEN, Running, aiohttp  # noqa: E402
 from live_town import write_town  # noqa: E402
 
 
