@@ -121,6 +121,24 @@ class Verbs(Base):
             self.assertEqual(set(flagged), {"mill-lane-3", "mill-lane-1-shed"})
             self.assertIs(city.look("mill-lane-3")["inspected"], False)
 
+    def test_many(self):
+        """More objects than a transaction has commands: told, or done in parts."""
+        shed = loads(NEIGHBOUR.read_text())
+        for n in range(1500):
+            shed["CityObjects"]["post-%d" % n] = {"type": "CityFurniture", "attributes": {"n": n}}
+        many = self.path.parent / "many.city.json"
+        many.write_text(dumps(shed))
+        with self.city() as city:
+            with self.assertRaises(NotDone) as caught:
+                city.merge(many)
+            self.assertIn("more commands", str(caught.exception))
+            self.assertEqual(len(city.ids()), 6)
+            city.merge(many, in_parts=True)
+            self.assertEqual(len(city.ids()), 6 + 2 + 1500)
+            self.assertEqual(city.look("mill-lane-7").children, ["mill-lane-7-house"])
+            self.assertEqual(len(city.flag(lambda it: it.get("n", -1) >= 100, {"old": True}, in_parts=True)), 1400)
+            self.assertIs(city.look("post-1499")["old"], True)
+
     def test_command_line(self):
         out = self.path.parent / "out.city.json"
 
