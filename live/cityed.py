@@ -1189,8 +1189,8 @@ class _City:
 
     async def _frame(self):
         """What the model has beside its objects and vertices, which no commit changes."""
-        if self._head is None:
-            model = await self._model()
+        if self._head is None:  # a gateway tells it first of all
+            model = self._link.first["frame"] if "frame" in self._link.first else await self._model()
             self._head = {name: it for name, it in model.items() if name not in ("CityObjects", "vertices")}
         return self._head
 

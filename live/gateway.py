@@ -28,7 +28,7 @@ except ModuleNotFoundError:
 sys.path.insert(0, str(Path(__file__).resolve().parent))
 from serving.connection import Connection, quoted  # noqa: E402
 from serving.engine import Gateway  # noqa: E402
-from serving.places import dump  # noqa: E402
+from serving.places import dump, dumps  # noqa: E402
 from serving.rights import RIGHTS, Rights, add_person  # noqa: E402
 
 import json  # noqa: E402
@@ -101,8 +101,9 @@ class Doors:
             await writer.drain()
 
         connection = Connection(self.gateway, user, "edit", write, writer.transport.abort)
-        first = self.gateway.first or {"cityed": "", "objects": 0}
-        connection.send(dump({**first, "version": self.gateway.version}))
+        first, places = self.gateway.first or {"cityed": "", "objects": 0}, self.gateway.places
+        frame = {"frame": places.frame} if places else {}
+        connection.send(dumps({**first, "version": self.gateway.version, **frame}), counts=False)
         self.gateway.come(connection)
         self.gateway.tell_people()
         try:

@@ -28,6 +28,9 @@ class Gateways(unittest.IsolatedAsyncioTestCase):
     def setUp(self):
         self.run_ = Running(options=self.options)
 
+    async def asyncSetUp(self):
+        asyncio.get_running_loop().slow_callback_duration = 60  # unittest's loops tell of slow calls otherwise
+
     def tearDown(self):
         self.run_.close()
 
@@ -357,6 +360,19 @@ class Engines(Gateways):
             raise AssertionError(repr(error)) from error
         finally:
             City.look = real
+
+    async def test_long_model(self):
+        """A model that is longer than what may wait for a connection comes whole; a second one has to wait."""
+        async with self.page("ann") as ann:
+            for n in range(6):
+                self.assertEqual(await ann.set(**{"big%d" % n: "x" * 3_500_000}), "committed")
+            first, second = await ann.send(model=True), await ann.send(model=True)
+            told = await ann.until(lambda it: it.get("id") == first, 60)
+            self.assertGreater(len(json.dumps(told)), 21_000_000)
+            self.assertEqual((await ann.until(lambda it: it.get("id") == second))["error"]["fault"], "TooSoon")
+            await ann.send(follow={})
+            await ann.until(lambda it: "followed" in it)
+            self.assertIn("model", await ann.ask(model=True))
 
     async def test_saves(self):
         async with self.page("ann") as ann:
