@@ -2,14 +2,12 @@
 
 use crate::program::{MEMORY_LINE, refuse_line, tell};
 use crate::status::Status;
-use city_journal::RuntimeFile;
 use city_model::OutOfMemory;
 use city_options::{AskedLive, LiveLine, live_by};
 use city_serve::serve::write_output;
-use city_serve::{Device, OutputFiles, RuntimeFiles, ServeFault};
-use city_server::{LiveFault, run_live};
+use city_serve::{Device, OutputFiles, ServeFault};
+use city_server::{Journals, LiveFault, run_live};
 use std::alloc::Global;
-use std::fs::{File, Files};
 use std::io::{Read, Write};
 use std::time::Clock;
 
@@ -19,11 +17,14 @@ const JOURNAL_NAMED: &str =
 
 /// Answers the words of a live command line, the program's name first: holds the model until the input ends.
 ///
-/// The output file and the journal are locked before a text is read, and unlocked at the end.
-pub fn run_live_words<T: Files<File = File> + AllocGlobal + Clock, R: Read, W: Write, E: Write>(
-    rt: &T,
+/// The output file and the journal are locked before a text is read, and unlocked at the end. A line whose journal is the
+/// model's file or the output file is refused.
+pub fn run_live_words<C: Clock, F: OutputFiles, K: Journals, R: Read, W: Write, E: Write>(
+    clock: &C,
     alloc: Global,
     seed: u64,
+    files: &mut F,
+    journals: &mut K,
     words: &[String],
     input: &mut Device<R>,
     output: &mut Device<W>,
@@ -31,12 +32,13 @@ pub fn run_live_words<T: Files<File = File> + AllocGlobal + Clock, R: Read, W: W
 ) -> Status {
     match live_by(alloc, words) {
         Ok(AskedLive::Session(line)) => {
-            let mut files = RuntimeFiles::new(rt);
-            if has_one_file(&files, &line) {
+            if has_one_file(files, &line) {
                 tell(errors, JOURNAL_NAMED);
                 return Status::Refused;
             }
-            let ended = hold(rt, alloc, seed, &mut files, &line, input, output, errors);
+            let ended = hold(
+                clock, alloc, seed, files, journals, &line, input, output, errors,
+            );
             tell_end(alloc, ended, errors)
         }
         Ok(AskedLive::Text(text)) => {
@@ -62,42 +64,29 @@ fn has_one_file<F: OutputFiles>(files: &F, line: &LiveLine<'_>) -> bool {
     is_output || files.are_same(journal, line.model)
 }
 
-/// Locks the output file and the journal, if there are any, and holds the model until the input ends.
-fn hold<T: Files<File = File> + AllocGlobal + Clock, R: Read, W: Write, E: Write>(
-    rt: &T,
+/// Locks the output file, if there is one, and holds the model until the input ends.
+fn hold<C: Clock, F: OutputFiles, K: Journals, R: Read, W: Write, E: Write>(
+    clock: &C,
     alloc: Global,
     seed: u64,
-    files: &mut RuntimeFiles<'_, T>,
+    files: &mut F,
+    journals: &mut K,
     line: &LiveLine<'_>,
     input: &mut Device<R>,
     output: &mut Device<W>,
     errors: &mut Device<E>,
 ) -> Result<(), LiveFault> {
-    if let Some(path) = line.output {
-        files.lock(path, line.wait)?;
-    }
-    let journal = match locked_journal(rt, seed, line) {
-        Ok(journal) => journal,
-        Err(fault) => {
-            files.unlock();
-            return Err(LiveFault::JournalFile(fault));
-        }
+    let Some(path) = line.output else {
+        return run_live(
+            clock, alloc, seed, files, journals, line, input, output, errors,
+        );
     };
-    let ended = run_live(rt, alloc, seed, files, journal, line, input, output, errors);
+    files.lock(path, line.wait)?;
+    let ended = run_live(
+        clock, alloc, seed, files, journals, line, input, output, errors,
+    );
     files.unlock();
     ended
-}
-
-/// The journal, locked, if there is one.
-fn locked_journal<'a, T: Files<File = File> + AllocGlobal + Clock>(
-    rt: &'a T,
-    seed: u64,
-    line: &LiveLine<'_>,
-) -> Result<Option<RuntimeFile<'a, T>>, ServeFault> {
-    match line.journal {
-        None => Ok(None),
-        Some(path) => Ok(Some(RuntimeFile::lock(rt, path, seed, line.wait)?)),
-    }
 }
 
 /// Tells why a session ended early, if it did.

@@ -31,6 +31,7 @@ mod fault_lines;
 mod faults;
 mod file;
 mod folder;
+mod journals;
 mod live_steps;
 mod locks;
 mod members;

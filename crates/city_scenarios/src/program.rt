@@ -1,6 +1,7 @@
 //! The verb `cityed`: the program, over files, streams and a command line.
 use crate::command_line::words_of;
 use crate::folder::Folder;
+use crate::journals::{NamedJournals, StillClock};
 use crate::named::Named;
 use crate::reader::{Giving, Reads};
 use crate::serve::joined;
@@ -9,7 +10,7 @@ use crate::written::Written;
 use city_crew::OpenGate;
 use city_doc::FIXED_SEED;
 use city_model::OutOfMemory;
-use city_program::{Status, run_program};
+use city_program::{Status, asks_for_live, run_live_words, run_program};
 use city_serve::Device;
 use std::alloc::Global;
 use std::sync::Wait;
@@ -44,15 +45,21 @@ fn run_line<T: Threads + Wait + Sync>(
     let input = joined(alloc, texts)?;
     let mut streams = Streams::new(alloc, habits);
     let mut files = Folder::new(alloc, names, habits);
-    let status = run(
-        rt,
-        alloc,
-        habits,
-        words.as_slice(),
-        input.as_slice(),
-        &mut files,
-        &mut streams,
-    );
+    let (words, input) = (words.as_slice(), input.as_slice());
+    let status = if asks_for_live(words) {
+        let mut journals = NamedJournals::new(alloc, names);
+        run_live(
+            alloc,
+            habits,
+            words,
+            input,
+            &mut files,
+            &mut journals,
+            &mut streams,
+        )
+    } else {
+        run(rt, alloc, habits, words, input, &mut files, &mut streams)
+    };
     add_status(status, answer);
     streams.add_to(alloc, habits.contains("sorted"), answer)?;
     add_files(files, answer)
@@ -79,6 +86,29 @@ fn run<T: Threads + Wait + Sync>(
         &mut Device::new(&mut streams.output),
         &mut Device::new(&mut streams.errors),
         habits.contains("terminal"),
+    )
+}
+
+/// Runs a live session with these words, habits and input.
+fn run_live(
+    alloc: Global,
+    habits: &str,
+    words: &[String],
+    input: &[u8],
+    files: &mut Folder,
+    journals: &mut NamedJournals,
+    streams: &mut Streams,
+) -> Status {
+    run_live_words(
+        &StillClock,
+        alloc,
+        FIXED_SEED,
+        files,
+        journals,
+        words,
+        &mut Device::new(Giving::new(Reads::told(habits), input)),
+        &mut Device::new(&mut streams.output),
+        &mut Device::new(&mut streams.errors),
     )
 }
 

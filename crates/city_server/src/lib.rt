@@ -19,5 +19,5 @@ mod start;
 
 pub use fault::LiveFault;
 pub use input_lines::{CHUNK, MAX_LINE};
-pub use journal_store::JournalStore;
+pub use journal_store::{JournalStore, Journals, RuntimeJournals};
 pub use run::run_live;

@@ -3,7 +3,7 @@
 use crate::awaited::Awaited;
 use crate::fault::LiveFault;
 use crate::input_lines::{InputLines, Next};
-use crate::journal_store::JournalStore;
+use crate::journal_store::{JournalStore, Journals};
 use crate::save::Unsaved;
 use crate::server::Server;
 use crate::start::{Started, start};
@@ -26,34 +26,35 @@ const MOST_ANSWERS: usize = 1_048_576;
 ///
 /// What stands unread together is handled before the answers are written. A commit's line in the journal is on the disk
 /// before an answer to it is written. At the end of the input what is open is given up, and the model is saved if there
-/// is an output file, also if the input or the output failed. Errors are told if the journal's last line was cut.
-pub fn run_live<C: Clock, F: OutputFiles, D: JournalStore + Drop, R: Read, W: Write, E: Write>(
+/// is an output file, also if the input or the output failed. The journal is locked meanwhile. Errors are told if the journal's last line was cut.
+pub fn run_live<C: Clock, F: OutputFiles, K: Journals, R: Read, W: Write, E: Write>(
     clock: &C,
     alloc: Global,
     seed: u64,
     files: &mut F,
-    journal: Option<D>,
+    journals: &mut K,
     line: &LiveLine<'_>,
     input: &mut Device<R>,
     output: &mut Device<W>,
     errors: &mut Device<E>,
 ) -> Result<(), LiveFault> {
+    let journal = match line.journal {
+        None => None,
+        Some(path) => match journals.lock(path, line.wait) {
+            Ok(journal) => Some(journal),
+            Err(fault) => return Err(LiveFault::JournalFile(fault)),
+        },
+    };
     let started = start(alloc, seed, files, journal, line)?;
     if let Some(lines) = started.cut {
         tell_cut(alloc, lines, errors)?;
     }
     let mut server = served(alloc, seed, started, line)?;
-    let ended = server.serve(clock, files, input, output);
-    if let Err(LiveFault::JournalFile(fault)) = ended {
-        return Err(LiveFault::JournalFile(fault));
+    let ended = server.run(clock, files, input, output);
+    if let Some(mut journal) = server.hands.journal_mut().take_file() {
+        journal.unlock();
     }
-    let saved = server.save_at_end(files);
-    ended?;
-    match saved {
-        Ok(()) => Ok(()),
-        Err(Unsaved::NoMemory) => Err(LiveFault::from(OutOfMemory)),
-        Err(Unsaved::CannotWrite) => Err(LiveFault::Serve(ServeFault::Write)),
-    }
+    ended
 }
 
 /// Tells that the last of so many lines of the journal was cut.
@@ -83,6 +84,11 @@ fn served<'a, D: JournalStore + Drop>(
 ) -> Result<Server<'a, D>, OutOfMemory> {
     let objects = started.city.len() as u64;
     let answers = append_ready(VERSION, objects, started.version, Vec::new(alloc))?;
+    let saved = if started.is_saved {
+        Some(started.version)
+    } else {
+        None
+    };
     let hands = Hands::new(alloc, started.city, started.version, started.journal);
     Ok(Server {
         alloc,
@@ -93,11 +99,32 @@ fn served<'a, D: JournalStore + Drop>(
         awaited: Awaited::new(alloc),
         lines: 0,
         answers,
-        saved: None,
+        saved,
     })
 }
 
 impl<D: JournalStore + Drop> Server<'_, D> {
+    /// Answers the lines of the input until it ends, and saves the model.
+    fn run<C: Clock, F: OutputFiles, R: Read, W: Write>(
+        &mut self,
+        clock: &C,
+        files: &mut F,
+        input: &mut Device<R>,
+        output: &mut Device<W>,
+    ) -> Result<(), LiveFault> {
+        let ended = self.serve(clock, files, input, output);
+        if let Err(LiveFault::JournalFile(fault)) = ended {
+            return Err(LiveFault::JournalFile(fault));
+        }
+        let saved = self.save_at_end(files);
+        ended?;
+        match saved {
+            Ok(()) => Ok(()),
+            Err(Unsaved::NoMemory) => Err(LiveFault::from(OutOfMemory)),
+            Err(Unsaved::CannotWrite) => Err(LiveFault::Serve(ServeFault::Write)),
+        }
+    }
+
     /// Answers the lines of the input until it ends.
     fn serve<C: Clock, F: OutputFiles, R: Read, W: Write>(
         &mut self,

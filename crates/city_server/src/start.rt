@@ -13,11 +13,12 @@ use city_options::LiveLine;
 use city_serve::{OutputFiles, ServeFault, Text, encode_text};
 use std::alloc::Global;
 
-/// A city, and the sum of its canonical text.
+/// A city, the sum of its canonical text, and whether it is that of the output file.
 #[derive(Drop)]
 struct Opened {
     city: City,
     sum: ModelSum,
+    is_output: bool,
 }
 
 /// What a session starts with.
@@ -28,6 +29,8 @@ pub(crate) struct Started<D: JournalStore + Drop> {
     pub journal: Journaling<D>,
     /// How many lines the journal had, if the last one was cut.
     pub cut: Option<usize>,
+    /// Whether the output file has this city.
+    pub is_saved: bool,
 }
 
 /// Reads the model, and makes again what the journal has behind it.
@@ -46,6 +49,7 @@ pub(crate) fn start<F: OutputFiles, D: JournalStore + Drop>(
             version: 0,
             journal,
             cut: None,
+            is_saved: is_output(files, line, line.model),
         });
     };
     let Ok(bytes) = journal.read_all() else {
@@ -56,9 +60,15 @@ pub(crate) fn start<F: OutputFiles, D: JournalStore + Drop>(
     }
     let read = read_journal(alloc, bytes.as_slice(), line.decimals)?;
     let opened = open_for(alloc, seed, files, &read, line)?;
-    let commits = read.commits_behind(&opened.sum)?;
-    let city = replay(alloc, line.decimals, opened.city, commits)?;
-    resume(alloc, seed, city, journal, read, line.decimals)
+    resume(alloc, seed, opened, journal, read, line.decimals)
+}
+
+/// Whether the output file has this path.
+fn is_output<F: OutputFiles>(files: &F, line: &LiveLine<'_>, path: &str) -> bool {
+    match line.output {
+        Some(output) => files.are_same(output, path),
+        None => false,
+    }
 }
 
 /// Begins a journal over a model.
@@ -70,7 +80,7 @@ fn begin<F: OutputFiles, D: JournalStore + Drop>(
     line: &LiveLine<'_>,
 ) -> Result<Started<D>, LiveFault> {
     let mut journal = journal;
-    let opened = open(alloc, seed, files, line.model, line.decimals)?;
+    let opened = open(alloc, seed, files, line, line.model)?;
     let keys = Keys::new(alloc);
     let room = Vec::new(alloc);
     let lines = append_beginning(alloc, room, &opened.sum, line.decimals, 0, &keys)?;
@@ -82,34 +92,48 @@ fn begin<F: OutputFiles, D: JournalStore + Drop>(
         version: 0,
         journal: Journaling::new(alloc, seed, line.decimals, Some(journal), keys),
         cut: None,
+        is_saved: opened.is_output,
     })
 }
 
-/// Goes on behind the whole lines of a journal, whose commits are made again.
+/// Goes on behind the whole lines of a journal: makes its commits behind the model again. If a save was broken off once
+/// the model was in place, it is finished.
 fn resume<D: JournalStore + Drop>(
     alloc: Global,
     seed: u64,
-    city: City,
+    opened: Opened,
     journal: D,
     read: ReadJournal<'_>,
     decimals: bool,
 ) -> Result<Started<D>, LiveFault> {
+    let Opened {
+        city,
+        sum,
+        is_output,
+    } = opened;
+    let commits = read.commits_behind(&sum)?;
+    let is_saved = is_output && commits.is_empty();
+    let city = replay(alloc, decimals, city, commits)?;
     let mut journal = journal;
     if journal.open_behind(read.whole()).is_err() {
         return Err(LiveFault::JournalFile(ServeFault::Write));
     }
-    let version = read.version();
+    let (version, is_broken_off) = (read.version(), read.is_saved_as(&sum));
     let cut = if read.is_cut() {
         Some(read.lines())
     } else {
         None
     };
-    let keys = read.into_keys();
+    let mut journal = Journaling::new(alloc, seed, decimals, Some(journal), read.into_keys());
+    if is_broken_off && journal.end_save(&sum, version).is_err() {
+        return Err(LiveFault::JournalFile(ServeFault::Write));
+    }
     Ok(Started {
         city,
         version,
-        journal: Journaling::new(alloc, seed, decimals, Some(journal), keys),
+        journal,
         cut,
+        is_saved,
     })
 }
 
@@ -123,14 +147,14 @@ fn open_for<F: OutputFiles>(
 ) -> Result<Opened, LiveFault> {
     if let Some(path) = line.output {
         if !files.are_same(path, line.model) {
-            if let Ok(opened) = open(alloc, seed, files, path, line.decimals) {
+            if let Ok(opened) = open(alloc, seed, files, line, path) {
                 if read.commits_behind(&opened.sum).is_ok() {
                     return Ok(opened);
                 }
             }
         }
     }
-    open(alloc, seed, files, line.model, line.decimals)
+    open(alloc, seed, files, line, line.model)
 }
 
 /// Reads a model, and its sum.
@@ -138,12 +162,17 @@ fn open<F: OutputFiles>(
     alloc: Global,
     seed: u64,
     files: &mut F,
+    line: &LiveLine<'_>,
     path: &str,
-    decimals: bool,
 ) -> Result<Opened, LiveFault> {
-    let city = read_model(alloc, files, path, decimals)?;
-    let sum = sum_of(alloc, seed, decimals, &city)?;
-    Ok(Opened { city, sum })
+    let city = read_model(alloc, files, path, line.decimals)?;
+    let sum = sum_of(alloc, seed, line.decimals, &city)?;
+    let is_output = is_output(files, line, path);
+    Ok(Opened {
+        city,
+        sum,
+        is_output,
+    })
 }
 
 /// Reads a model.

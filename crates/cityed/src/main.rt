@@ -17,6 +17,7 @@ use city_crew::OpenGate;
 use city_program::command_line::LineFault;
 use city_program::{asks_for_live, refuse_line, run_live_words, run_program};
 use city_serve::{Device, RuntimeFiles, drawn_seed};
+use city_server::RuntimeJournals;
 use std::io::{ErrorKind, IsTerminal};
 use std::process::ExitCode;
 use std::{env, io};
@@ -30,6 +31,8 @@ fn main(rt: HostRuntime) -> ExitCode {
             &rt,
             rt.alloc(),
             drawn_seed(&rt),
+            &mut RuntimeFiles::new(&rt),
+            &mut RuntimeJournals::new(&rt, drawn_seed(&rt)),
             words.as_slice(),
             &mut Device::new(rt.reader()),
             &mut Device::new(io::writer(&rt)),
