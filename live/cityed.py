@@ -256,8 +256,8 @@ class _Link:
 
     def start(self, words):
         try:
-            pipe = subprocess.PIPE
-            self.process = subprocess.Popen(words, stdin=pipe, stdout=pipe, stderr=pipe)
+            pipe = subprocess.PIPE  # a session of its own: Ctrl-C at a terminal is this process's to handle
+            self.process = subprocess.Popen(words, stdin=pipe, stdout=pipe, stderr=pipe, start_new_session=True)
         except OSError as error:
             raise Closed("%s can't be started: %s" % (words[0], error.strerror)) from error
         self.teller = threading.Thread(target=self.tell, name="cityed", daemon=True)

@@ -387,6 +387,15 @@ class Engines(Gateways):
         self.run_.process.wait(20)
         self.assertNotIn('"lime"', self.run_.model.read_text())
 
+    async def test_ends_as_at_a_terminal(self):
+        """Ctrl-C goes to all processes of a terminal: the engine still writes the model."""
+        async with self.page("ann") as ann:
+            await ann.ask(script={"name": "x", "commands": [{"delete": "lime"}, "commit"]})
+        self.assertNotEqual(os.getpgid(self.run_.engine_pid()), os.getpgid(self.run_.process.pid))
+        self.run_.process.send_signal(signal.SIGINT)
+        self.run_.process.wait(20)
+        self.assertNotIn('"lime"', self.run_.model.read_text())
+
     async def test_names_are_quoted(self):
         with City(self.run_.socket, hand="a\nb\x1b[31m") as city:
             city.ids()

@@ -115,6 +115,25 @@ class Verbs(Base):
         run = subprocess.run(words, input=b"[]", stdout=subprocess.PIPE, timeout=60)
         self.assertEqual(run.returncode, 0)
 
+    def test_materials(self):
+        """Materials follow where the model has the same ones, in any order; else it is told."""
+        tile = loads(TILE.read_text())
+        tile["appearance"]["materials"].reverse()
+        into = loads(NEIGHBOUR.read_text())
+        for name, appearance in (("other order", tile["appearance"]), ("none", None)):
+            self.path.write_text(dumps({**into, "appearance": appearance} if appearance else into))
+            with self.city() as city:
+                notes = city.copy(TILE, "mill-lane-1")
+                shapes = city.look("mill-lane-1-house").geometry
+                self.assertTrue(any("textures of mill-lane-1-house" in it for it in notes), notes)
+                told = [it for it in notes if "materials" in it]
+                kept = [it["material"] for it in shapes if "material" in it]
+                old = [it["material"] for it in loads(TILE.read_text())["CityObjects"]["mill-lane-1-house"]["geometry"]
+                       if "material" in it]
+                self.assertEqual((bool(told), bool(kept)), (name == "none", name != "none"))
+                if kept:  # of two materials in the other order, each index is the other one
+                    self.assertEqual(dumps(kept), dumps(old).translate(str.maketrans("01", "10")))
+
     def test_flag(self):
         with self.city() as city:
             flagged = city.flag(lambda it: it.get("roof") == "flat", {"inspected": False})

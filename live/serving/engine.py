@@ -47,8 +47,9 @@ class Gateway:
         while not self.stopping:
             started = time.monotonic()
             try:
-                pipe = asyncio.subprocess.PIPE
-                self.process = await asyncio.create_subprocess_exec(*self.given.engine, stdin=pipe, stdout=pipe)
+                pipe = asyncio.subprocess.PIPE  # a session of its own: what ends the gateway at a terminal lets it save
+                self.process = await asyncio.create_subprocess_exec(
+                    *self.given.engine, stdin=pipe, stdout=pipe, start_new_session=True)
             except OSError as error:
                 log.error("the engine can't be started: %s", error)
             else:
