@@ -302,6 +302,10 @@ class Large(Pages):
             if load < os.cpu_count():
                 self.assertLessEqual(most, 12)
         window.picture("large-panned")
+        window.run("cityed.app.city.forget(0, new Set())")  # what is left is fetched again where it is wanted
+        self.assertEqual(window.run("return cityed.app.city.loaded"), 0)
+        window.run("cityed.go('house-20-20-01')")
+        until(lambda: window.find("#object table") and window.title() == "house-20-20-01", 30)
 
 
 def main():
