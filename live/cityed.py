@@ -256,8 +256,8 @@ class _Link:
 
     def start(self, words):
         try:
-            pipe = subprocess.PIPE
-            self.process = subprocess.Popen(words, stdin=pipe, stdout=pipe, stderr=pipe)
+            pipe = subprocess.PIPE  # a session of its own: Ctrl-C at a terminal is this process's to handle
+            self.process = subprocess.Popen(words, stdin=pipe, stdout=pipe, stderr=pipe, start_new_session=True)
         except OSError as error:
             raise Closed("%s can't be started: %s" % (words[0], error.strerror)) from error
         self.teller = threading.Thread(target=self.tell, name="cityed", daemon=True)
@@ -634,14 +634,16 @@ class _Verbs:
         """Extracts an object with all its parts, and deletes it here."""
         return self._verb(_take_out, (id, path), hand)
 
-    def merge(self, path, *, hand=None):
+    def merge(self, path, *, in_parts=False, hand=None):
         """Adds all objects of another file. One that is here already, and is the same, stays; another one ends it all.
-        Gives notes as copy does."""
-        return self._verb(_merge, (path,), hand)
+        Gives notes as copy does. `in_parts`: in several transactions, each of them whole, where one has too many
+        commands for a transaction."""
+        return self._verb(_merge, (path, in_parts), hand)
 
-    def flag(self, picks, attributes, *, hand=None):
-        """Sets attributes of each object that `picks` says yes to, and says it again under a lock; gives their ids."""
-        return self._verb(_flag, (picks, attributes), hand)
+    def flag(self, picks, attributes, *, in_parts=False, hand=None):
+        """Sets attributes of each object that `picks` says yes to, and says it again under a lock; gives their ids.
+        `in_parts` as of merge."""
+        return self._verb(_flag, (picks, attributes, in_parts), hand)
 
     def set(self, id, attributes=None, /, *, hand=None, **more):
         """Gives attributes of an object values."""
@@ -659,6 +661,19 @@ async def _verb(city, hand, name, function):
     except Refused as error:
         sentence = SENTENCES.get(error.cause, "{cause}: {id}")
         raise NotDone(sentence.format(cause=error.cause, id=error.id)) from error
+    except WrongRequest as error:
+        if error.fault != "TooMany":
+            raise
+        raise NotDone("It takes more commands than a transaction may have; some verbs can be done in parts.") from error
+
+
+PART = 400  # objects of a transaction, where a verb is done in parts: each takes one or two commands, or three
+
+
+def _parts(items, in_parts):
+    """The items, or some of them at a time."""
+    step = PART if in_parts else max(1, len(items))
+    return [items[at:at + step] for at in range(0, len(items), step)]
 
 
 SENTENCES = {
@@ -963,24 +978,49 @@ async def _copy(city, hand, path, id, new):
     return await _verb(city, hand, "copy", done)
 
 
-async def _merge(city, hand, path):
+async def _merge(city, hand, path, in_parts):
     file = _File(path, await city._frame())
+    parts = _families(file, in_parts)
+    for ids in parts:
+        async def done(t):
+            await _merge_some(t, file, ids)
+        await _verb(city, hand, "merge", done)
+    return file.notes
 
-    async def done(t):
-        new = []
-        for id in file.objects:
-            old = await t._perform({"read": id})
-            if old is None:
-                new.append(id)
-            elif not _is_same(old, *file.object(id)):
-                raise NotDone("There is an object %s already, and it is another one than in %s." % (id, path))
-        await _add(t, file, new, {id: id for id in new})
-        for id in file.objects:  # relations between what came and what was here
-            for child in file.objects[id].get("children", []):
-                if (id in new) != (child in new):
-                    await _attach(t, child, id)
-        return file.notes
-    return await _verb(city, hand, "merge", done)
+
+def _families(file, in_parts):
+    """The ids of a file, those of a family together, in parts."""
+    if not in_parts:
+        return [list(file.objects)]
+    parts, seen = [[]], set()
+    for id, it in file.objects.items():
+        if id not in seen and not it.get("parents"):
+            family = [one for one in file.family(id) if one not in seen]
+            seen.update(family)
+            if len(parts[-1]) + len(family) > PART and parts[-1]:
+                parts.append([])
+            parts[-1] += family
+    parts[-1] += [id for id in file.objects if id not in seen]
+    return parts
+
+
+async def _merge_some(t, file, ids):
+    """Adds those of these objects that aren't there, with the relations that new ones have."""
+    new = set()
+    for id in ids:
+        body, vertices = file.object(id)
+        try:
+            await t._perform({"add": id, "object": body}, vertices)
+            new.add(id)
+        except Refused as error:
+            if error.cause != "Exists":
+                raise
+            if not _is_same(await _there(t, id), body, vertices):
+                raise NotDone("There is another object %s here than in %s." % (id, file.path)) from None
+    for id in ids:
+        for child in file.objects[id].get("children", []):
+            if id in new or child in new:
+                await _attach(t, child, id)
 
 
 def _is_same(old, body, vertices):
@@ -1066,22 +1106,27 @@ async def _take_out(city, hand, id, path):
         raise
 
 
-async def _flag(city, hand, picks, attributes):
+async def _flag(city, hand, picks, attributes, in_parts):
     ids = list(await city._list())
     picked = []
     for at in range(0, len(ids), 256):
         found = await city._look_at_each(ids[at:at + 256])
         picked += [id for id, it in found.items() if it is not None and picks(it)]
 
-    async def done(t):
-        flagged = []
-        for id in picked:
-            it = await t._perform({"read": id})
-            if it is not None and picks(it):
-                await t._perform({"set": id, "attributes": attributes})
-                flagged.append(id)
-        return flagged
-    return await _verb(city, hand, "flag", done)
+    flagged = []
+    for some in _parts(picked, in_parts):
+        async def done(t):
+            return [id for id in some if await _flag_one(t, id, picks, attributes)]
+        flagged += await _verb(city, hand, "flag", done)
+    return flagged
+
+
+async def _flag_one(t, id, picks, attributes):
+    it = await t._perform({"read": id})
+    if it is None or not picks(it):
+        return False
+    await t._perform({"set": id, "attributes": attributes})
+    return True
 
 
 # ---- the city
@@ -1144,8 +1189,8 @@ class _City:
 
     async def _frame(self):
         """What the model has beside its objects and vertices, which no commit changes."""
-        if self._head is None:
-            model = await self._model()
+        if self._head is None:  # a gateway tells it first of all
+            model = self._link.first["frame"] if "frame" in self._link.first else await self._model()
             self._head = {name: it for name, it in model.items() if name not in ("CityObjects", "vertices")}
         return self._head
 
@@ -1469,7 +1514,7 @@ class AsyncCity(_City, _Verbs):
 
 # ---- the command line: verbs in a chain
 
-USAGE = """usage: python3 -m cityed [--program WORDS] [--hand NAME] [--whole] MODEL VERB ..
+USAGE = """usage: python3 -m cityed [--program WORDS] [--hand NAME] [--whole] [--in-parts] MODEL VERB ..
 
 MODEL is a file, for which a program is started, or unix:PATH of a gateway. Each verb is a transaction of its own:
 
@@ -1487,7 +1532,8 @@ MODEL is a file, for which a program is started, or unix:PATH of a gateway. Each
   save                       save-as FILE               the model is written; without it nothing is
 
 A word that begins with : is taken without it, so :set is an id. NAME? means that there is one. --whole: numbers are
-whole alone. If a verb can't be done a sentence says why, nothing is saved, and the status is 1."""
+whole alone. --in-parts: a merge or a flag of many objects is several transactions. If a verb can't be done a sentence
+says why, nothing is saved, and the status is 1."""
 
 LEAST = {"set": 2, "unset": 2, "delete": 1, "rename": 2, "retype": 2, "move": 4, "raise": 3, "split": 3, "copy": 2,
          "copy-as": 3, "merge": 1, "extract": 2, "take-out": 2, "flag": 3, "look": 1, "ids": 0, "save": 0, "save-as": 1}
@@ -1570,7 +1616,7 @@ def _plain(it):
     return None if it is None else {"object": it.object, "vertices": it.vertices}
 
 
-def _do_verb(city, verb, given):
+def _do_verb(city, verb, given, in_parts):
     """Does one verb, and prints what it gives."""
     notes = []
     if verb == "set":
@@ -1583,7 +1629,7 @@ def _do_verb(city, verb, given):
     elif verb == "split":
         city.split_off(given[0], given[1], given[2:])
     elif verb == "flag":
-        print("%d flagged" % len(city.flag(*_flagged(given))), file=sys.stderr)
+        print("%d flagged" % len(city.flag(*_flagged(given), in_parts=in_parts)), file=sys.stderr)
     elif verb == "look":
         for id, it in city.look_at(given).items():
             print(dumps({"id": id, **(_plain(it) or {"object": None})}))
@@ -1592,8 +1638,10 @@ def _do_verb(city, verb, given):
             print(dumps([id, kind]))
     elif verb in ("save", "save-as"):
         city.save()
-    elif verb in ("copy", "copy-as", "merge"):
-        notes = (city.merge if verb == "merge" else city.copy)(*given)
+    elif verb == "merge":
+        notes = city.merge(*given, in_parts=in_parts)
+    elif verb in ("copy", "copy-as"):
+        notes = city.copy(*given)
     else:
         getattr(city, {"raise": "raise_top", "take-out": "take_out"}.get(verb, verb))(*given)
     for note in notes:
@@ -1624,6 +1672,7 @@ def main(words=None):
     say.add_argument("--program")
     say.add_argument("--hand")
     say.add_argument("--whole", action="store_true")
+    say.add_argument("--in-parts", action="store_true")
     say.add_argument("-h", "--help", action="store_true")
     say.add_argument("rest", nargs=argparse.REMAINDER)
     given = say.parse_args(words)
@@ -1644,7 +1693,7 @@ def main(words=None):
         options = {"program": given.program, "decimals": not given.whole, "hand": given.hand}
         with City(model, output=output, save=saves, **options) as city:
             for verb, *rest in chain:
-                _do_verb(city, verb, rest)
+                _do_verb(city, verb, rest, given.in_parts)
     except (CityedError, ValueError, OSError) as error:
         print("cityed: %s: %s" % (verb, error), file=sys.stderr)
         return 1

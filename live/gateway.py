@@ -10,6 +10,7 @@ this machine (cityed.py). README.md has how it is kept running, and what is said
 """
 import argparse
 import asyncio
+import json
 import logging
 import os
 import pwd
@@ -20,18 +21,19 @@ import struct
 import sys
 from pathlib import Path
 
+DEBIAN = "/usr/bin/python3"
 try:
     from aiohttp import WSCloseCode, WSMsgType, web
-except ModuleNotFoundError:
-    sys.exit("gateway.py: python3-aiohttp is missing; install it, or start this with /usr/bin/python3")
+except ModuleNotFoundError:  # Debian's packages are for Debian's Python, which may not be the first one
+    if sys.executable != DEBIAN and not os.environ.get("CITYED_GATEWAY") and os.path.exists(DEBIAN):
+        os.execve(DEBIAN, [DEBIAN, *sys.argv], {**os.environ, "CITYED_GATEWAY": "again"})
+    sys.exit("gateway.py: python3-aiohttp is missing")
 
 sys.path.insert(0, str(Path(__file__).resolve().parent))
 from serving.connection import Connection, quoted  # noqa: E402
 from serving.engine import Gateway  # noqa: E402
-from serving.places import dump  # noqa: E402
+from serving.places import dump, dumps  # noqa: E402
 from serving.rights import RIGHTS, Rights, add_person  # noqa: E402
-
-import json  # noqa: E402
 
 THREE = Path("/usr/share/javascript/three")
 UNKNOWN = 4401  # a WebSocket's end: the token isn't known
@@ -101,8 +103,9 @@ class Doors:
             await writer.drain()
 
         connection = Connection(self.gateway, user, "edit", write, writer.transport.abort)
-        first = self.gateway.first or {"cityed": "", "objects": 0}
-        connection.send(dump({**first, "version": self.gateway.version}))
+        first, places = self.gateway.first or {"cityed": "", "objects": 0}, self.gateway.places
+        frame = {"frame": places.frame} if places else {}
+        connection.send(dumps({**first, "version": self.gateway.version, **frame}), counts=False)
         self.gateway.come(connection)
         self.gateway.tell_people()
         try:

@@ -12,155 +12,14 @@ import json
 import os
 import random
 import shlex
-import shutil
 import signal
 import socket
-import subprocess
 import sys
-import tempfile
 import time
 import unittest
-from pathlib import Path
-from urllib.error import HTTPError
-from urllib.request import ProxyHandler, build_opener
 
-ROOT = Path(__file__).resolve().parent.parent
-DEBIAN = "/usr/bin/python3"
-try:
-    import aiohttp
-except ModuleNotFoundError:  # Debian's packages are for Debian's Python
-    looks = [DEBIAN, "-c", "import aiohttp"]
-    if sys.executable != DEBIAN and subprocess.run(looks, stderr=subprocess.DEVNULL).returncode == 0:
-        os.execv(DEBIAN, [DEBIAN, *sys.argv])
-    sys.exit(print("skipped: python3-aiohttp is missing"))
-sys.path.insert(0, str(ROOT / "live"))
-from cityed import AsyncCity, City, Conflict  # noqa: E402
-
-TILE = ROOT / "examples/tile.city.json"
-RIGHTS = {"ann": "edit", "ben": "edit", "eve": "watch"}
-DIRECT = build_opener(ProxyHandler({}))
-GIVEN = argparse.Namespace(live="cityed --live")
-
-
-def free_port():
-    with socket.socket() as it:
-        it.bind(("127.0.0.1", 0))
-        return it.getsockname()[1]
-
-
-class Running:
-    """A gateway with an engine on a copy of a model. Ann and Ben may edit, Eve may watch."""
-
-    def __init__(self, model=TILE, options=(), journal=True, live=None, wait=10):
-        self.folder = tempfile.TemporaryDirectory()
-        self.path = Path(self.folder.name)
-        self.model, self.people = self.path / "model.city.json", self.path / "people"
-        shutil.copy(model, self.model)
-        gateway = ROOT / "live/gateway.py"
-        self.tokens = {}
-        for name, right in RIGHTS.items():
-            words = [sys.executable, gateway, "--people", self.people, "--add", name, right]
-            self.tokens[name] = subprocess.run(words, stdout=subprocess.PIPE, text=True, check=True).stdout.strip()
-        self.port = free_port()
-        self.socket = "unix:%s" % (self.path / "sock")
-        engine = [*shlex.split(live or GIVEN.live), "--decimals", "--output", self.model]
-        engine += ["--journal", self.path / "journal"] if journal else []
-        doors = ["--port", self.port, "--people", self.people, "--socket", self.path / "sock"]
-        self.words = [sys.executable, gateway, *doors, *options, "--", *engine, self.model]
-        self.log = open(self.path / "log", "wb")
-        self.start()
-        until = time.monotonic() + wait
-        while self.health().get("engine") != "up":
-            if time.monotonic() > until or self.process.poll() is not None:
-                raise AssertionError("it didn't start: " + self.close()[-2000:])
-            time.sleep(0.05)
-
-    def start(self):
-        self.process = subprocess.Popen([str(it) for it in self.words], stderr=self.log)
-
-    def get(self, path):
-        with DIRECT.open("http://127.0.0.1:%d%s" % (self.port, path), timeout=5) as answer:
-            return answer.read().decode()
-
-    def health(self):
-        try:
-            return json.loads(self.get("/health"))
-        except HTTPError as error:  # the engine is down
-            return json.load(error)
-        except OSError:
-            return {}
-
-    def engine_pid(self):
-        found = subprocess.run(["ps", "-o", "pid=", "--ppid", str(self.process.pid)], stdout=subprocess.PIPE, text=True)
-        return int(found.stdout.split()[0])
-
-    def told(self):
-        self.log.flush()
-        return (self.path / "log").read_text()
-
-    def close(self):
-        """What it logged."""
-        self.process.send_signal(signal.SIGTERM)
-        try:
-            self.process.wait(60)
-        except subprocess.TimeoutExpired:
-            self.process.kill()
-            self.process.wait()
-            raise
-        text = self.told()
-        self.log.close()
-        self.folder.cleanup()
-        return text
-
-
-class Page:
-    """A WebSocket as the page has it."""
-
-    def __init__(self, running, who, token=None, **more):
-        self.url, self.token, self.more = "ws://127.0.0.1:%d/live" % running.port, token or running.tokens[who], more
-        self.inbox, self.number = [], 0
-
-    async def __aenter__(self):
-        self.session = aiohttp.ClientSession()
-        try:
-            self.ws = await self.session.ws_connect(self.url, max_msg_size=0, **self.more)
-        except aiohttp.WSServerHandshakeError:
-            await self.session.close()
-            raise
-        await self.ws.send_str(json.dumps({"token": self.token}))
-        return self
-
-    async def __aexit__(self, *_):
-        await self.ws.close()
-        await self.session.close()
-
-    async def until(self, wanted, seconds=10):
-        """The first line that `wanted` holds of; those before are left in `inbox`."""
-        async def find():
-            looked = 0
-            while True:
-                for k in range(looked, len(self.inbox)):
-                    if wanted(self.inbox[k]):
-                        return self.inbox.pop(k)
-                looked = len(self.inbox)
-                message = await self.ws.receive()
-                if message.type != aiohttp.WSMsgType.TEXT:
-                    raise EOFError(str(message))
-                self.inbox += [json.loads(x, parse_float=str) for x in message.data.split("\n")]
-        return await asyncio.wait_for(find(), seconds)
-
-    async def send(self, **members):
-        self.number += 1
-        await self.ws.send_str(json.dumps({"id": self.number, **members}))
-        return self.number
-
-    async def ask(self, **members):
-        number = await self.send(**members)
-        return await self.until(lambda it: it.get("id") == number and "waits" not in it)
-
-    async def set(self, id="garden", **attributes):
-        commands = [{"set": id, "attributes": attributes}, "commit"]
-        return (await self.ask(script={"name": "set", "commands": commands})).get("ended", {}).get("outcome")
+from live_running import GIVEN, Page, Running, aiohttp
+from cityed import AsyncCity, City, Conflict  # live_running has put live/ on the path
 
 
 class Gateways(unittest.IsolatedAsyncioTestCase):
@@ -168,6 +27,9 @@ class Gateways(unittest.IsolatedAsyncioTestCase):
 
     def setUp(self):
         self.run_ = Running(options=self.options)
+
+    async def asyncSetUp(self):
+        asyncio.get_running_loop().slow_callback_duration = 60  # unittest's loops tell of slow calls otherwise
 
     def tearDown(self):
         self.run_.close()
@@ -305,7 +167,7 @@ class Limits(Gateways):
 
     async def test_too_long(self):
         async with self.page("ann") as ann, self.page("ben") as ben:
-            with self.assertRaises((EOFError, ConnectionError)):  # it is closed, or cut while it still sends
+            with self.assertRaises((EOFError, OSError)):  # it is closed, or cut while it still sends
                 await ann.ws.send_str("x" * ((4 << 20) + 1))
                 await ann.until(lambda it: False)
             await ben.ws.send_bytes(b"{}")
@@ -499,6 +361,19 @@ class Engines(Gateways):
         finally:
             City.look = real
 
+    async def test_long_model(self):
+        """A model that is longer than what may wait for a connection comes whole; a second one has to wait."""
+        async with self.page("ann") as ann:
+            for n in range(6):
+                self.assertEqual(await ann.set(**{"big%d" % n: "x" * 3_500_000}), "committed")
+            first, second = await ann.send(model=True), await ann.send(model=True)
+            told = await ann.until(lambda it: it.get("id") == first, 60)
+            self.assertGreater(len(json.dumps(told)), 21_000_000)
+            self.assertEqual((await ann.until(lambda it: it.get("id") == second))["error"]["fault"], "TooSoon")
+            await ann.send(follow={})
+            await ann.until(lambda it: "followed" in it)
+            self.assertIn("model", await ann.ask(model=True))
+
     async def test_saves(self):
         async with self.page("ann") as ann:
             await ann.ask(script={"name": "x", "commands": [{"delete": "lime"}, "commit"]})
@@ -509,6 +384,15 @@ class Engines(Gateways):
         async with self.page("ann") as ann:
             await ann.ask(script={"name": "x", "commands": [{"delete": "lime"}, "commit"]})
         self.run_.process.send_signal(signal.SIGTERM)
+        self.run_.process.wait(20)
+        self.assertNotIn('"lime"', self.run_.model.read_text())
+
+    async def test_ends_as_at_a_terminal(self):
+        """Ctrl-C goes to all processes of a terminal: the engine still writes the model."""
+        async with self.page("ann") as ann:
+            await ann.ask(script={"name": "x", "commands": [{"delete": "lime"}, "commit"]})
+        self.assertNotEqual(os.getpgid(self.run_.engine_pid()), os.getpgid(self.run_.process.pid))
+        self.run_.process.send_signal(signal.SIGINT)
         self.run_.process.wait(20)
         self.assertNotIn('"lime"', self.run_.model.read_text())
 

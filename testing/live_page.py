@@ -3,15 +3,14 @@
 
     python3 testing/live_page.py PROGRAM [--live WORDS] [--pictures FOLDER] [TEST ..]
 
-WORDS start live editing, and are "PROGRAM --live" unless they are given. Needs python3-aiohttp, chromium, chromium-driver
-and python3-selenium; without one it says which and ends with status 0. libjs-three is for 3D; without it the plan alone
-is tried. Pictures of the page, in both schemes and in a wide and a narrow window, are left in FOLDER.
+WORDS start live editing, and are "PROGRAM --live" unless they are given. Needs python3-aiohttp, chromium,
+chromium-driver and python3-selenium; without one it says which and ends with status 0. libjs-three is for 3D; without
+it the plan alone is tried. Pictures of the page, in both schemes and in a wide and a narrow window, are left in FOLDER.
 """
 import argparse
 import json
 import os
 import shlex
-import shutil
 import signal
 import statistics
 import sys
@@ -20,120 +19,9 @@ import time
 import unittest
 from pathlib import Path
 
-from live_gateway import GIVEN, ROOT, Running
+from live_running import GIVEN, Running
 from live_town import write_town
-
-try:
-    from selenium import webdriver
-    from selenium.webdriver.chrome.service import Service
-    from selenium.webdriver.common.action_chains import ActionChains
-    from selenium.webdriver.common.by import By
-    from selenium.webdriver.common.keys import Keys
-except ModuleNotFoundError:
-    sys.exit(print("skipped: python3-selenium is missing"))
-
-CHROMIUM, DRIVER, THREE = "/usr/bin/chromium", "/usr/bin/chromedriver", "/usr/share/javascript/three/build/three.module.js"
-for needed, package in ((CHROMIUM, "chromium"), (DRIVER, "chromium-driver")):
-    if not os.path.exists(needed):
-        sys.exit(print("skipped: %s is missing" % package))
-HOUSE, OTHER = "house-0-0-01", "house-0-0-02"
-WORDS = ("--headless=new", "--no-sandbox", "--hide-scrollbars", "--force-device-scale-factor=1", "--use-angle=swiftshader",
-         "--enable-unsafe-swiftshader", "--disable-accelerated-2d-canvas", "--disable-background-networking", "--no-first-run",
-         "--disable-dev-shm-usage")
-AXE = "/usr/share/javascript/axe-core/axe.min.js"
-
-
-def browser(size="1360,820", dark=False):
-    options = webdriver.ChromeOptions()
-    options.binary_location = CHROMIUM
-    for word in (*WORDS, "--window-size=" + size):
-        options.add_argument(word)
-    options.set_capability("goog:loggingPrefs", {"browser": "ALL"})
-    driver = webdriver.Chrome(service=Service(DRIVER), options=options)
-    driver.set_page_load_timeout(60)
-    driver.set_script_timeout(60)
-    features = [{"name": "prefers-color-scheme", "value": "dark" if dark else "light"}]
-    driver.execute_cdp_cmd("Emulation.setEmulatedMedia", {"features": features})
-    return driver
-
-
-def until(what, seconds=15.0):
-    """How long it took until `what()` is true."""
-    started = time.monotonic()
-    while True:
-        found = what()
-        if found:
-            return time.monotonic() - started
-        if time.monotonic() - started > seconds:
-            raise AssertionError("it didn't come true in %s seconds" % seconds)
-        time.sleep(0.02)
-
-
-class Window:
-    def __init__(self, running, who, size="1360,820", dark=False, wait=30):
-        self.who, self.driver = who, browser(size, dark)
-        self.driver.get("http://127.0.0.1:%d/#token=%s" % (running.port, running.tokens[who]))
-        until(lambda: self.state() == "live", wait)
-
-    def find(self, css):
-        return self.driver.find_elements(By.CSS_SELECTOR, css)
-
-    def state(self):
-        return self.driver.find_element(By.ID, "state").text
-
-    def run(self, script, *given):
-        return self.driver.execute_script(script, *given)
-
-    def select(self, id=HOUSE):
-        self.run("cityed.select(arguments[0])", id)
-        until(lambda: self.title() == id and self.find("#object table"))
-
-    def title(self):
-        return self.run("return document.querySelector('#object h2')?.textContent")
-
-    def shown(self, name):
-        return self.run("const t=[...document.querySelectorAll('#object tr')].find(t=>t.dataset.name===arguments[0]);"
-                        "return t ? t.querySelector('.value>button,.value>input')?.textContent ?? null : null", name)
-
-    def row(self, name):
-        wanted = "#object tr[data-name='%s']" % name
-        until(lambda: self.find(wanted))
-        return self.find(wanted)[0]
-
-    def start(self, name, value):
-        """Opens the editor of an attribute and types, without Enter."""
-        until(lambda: self.row(name).find_element(By.CSS_SELECTOR, ".value > button").is_enabled())
-        self.row(name).find_element(By.CSS_SELECTOR, ".value > button").click()
-        box = self.row(name).find_element(By.CSS_SELECTOR, "input")
-        box.send_keys(Keys.CONTROL, "a")
-        box.send_keys(value)
-        return box
-
-    def edit(self, name, value):
-        self.start(name, value).send_keys(Keys.ENTER)
-
-    def texts(self, css):
-        return self.run("return [...document.querySelectorAll(arguments[0])].map(l => l.innerText.replaceAll('\\n', ' '))", css)
-
-    def past(self):
-        return self.texts("#history li")
-
-    def toasts(self):
-        return self.texts("#toasts div")
-
-    def settle(self):
-        """Until all tiles in view are drawn, and all shapes are there."""
-        until(lambda: self.run("const p=cityed.app.plan; return p.frame > 0 && !p.jobs.size && !p.drawing"), 30)
-
-    def picture(self, name):
-        if GIVEN.pictures:
-            self.driver.save_screenshot(os.path.join(GIVEN.pictures, name + ".png"))
-
-    def close(self):
-        """What the browser complained of."""
-        bad = [it for it in self.driver.get_log("browser") if it["level"] == "SEVERE"]
-        self.driver.quit()
-        return [it["message"] for it in bad if "WebSocket connection" not in it["message"]]
+from live_windows import AXE, EDITS, HOUSE, PANS, PLACE, THREE, UNNAMED, UNREADABLE, By, Keys, Window, browser, until
 
 
 class Pages(unittest.TestCase):
@@ -226,9 +114,7 @@ class Together(Pages):
         ann, ben = self.open("ann"), self.open("ben")
         for window in (ann, ben):
             window.select()
-            window.run("window.won = 0; window.lost = 0; window.edits = async (n, id) => { for (let k = 0; k < n; k++) {"
-                       "const seen = cityed.app.city.get(id).object.attributes.storeys;"
-                       "(await cityed.app.edits.edit(id, 'storeys', seen, seen + 1)) ? won++ : lost++; } window.ready = true }")
+            window.run(EDITS)
         first = int(ann.shown("storeys"))
         for window in (ann, ben):
             window.run("edits(40, arguments[0])", HOUSE)
@@ -295,8 +181,7 @@ class Views(Pages):
     def test_click_search_and_keys(self):
         ann = self.open("ann")
         ann.settle()
-        at = ann.run("const b=cityed.app.city.get(arguments[0]).box, p=cityed.app.plan.screen([(b[0]+b[3])/2-1,(b[1]+b[4])/2-1]);"
-                     "const r=document.getElementById('plan').getBoundingClientRect(); return [p[0]+r.left, p[1]+r.top]", HOUSE)
+        at = ann.run(PLACE, HOUSE)
         for kind in ("mousePressed", "mouseReleased"):
             mouse = {"type": kind, "x": at[0], "y": at[1], "button": "left", "clickCount": 1}
             ann.driver.execute_cdp_cmd("Input.dispatchMouseEvent", mouse)
@@ -346,7 +231,8 @@ class Views(Pages):
             self.assertEqual(ann.run(UNNAMED), [])
             if os.path.exists(AXE):
                 ann.run(Path(AXE).read_text())
-                found = ann.driver.execute_async_script("axe.run().then(r => arguments[0](r.violations.map(v => v.id)))")
+                script = "axe.run().then(r => arguments[0](r.violations.map(v => v.id)))"
+                found = ann.driver.execute_async_script(script)
                 self.assertEqual(found, [])
             if os.path.exists(THREE):
                 ann.driver.find_element(By.ID, "to-solid").click()
@@ -386,28 +272,11 @@ class Views(Pages):
 
         def file(faces):
             solid = {"type": "Solid", "lod": "2.2", "boundaries": [[[face] for face in faces]]}
-            return json.dumps({"type": "CityJSON", "version": "2.0", "transform": {**model["transform"], "scale": [0.01] * 3},
+            return json.dumps({"type": "CityJSON", "version": "2.0",
+                               "transform": {**model["transform"], "scale": [0.01] * 3},
                                "CityObjects": {"new": {"type": "Building", "geometry": [solid]}},
                                "vertices": [[round(n) for n in point] for point in points]})
         return {"good": file(faces), "open": file(faces[:1] + faces[2:])}
-
-
-# The texts whose contrast with their ground is below 4.5 (3 where they are disabled), by the page's own colours.
-UNREADABLE = """
-const channels = (c) => (c.match(/[\\d.]+/g) ?? []).map(Number);
-const light = (c) => channels(c).slice(0, 3).map((n) => n / 255).map((n) => n <= 0.03928 ? n / 12.92 : ((n + 0.055) / 1.055) ** 2.4)
-  .reduce((sum, n, k) => sum + n * [0.2126, 0.7152, 0.0722][k], 0);
-const ground = (it) => { for (; it; it = it.parentElement) { const c = getComputedStyle(it).backgroundColor, a = channels(c)[3];
-  if (a === undefined || a > 0.5) return c; } return getComputedStyle(document.body).backgroundColor; };
-return [...document.querySelectorAll('header *, aside *')].filter((it) => it.offsetParent && [...it.childNodes].some((n) => n.nodeType === 3 && n.data.trim()))
-  .map((it) => { const [a, b] = [light(getComputedStyle(it).color), light(ground(it))].sort((x, y) => y - x);
-    return [it.textContent.slice(0, 40), (a + 0.05) / (b + 0.05), it.disabled ? 3 : 4.5]; }).filter(([, is, least]) => is < least);
-"""
-# The controls that a screen reader has no name for.
-UNNAMED = """
-return [...document.querySelectorAll('button, input, [role=application], [role=listbox], canvas')].filter((it) => it.type !== 'file' && it.offsetParent)
-  .filter((it) => !(it.getAttribute('aria-label') || it.textContent.trim() || it.labels?.length || it.getAttribute('role') === 'img')).map((it) => it.outerHTML);
-"""
 
 
 class Large(Pages):
@@ -422,28 +291,21 @@ class Large(Pages):
         window.picture("large")
         window.run("cityed.go('house-30-30-01')")
         until(lambda: window.find("#object table"), 30)
-        until(lambda: window.run("const p=cityed.app; return [...p.city.within(...p.plan.seen())].every((it) => it.object)"), 30)
+        until(lambda: window.run("const {city, plan} = cityed.app; "
+                                 "return [...city.within(...plan.seen())].every((it) => it.object)"), 30)
         for name, metres in (("20,000", 20_000), ("2,000", 2_000)):
             share = (metres / self.buildings) ** 0.5
             times = window.driver.execute_async_script(PANS, share)
-            print("panning over about %s buildings: script time of a frame p50 %.1f ms, p95 %.1f, longest %.1f; load %.1f" % (
-                name, statistics.median(times), sorted(times)[int(len(times) * 0.95)], max(times), os.getloadavg()[0]))
-            if os.getloadavg()[0] < os.cpu_count():
-                self.assertLessEqual(sorted(times)[int(len(times) * 0.95)], 12)
+            middle, most, load = statistics.median(times), sorted(times)[int(len(times) * 0.95)], os.getloadavg()[0]
+            print("panning over about %s buildings: script time of a frame p50 %.1f ms, p95 %.1f, longest %.1f, with a "
+                  "load of %.1f" % (name, middle, most, max(times), load))
+            if load < os.cpu_count():
+                self.assertLessEqual(most, 12)
         window.picture("large-panned")
-
-
-# 120 frames of panning over a share of the city's width, once what is in view is drawn; the script time of each.
-PANS = """
-const [share, done] = arguments, plan = cityed.app.plan, b = cityed.app.city.box(), [x, y] = [(b[0] + b[3]) / 2, (b[1] + b[4]) / 2];
-const half = [(b[3] - b[0]) * share / 2, (b[4] - b[1]) * share / 2];
-plan.fit([x - half[0], y - half[1], 0, x + half[0], y + half[1], 0], 1);
-const still = () => plan.jobs.size || plan.drawing ? setTimeout(still, 50) : begin();
-const begin = () => { plan.times.length = 0; let n = 0;
-  const step = () => { if (++n > 120) return done(plan.times.slice()); plan.pan(n <= 60 ? 6 : -6, n % 2 ? 3 : -3); requestAnimationFrame(step); };
-  step(); };
-setTimeout(still, 300);
-"""
+        window.run("cityed.app.city.forget(0, new Set())")  # what is left is fetched again where it is wanted
+        self.assertEqual(window.run("return cityed.app.city.loaded"), 0)
+        window.run("cityed.go('house-20-20-01')")
+        until(lambda: window.find("#object table") and window.title() == "house-20-20-01", 30)
 
 
 def main():

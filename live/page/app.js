@@ -13,6 +13,7 @@ import { Tags } from "./tags.js";
 
 const AT_ONCE = 150;  // objects of one request for shapes
 const MOST_SHAPES = 6000;  // objects in view for which shapes are asked
+const KEPT_SHAPES = 25000;  // shapes that are kept, in view or not
 
 const app = {
   city: null, live: null, me: null, hand: "", may: "watch", selected: null, view: null, solid: null,
@@ -36,7 +37,8 @@ async function show(which) {
       app.solid = new Solid($("solid"), hooks);
       $("solid").hidden = false;
       app.solid.reset(app.city);
-      app.solid.fit(app.selected && app.city.boxOf(app.selected) ? roomy(app.city.boxOf(app.selected)) : app.city.box());
+      const box = app.selected && app.city.boxOf(app.selected);
+      app.solid.fit(box ? roomy(box) : app.city.box());
       app.solid.select(app.selected ? app.city.family(app.selected) : []);
     } catch (error) {
       console.warn(error);
@@ -107,13 +109,23 @@ async function fetchShapes() {
   for (const id of ids) asked.add(id);
   try {
     const answer = await app.live.ask({ look: ids });
-    for (const [id, found] of Object.entries(answer.look ?? {})) if (found && city === app.city) arrived(id, found, answer.version);
+    const looked = city === app.city ? Object.entries(answer.look ?? {}) : [];
+    for (const [id, found] of looked) if (found) arrived(id, found, answer.version);
   } catch { /* the connection went; it asks again once it is back */ } finally {
     fetching--;
     for (const id of ids) asked.delete(id);
   }
+  if (city === app.city) city.forget(KEPT_SHAPES, kept());
   render();
   fetchShapes();
+}
+
+// What is in view or selected, whose shapes stay.
+function kept() {
+  const [x0, y0, x1, y1] = plan.seen(), ids = new Set(app.solid?.near ?? []);
+  for (const it of app.city.within(x0, y0, x1, y1)) ids.add(it.id);
+  for (const id of app.selected ? app.city.family(app.selected) : []) ids.add(id);
+  return ids;
 }
 
 function arrived(id, found, version) {
@@ -134,7 +146,8 @@ function state(name) {
   const [kind, text] = STATES[name];
   $("state").dataset.state = kind;
   $("state").textContent = text;
-  if (name === "unknown") veil("This page needs an address with a token, which the keeper of the city can give you: #token=…");
+  const help = "This page needs an address with a token, which the keeper of the city can give you: #token=…";
+  if (name === "unknown") veil(help);
   else if (name === "live" || app.city) veil(null);
   document.body.classList.toggle("off", name !== "live");
   if (name !== "live") app.edits.pending.clear();
@@ -177,8 +190,10 @@ function changed({ by, name, objects, version }) {
   const told = [], own = by.split("/")[0] === app.hand, { city, edits } = app;
   for (const [id, found] of Object.entries(objects)) {
     const before = city.get(id), was = before?.box;
-    told.push(...before && !before.object && found ? [{ id, text: "changed" }] : differences(id, before?.object, found?.object ?? null));
-    if (!own) for (const it of told) if (it.id === id && it.name !== undefined) edits.touched.set(key(id, it.name), { by, at: Date.now() });
+    const unknown = before && !before.object && found;
+    told.push(...unknown ? [{ id, text: "changed" }] : differences(id, before?.object, found?.object ?? null));
+    const touched = own ? [] : told.filter((it) => it.id === id && it.name !== undefined);
+    for (const it of touched) edits.touched.set(key(id, it.name), { by, at: Date.now() });
     if (!found) {
       city.take(id);
       views((it) => it.update(id, was));
@@ -240,9 +255,12 @@ addEventListener("keydown", (e) => {
   else if (e.key === "/" && !typing) { e.preventDefault(); $("find-text").focus(); }
 });
 const KEYS = {
-  ArrowLeft: () => app.view.pan(-80, 0), ArrowRight: () => app.view.pan(80, 0), ArrowUp: () => app.view.pan(0, 80), ArrowDown: () => app.view.pan(0, -80),
-  "+": () => app.view.zoom(1.5), "=": () => app.view.zoom(1.5), "-": () => app.view.zoom(1 / 1.5), 0: () => app.view.fit(app.city.box()),
-  Enter: () => app.view === plan && select(plan.hit([plan.canvas.clientWidth / 2, plan.canvas.clientHeight / 2])), n: () => step(1), p: () => step(-1),
+  ArrowLeft: () => app.view.pan(-80, 0), ArrowRight: () => app.view.pan(80, 0),
+  ArrowUp: () => app.view.pan(0, 80), ArrowDown: () => app.view.pan(0, -80),
+  "+": () => app.view.zoom(1.5), "=": () => app.view.zoom(1.5), "-": () => app.view.zoom(1 / 1.5),
+  0: () => app.view.fit(app.city.box()),
+  Enter: () => app.view === plan && select(plan.hit([plan.canvas.clientWidth / 2, plan.canvas.clientHeight / 2])),
+  n: () => step(1), p: () => step(-1),
 };
 $("map").addEventListener("keydown", (e) => {
   if (!app.city || e.ctrlKey || e.metaKey || e.altKey || !KEYS[e.key] || e.target.tagName === "BUTTON") return;
@@ -265,7 +283,8 @@ addEventListener("dragover", (e) => e.preventDefault());
 addEventListener("drop", (e) => {
   e.preventDefault();
   const frame = $("plan").getBoundingClientRect(), file = e.dataTransfer.files[0];
-  const under = app.view === plan && e.target === $("plan") ? plan.hit([e.clientX - frame.left, e.clientY - frame.top]) : null;
+  const at = [e.clientX - frame.left, e.clientY - frame.top];
+  const under = app.view === plan && e.target === $("plan") ? plan.hit(at) : null;
   const id = under ?? app.selected;
   if (!id) return toast("Drop the file on an object.", true);
   if (id !== app.selected) select(id);

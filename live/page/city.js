@@ -12,13 +12,15 @@ export class City {
     this.below = new Map();  // id -> ids of parts, as the rows have them
     this.cells = new Map();
     this.wide = new Set();  // what lies in too many cells
+    this.loaded = 0;  // objects that were looked at
     const all = around(objects.map((row) => row[2]).filter(Boolean)) ?? [0, 0, 0, 0, 0, 0];
     this.middle = [0, 1, 2].map((k) => k < 2 ? (all[k] + all[k + 3]) / 2 : all[2]);
     const box = this.metres(all);
     this.cell = Math.max(20, Math.hypot(box[3] - box[0], box[4] - box[1]) / 200);
     for (const [id, type, box, parents] of objects) {
       for (const parent of parents ?? []) this.below.set(parent, [...this.below.get(parent) ?? [], id]);
-      this.put({ id, type, box: box && this.metres(box), parents: parents ?? [], object: null, faces: null, flat: false, version });
+      const place = { box: box && this.metres(box), parents: parents ?? [] };
+      this.put({ id, type, ...place, object: null, faces: null, flat: false, version });
     }
   }
 
@@ -63,7 +65,8 @@ export class City {
     if (count > this.cells.size) {
       for (const set of this.cells.values()) for (const it of set) if (meets(it)) found.add(it);
     } else {
-      for (const cell of this.cellsOf([x0, y0, 0, x1, y1])) for (const it of this.cells.get(cell) ?? []) if (meets(it)) found.add(it);
+      for (const cell of this.cellsOf([x0, y0, 0, x1, y1]))
+        for (const it of this.cells.get(cell) ?? []) if (meets(it)) found.add(it);
     }
     return found;
   }
@@ -78,6 +81,8 @@ export class City {
   set(id, object, vertices, version) {
     const old = this.objects.get(id);
     if (old?.object && old.version > version) return false;
+    if (!old?.object) this.loaded++;
+    this.below.set(id, object.children ?? []);
     const looks = dump([object.type, object.geometry ?? [], vertices, object.geographicalExtent ?? []]);
     if (old?.looks === looks) {
       Object.assign(old, { object, version });
@@ -88,7 +93,8 @@ export class City {
     it.faces = faces(object, (n) => this.place(vertices[n]));
     it.box = extent(it.faces.flatMap((face) => face.rings[0]));
     if (!it.box && object.geographicalExtent?.length === 6) {
-      it.box = object.geographicalExtent.map((n, k) => Number(n) - this.translate[k % 3] - this.middle[k % 3] * this.scale[k % 3]);
+      const from = [0, 1, 2].map((k) => this.translate[k] + this.middle[k] * this.scale[k]);
+      it.box = object.geographicalExtent.map((n, k) => Number(n) - from[k % 3]);
       it.faces = [circle(it.box)];
     }
     it.flat = !it.box || it.box[5] - it.box[2] < 0.05;
@@ -96,14 +102,28 @@ export class City {
     return true;
   }
 
-  take(id) { this.drop(id); }
+  take(id) {
+    if (this.objects.get(id)?.object) this.loaded--;
+    this.drop(id);
+  }
+
+  // Leaves the shapes of all but some objects, where there are more than so many; where they lie stays.
+  forget(most, keep) {
+    if (this.loaded <= most) return;
+    for (const it of this.objects.values()) {
+      if (!it.object || keep.has(it.id)) continue;
+      Object.assign(it, { object: null, vertices: null, faces: null, looks: null, drawn: null });
+      this.loaded--;
+    }
+  }
 
   // An object and all below it: a building often has its shape in its parts.
   family(id) {
     const ids = [id];
     for (const it of ids) {
       const known = this.objects.get(it)?.object;
-      for (const child of known ? known.children ?? [] : this.below.get(it) ?? []) if (!ids.includes(child)) ids.push(child);
+      const children = known ? known.children ?? [] : this.below.get(it) ?? [];
+      for (const child of children) if (!ids.includes(child)) ids.push(child);
     }
     return ids;
   }

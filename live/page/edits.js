@@ -7,7 +7,8 @@ import { openEdges } from "./shapes.js";
 export const key = (id, name) => `${id}\n${name}`;
 
 // By its key a commit is known to the engine, should the answer be lost.
-const newKey = () => [...crypto.getRandomValues(new Uint8Array(16))].map((n) => n.toString(16).padStart(2, "0")).join("");
+const hex = (n) => n.toString(16).padStart(2, "0");
+const newKey = () => [...crypto.getRandomValues(new Uint8Array(16))].map(hex).join("");
 
 export class Edits {
   // `app` has live, city, history, hand and render()
@@ -45,7 +46,8 @@ export class Edits {
       }
       const changed = end.cause === "Unexpected";
       if (changed && what === "edit") this.conflicts.set(at, { mine: value });
-      else toast(changed ? `Not undone: ${name} of ${id} has been changed since.` : `Refused: ${end.cause} ${end.id ?? ""}`, true);
+      else if (changed) toast(`Not undone: ${name} of ${id} has been changed since.`, true);
+      else toast(`Refused: ${end.cause} ${end.id ?? ""}`, true);
       app.history.add({ by: app.hand, own: true, told: [{ id, name, old: seen, now: value }],
         refused: changed ? "refused: it has another value by now" : `refused: ${end.cause}` });
     } catch (error) {
@@ -66,7 +68,8 @@ export class Edits {
       if (end.outcome === "committed") {
         await app.live.reached(end.version);
         const now = app.city.get(id);
-        if (old?.object) this.mine.push({ kind: "shape", id, old: [old.object.geometry ?? [], old.vertices], now: [now.object.geometry, now.vertices] });
+        const was = [old?.object?.geometry ?? [], old?.vertices ?? []], is = [now.object.geometry, now.vertices];
+        if (old?.object) this.mine.push({ kind: "shape", id, old: was, now: is });
         app.render();
         toast(`${id} has its new shape.`);
         return true;
@@ -82,7 +85,8 @@ export class Edits {
 
   tellOpen(id, geometry, vertices, why) {
     const place = (n) => this.app.city.place(vertices[n]);
-    const told = why?.edges?.filter((it) => it.from && it.to).map((it) => [this.app.city.place(it.from), this.app.city.place(it.to)]);
+    const ends = (it) => [this.app.city.place(it.from), this.app.city.place(it.to)];
+    const told = why?.edges?.filter((it) => it.from && it.to).map(ends);
     const edges = told?.length ? told : openEdges(geometry, place);
     toast(`Refused: a shell is open at ${edges.length} edges, shown in red. ${id} is as it was.`, true);
     this.app.showOpen(edges);
@@ -100,7 +104,8 @@ export class Edits {
   async undoShape({ id, old, now }) {
     const ask = async (members) => {
       const answer = await this.app.live.ask({ hand: "undo", ...members }, this.waits);
-      if (answer.error || answer.died || answer.refused) throw new Error(answer.error?.message ?? answer.refused?.cause ?? "Others are at it; try again.");
+      const fault = answer.error?.message ?? answer.refused?.cause ?? (answer.died && "Others are at it; try again.");
+      if (fault) throw new Error(fault);
       return answer;
     };
     let open = false;
@@ -108,7 +113,8 @@ export class Edits {
       await ask({ begin: `undo the shape of ${id}` });
       open = true;
       const { found } = (await ask({ do: { read: id } })).reply;
-      if (!found || !same([found.object.geometry, found.vertices], now)) throw new Error(`Not undone: the shape of ${id} has been changed since.`);
+      const isMine = found && same([found.object.geometry, found.vertices], now);
+      if (!isMine) throw new Error(`Not undone: the shape of ${id} has been changed since.`);
       await ask({ do: { reshape: id, geometry: old[0] }, ...(old[1].length ? { vertices: old[1] } : {}) });
       await ask({ commit: true });
     } catch (error) {

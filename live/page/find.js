@@ -27,7 +27,8 @@ export class Find {
       else if (later.length >= MOST) continue;
       else if (name.includes(wanted)) later.push({ id, why: type });
       else if (object?.attributes) {
-        const hit = Object.entries(object.attributes).find(([, it]) => String(typeof it === "object" ? dump(it) : it).toLowerCase().includes(wanted));
+        const has = ([, it]) => String(typeof it === "object" ? dump(it) : it).toLowerCase().includes(wanted);
+        const hit = Object.entries(object.attributes).find(has);
         if (hit) later.push({ id, why: `${hit[0]}: ${typeof hit[1] === "string" ? hit[1] : dump(hit[1])}` });
       }
       if (first.length >= MOST) break;
@@ -40,7 +41,8 @@ export class Find {
     this.found = this.matches($("find-text").value);
     this.at = -1;
     $("found").replaceChildren(...this.found.map(({ id, why }, k) => {
-      const it = make("li", { id: `found-${k}`, onpointerdown: (e) => { e.preventDefault(); this.take(this.found[k]); } },
+      const take = (e) => { e.preventDefault(); this.take(this.found[k]); };
+      const it = make("li", { id: `found-${k}`, onpointerdown: take },
         make("b", { textContent: id }), make("span", { textContent: why }));
       it.setAttribute("role", "option");
       return it;

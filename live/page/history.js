@@ -17,7 +17,8 @@ export function differences(id, before, after) {
   const form = (it) => dump((it.geometry ?? []).map((g) => [g.type, g.lod, g.boundaries.length]));
   if (form(before) !== form(after)) out.push({ id, text: "new shape" });
   for (const list of ["parents", "children"])
-    if (!same(before[list] ?? [], after[list] ?? [])) out.push({ id, text: `${list}: ${(after[list] ?? []).join(", ") || "none"}` });
+    if (!same(before[list] ?? [], after[list] ?? []))
+      out.push({ id, text: `${list}: ${(after[list] ?? []).join(", ") || "none"}` });
   return out;
 }
 
@@ -48,10 +49,12 @@ export class History {
     if (told.length > 6) lines.push(make("p", { textContent: `and ${told.length - 6} more changes` }));
     if (!told.length) lines.push(make("p", { textContent: "nothing was changed" }));
     if (refused) lines.push(make("p", { textContent: refused }));
-    const who = make("span", { className: "who", textContent: (own ? "you" : person(by)) + (undone ? ", undoing" : "") });
+    const name = (own ? "you" : person(by)) + (undone ? ", undoing" : "");
+    const who = make("span", { className: "who", textContent: name });
     who.style.setProperty("--who", `rgb(${rgbOf(person(by))})`);
     const clock = { hour: "2-digit", minute: "2-digit", second: "2-digit", hour12: false };
-    const time = make("time", { dateTime: when.toISOString(), textContent: when.toLocaleTimeString([], clock), title: version ? `version ${version}` : "" });
+    const time = make("time", { dateTime: when.toISOString(), textContent: when.toLocaleTimeString([], clock) });
+    time.title = version ? `version ${version}` : "";
     const kind = refused ? "refused" : told.some((it) => it.gone) ? "gone" : "";
     $("history").prepend(make("li", { className: kind }, who, time, ...lines));
   }

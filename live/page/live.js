@@ -1,4 +1,5 @@
-// The connection to the gateway: requests and their answers, and lines that come by themselves. It comes back by itself.
+// The connection to the gateway: requests and their answers, and lines that come by themselves. It comes back by
+// itself.
 
 import { dump, parse } from "./json.js";
 
@@ -18,7 +19,8 @@ export class Live {
 
   connect() {
     this.state("connecting");
-    const socket = this.socket = new WebSocket(`${location.protocol === "https:" ? "wss" : "ws"}://${location.host}/live`);
+    const scheme = location.protocol === "https:" ? "wss" : "ws";
+    const socket = this.socket = new WebSocket(`${scheme}://${location.host}/live`);
     socket.onopen = () => {
       socket.send(JSON.stringify({ token: this.token }));
       this.follow();
@@ -71,7 +73,8 @@ export class Live {
   // A promise that is kept once the changes up to a version have come.
   reached(version) {
     return new Promise((done) => {
-      const look = () => this.version >= version || this.socket.readyState !== WebSocket.OPEN ? done() : setTimeout(look, 5);
+      const isOver = () => this.version >= version || this.socket.readyState !== WebSocket.OPEN;
+      const look = () => isOver() ? done() : setTimeout(look, 5);
       look();
     });
   }

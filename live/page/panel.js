@@ -6,11 +6,13 @@ import { $, make, person, short, toast } from "./parts.js";
 
 const FRESH = 4000, NOTED = 60000;  // milliseconds for which a change by another is marked, and told
 
+const NUMBER = /^-?(0|[1-9][0-9]*)(\.[0-9]+)?([eE][+-]?[0-9]+)?$/;
+
 // What was typed, as a value of the kind that stood there.
 function valueOf(text, like) {
   if (typeof like === "string") return text;
   if (typeof like === "number" || like instanceof Num) {
-    if (!/^-?(0|[1-9][0-9]*)(\.[0-9]+)?([eE][+-]?[0-9]+)?$/.test(text.trim())) throw new Error("Write a number, such as 3 or 2.50.");
+    if (!NUMBER.test(text.trim())) throw new Error("Write a number, such as 3 or 2.50.");
     return number(text.trim());
   }
   if (like === undefined) {
@@ -53,21 +55,25 @@ export class Panel {
     this.painted = "";
     delete panel.dataset.id;
     const { app } = this, count = app.city?.objects.size.toLocaleString("en");
-    const hint = app.city ? `Click one of the ${count} objects on the map to see its attributes${app.may === "edit" ? ", and click a value to change it" : ""}.` : "";
-    panel.replaceChildren(make("h2", { textContent: "No object selected" }), make("p", { className: "hint", textContent: hint }));
+    const change = app.may === "edit" ? ", and click a value to change it" : "";
+    const hint = app.city ? `Click one of the ${count} objects on the map to see its attributes${change}.` : "";
+    panel.replaceChildren(make("h2", { textContent: "No object selected" }),
+      make("p", { className: "hint", textContent: hint }));
   }
 
   paintWaiting(panel, it) {
     this.painted = "";
     panel.dataset.id = it.id;
-    panel.replaceChildren(make("p", { className: "kind", textContent: it.type }), make("h2", { textContent: it.id }), make("p", { className: "hint", textContent: "is being fetched …" }));
+    panel.replaceChildren(make("p", { className: "kind", textContent: it.type }), make("h2", { textContent: it.id }),
+      make("p", { className: "hint", textContent: "is being fetched …" }));
   }
 
   signature(id, rest, geometry) {
     const { app } = this, own = (map) => [...map].filter(([at]) => at.startsWith(`${id}\n`));
     const mark = ([at, value]) => [at, value ?? "removed", value === undefined];
     return dump([id, rest, geometry?.length ?? 0, app.may, app.live.isLive, own(app.edits.pending).map(mark),
-      own(app.edits.conflicts).map(([at, { mine }]) => mark([at, mine])), own(app.edits.touched).map(([at, { by, at: when }]) => [at, by, when])]);
+      own(app.edits.conflicts).map(([at, { mine }]) => mark([at, mine])),
+      own(app.edits.touched).map(([at, { by, at: when }]) => [at, by, when])]);
   }
 
   paintTable(panel, it) {
@@ -75,14 +81,19 @@ export class Panel {
     const can = app.may === "edit" && app.live.isLive && typeof attributes === "object" && !Array.isArray(attributes);
     const rows = new Map(Object.entries(attributes));
     for (const map of [app.edits.pending, app.edits.conflicts])
-      for (const at of map.keys()) if (at.startsWith(`${id}\n`) && !rows.has(at.slice(id.length + 1))) rows.set(at.slice(id.length + 1), undefined);
+      for (const at of map.keys()) {
+        const name = at.slice(id.length + 1);
+        if (at.startsWith(`${id}\n`) && !rows.has(name)) rows.set(name, undefined);
+      }
     if (drawn.id !== id || drawn.can !== can) {
       Object.assign(drawn, { id, can, rows: new Map(), body: make("tbody"), adder: can ? [this.adder(id)] : [] });
-      drawn.table = make("table", {}, make("caption", { className: "unseen", textContent: `Attributes of ${id}` }), drawn.body);
+      const caption = make("caption", { className: "unseen", textContent: `Attributes of ${id}` });
+      drawn.table = make("table", {}, caption, drawn.body);
     }
     const wanted = [...rows].flatMap(([name, value]) => this.rowNodes(id, name, value, can));
     inOrder(drawn.body, [...wanted, ...drawn.adder]);
-    const head = [make("p", { className: "kind", textContent: object.type }), make("h2", { textContent: id }), ...this.links(object)];
+    const kind = make("p", { className: "kind", textContent: object.type });
+    const head = [kind, make("h2", { textContent: id }), ...this.links(object)];
     const foot = this.foot(it, can);
     if (panel.contains(drawn.table)) {
       while (panel.firstChild !== drawn.table) panel.firstChild.remove();
@@ -96,8 +107,9 @@ export class Panel {
 
   links(object) {
     const words = { parents: "part of ", children: "parts: " };
-    return Object.keys(words).filter((list) => object[list]?.length).map((list) => make("p", { className: "links" }, words[list],
-      ...object[list].flatMap((id, k) => [k ? ", " : "", make("button", { textContent: id, onclick: () => this.app.go(id) })])));
+    const link = (id) => make("button", { textContent: id, onclick: () => this.app.go(id) });
+    return Object.keys(words).filter((list) => object[list]?.length).map((list) =>
+      make("p", { className: "links" }, words[list], ...object[list].flatMap((id, k) => [k ? ", " : "", link(id)])));
   }
 
   foot(it, can) {
@@ -105,8 +117,9 @@ export class Panel {
     if (box && box[5] - box[2] > 0.05) facts.push(`${(box[5] - box[2]).toFixed(1)} m high`);
     if (it.object.geometry?.length) facts.push(it.object.geometry.map((g) => `${g.type} ${g.lod}`).join(", "));
     const foot = [make("p", { className: "facts", textContent: facts.join(" · ") })];
-    if (can) foot.push(make("p", { className: "shape" }, make("button", { textContent: "New shape from a file …", onclick: () => this.app.pickFile(),
-      title: "Or drop a CityJSON file on the object" })));
+    const pick = { textContent: "New shape from a file …", onclick: () => this.app.pickFile(),
+      title: "Or drop a CityJSON file on the object" };
+    if (can) foot.push(make("p", { className: "shape" }, make("button", pick)));
     return foot;
   }
 
@@ -121,22 +134,27 @@ export class Panel {
 
   row(id, name, value, can) {
     const { pending, conflicts, touched } = this.app.edits, at = key(id, name), wait = pending.has(at);
-    const shown = wait ? pending.get(at) : value, touch = touched.get(at), age = touch ? Date.now() - touch.at : Infinity;
-    const button = make("button", { disabled: !can || wait, onclick: () => this.start(name, value), title: can ? "Change it" : "" });
+    const shown = wait ? pending.get(at) : value;
+    const touch = touched.get(at), age = touch ? Date.now() - touch.at : Infinity;
+    const button = make("button", { disabled: !can || wait, onclick: () => this.start(name, value) });
+    button.title = can ? "Change it" : "";
     if (shown === undefined) button.append(make("span", { className: "unset", textContent: "removed" }));
     else button.textContent = typeof shown === "string" ? shown : dump(shown);
     if (shown !== null && typeof shown === "object" && !(shown instanceof Num)) button.classList.add("json");
     button.setAttribute("aria-label", `${name}: ${button.textContent}${can ? ", change" : ""}`);
     const cell = make("td", { className: "value" }, button);
     if (can && value !== undefined && !wait) {
-      const remove = make("button", { className: "remove", textContent: "×", title: `Remove ${name}`, onclick: () => this.app.edits.edit(id, name, value, undefined) });
+      const remove = make("button", { className: "remove", textContent: "×", title: `Remove ${name}` });
+      remove.onclick = () => this.app.edits.edit(id, name, value, undefined);
       remove.setAttribute("aria-label", `Remove ${name}`);
       cell.append(remove);
     }
     const kind = `${wait ? "pending" : ""} ${age < FRESH && !wait ? "fresh" : ""}`;
-    const tr = make("tr", { className: kind }, make("th", { className: "name", textContent: name, scope: "row" }), cell);
+    const head = make("th", { className: "name", textContent: name, scope: "row" });
+    const tr = make("tr", { className: kind }, head, cell);
     tr.dataset.name = name;
-    if (age < NOTED && !conflicts.has(at)) cell.append(make("div", { className: "note", textContent: `changed by ${person(touch.by)}` }));
+    const note = () => make("div", { className: "note", textContent: `changed by ${person(touch.by)}` });
+    if (age < NOTED && !conflicts.has(at)) cell.append(note());
     return conflicts.has(at) ? [tr, make("tr", {}, this.conflict(id, name, value))] : [tr];
   }
 
@@ -144,23 +162,28 @@ export class Panel {
   conflict(id, name, value) {
     const { edits } = this.app, at = key(id, name), { mine } = edits.conflicts.get(at), by = edits.touched.get(at)?.by;
     const keep = () => { edits.conflicts.delete(at); this.app.render(); };
-    const text = make("p", {}, make("b", { textContent: by ? person(by) : "Somebody" }), value === undefined ? " removed it" : " made it ",
+    const text = make("p", {}, make("b", { textContent: by ? person(by) : "Somebody" }),
+      value === undefined ? " removed it" : " made it ",
       value === undefined ? "" : make("b", { textContent: short(value) }), " before your ",
       make("b", { textContent: mine === undefined ? "removal" : short(mine) }), " arrived.");
     const box = make("div", { className: "conflict" }, text,
       make("button", { textContent: value === undefined ? "Leave it out" : `Keep ${short(value)}`, onclick: keep }),
-      make("button", { textContent: mine === undefined ? "Remove it all the same" : `Set ${short(mine)} all the same`, onclick: () => edits.edit(id, name, value, mine) }));
+      make("button", { textContent: mine === undefined ? "Remove it all the same" : `Set ${short(mine)} all the same`,
+        onclick: () => edits.edit(id, name, value, mine) }));
     box.setAttribute("role", "alert");
     return make("td", { colSpan: 2 }, box);
   }
+
+  rowOf(name) { return [...$("object").querySelectorAll("tr")].find((it) => it.dataset.name === name); }
 
   // Opens the editor of an attribute. A truth value is turned at once.
   start(name, value) {
     const id = this.app.selected;
     if (typeof value === "boolean") return this.app.edits.edit(id, name, value, !value);
     Object.assign(this.editing, { name, seen: value });
-    const tr = [...$("object").querySelectorAll("tr")].find((it) => it.dataset.name === name);
-    const input = make("input", { value: typeof value === "string" ? value : dump(value), spellcheck: false, autocomplete: "off" });
+    const tr = this.rowOf(name);
+    const text = typeof value === "string" ? value : dump(value);
+    const input = make("input", { value: text, spellcheck: false, autocomplete: "off" });
     input.setAttribute("aria-label", name);
     let over = false;
     const end = (save) => {
@@ -180,7 +203,7 @@ export class Panel {
       const focused = document.activeElement === input;
       input.remove();
       if (save && !same([made], [value])) this.app.edits.edit(id, name, value, made); else this.app.render();
-      if (focused) setTimeout(() => [...$("object").querySelectorAll("tr")].find((it) => it.dataset.name === name)?.querySelector(".value > button")?.focus());
+      if (focused) setTimeout(() => this.rowOf(name)?.querySelector(".value > button")?.focus());
     };
     input.oninput = () => input.setCustomValidity("");
     input.onkeydown = (e) => {
@@ -197,9 +220,11 @@ export class Panel {
   // While one types, others' changes of the same attribute are told beside it.
   note() {
     const { app } = this, tr = $("object").querySelector("tr.editing"), name = tr.dataset.name;
-    const touch = app.edits.touched.get(key(app.selected, name)), value = app.city.get(app.selected).object.attributes?.[name];
+    const touch = app.edits.touched.get(key(app.selected, name));
+    const value = app.city.get(app.selected).object.attributes?.[name];
     if (!touch || same([value ?? null], [this.editing.seen ?? null])) return;
-    const note = tr.querySelector(".note") ?? tr.querySelector("td.value").appendChild(make("div", { className: "note" }));
+    const cell = tr.querySelector("td.value");
+    const note = tr.querySelector(".note") ?? cell.appendChild(make("div", { className: "note" }));
     note.setAttribute("role", "status");
     note.textContent = `${person(touch.by)} has just made it ${value === undefined ? "nothing" : short(value)}`;
   }
@@ -212,13 +237,15 @@ export class Panel {
     name.onkeydown = value.onkeydown = (e) => {
       if (e.key !== "Enter" || !name.value.trim()) return;
       if (e.target === name) return value.focus();
-      if (this.app.city.get(id).object.attributes?.[name.value.trim()] !== undefined) return toast("There is such an attribute already.", true);
+      const known = this.app.city.get(id).object.attributes?.[name.value.trim()];
+      if (known !== undefined) return toast("There is such an attribute already.", true);
       this.painted = "";
       this.drawn.id = null;
       document.activeElement.blur();
       this.app.edits.edit(id, name.value.trim(), undefined, valueOf(value.value, undefined));
     };
-    return make("tr", { className: "add" }, make("td", { className: "name" }, name), make("td", { className: "value" }, value));
+    return make("tr", { className: "add" }, make("td", { className: "name" }, name),
+      make("td", { className: "value" }, value));
   }
 }
 

@@ -48,7 +48,8 @@ export class Plan {
     }
     paths.sort((a, b) => a.z - b.z);
     it.at = layer >= 0 ? layer - 1000 : it.box[5];
-    return it.drawn = { paths, line: layer >= 0 || round ? null : scheme.matches ? "rgba(0,0,0,.6)" : "rgba(70,50,40,.55)" };
+    const line = scheme.matches ? "rgba(0,0,0,.6)" : "rgba(70,50,40,.55)";
+    return it.drawn = { paths, line: layer >= 0 || round ? null : line };
   }
 
   // ---- tiles
@@ -119,16 +120,19 @@ export class Plan {
 
   finish() {
     const until = performance.now() + BUDGET;
+    let made = 0;
     for (const [key, job] of this.jobs) {
       if (job.frame !== this.frame) { this.jobs.delete(key); continue; }  // out of view
       if (!this.work(job, until)) break;
       this.jobs.delete(key);
+      made++;
       this.tiles.set(key, { canvas: job.canvas, frame: this.frame, z: job.z, x: job.x, y: job.y });
       if (performance.now() > until) break;
     }
     if (this.tiles.size > KEPT)
-      for (const [key, it] of this.tiles) if (it.frame < this.frame - 30 && this.tiles.size > KEPT) this.tiles.delete(key);
-    if (this.jobs.size) this.draw();
+      for (const [key, it] of this.tiles)
+        if (it.frame < this.frame - 30 && this.tiles.size > KEPT) this.tiles.delete(key);
+    if (made || this.jobs.size) this.draw();
   }
 
   // What lies in a box has changed.
@@ -175,7 +179,8 @@ export class Plan {
   pan(dx, dy) { this.x += dx / this.k; this.y += dy / this.k; this.draw(); }
 
   ground([px, py]) {
-    return [this.x + (px - this.canvas.clientWidth / 2) / this.k, this.y - (py - this.canvas.clientHeight / 2) / this.k];
+    const { clientWidth: w, clientHeight: h } = this.canvas;
+    return [this.x + (px - w / 2) / this.k, this.y - (py - h / 2) / this.k];
   }
 
   screen([x, y]) {
@@ -230,16 +235,23 @@ export class Plan {
         if (found) there.push(found); else missing.push([x * m, y * m, (x + 1) * m, (y + 1) * m]);
       }
     const put = (it) => {
-      const box = this.tileBox(it.z, it.x, it.y), [left, top] = place(box[0], box[4]), [right, bottom] = place(box[3], box[1]);
+      const box = this.tileBox(it.z, it.x, it.y);
+      const [left, top] = place(box[0], box[4]), [right, bottom] = place(box[3], box[1]);
       const [l, t] = [Math.round(left), Math.round(top)];
       g.drawImage(it.canvas, l, t, Math.round(right) - l, Math.round(bottom) - t);
     };
     if (missing.length)  // tiles of other levels, until it has its own
-      for (const it of [...this.tiles.values()].filter((it) => it.z !== z && it.z > z - 4 && it.z < z + 2).sort((a, b) => a.z - b.z)) {
+      for (const it of this.others(z)) {
         const box = this.tileBox(it.z, it.x, it.y);
         if (missing.some((b) => b[0] < box[3] && b[2] > box[0] && b[1] < box[4] && b[3] > box[1])) put(it);
       }
     for (const it of there) put(it);
+  }
+
+  // The tiles of other levels that are there, coarse ones first.
+  others(z) {
+    const near = [...this.tiles.values()].filter((it) => it.z !== z && it.z > z - 4 && it.z < z + 2);
+    return near.sort((a, b) => a.z - b.z);
   }
 
   // What is selected, under the pointer, or just changed by somebody; whether a mark still fades.
@@ -248,7 +260,11 @@ export class Plan {
       const it = this.city.get(id);
       if (!it?.box) return;
       let paths = it.faces ? this.drawn(it).paths.map((one) => one.path) : [];
-      if (!paths.length) { const path = new Path2D(), [x0, y0, , x1, y1] = it.box; path.rect(x0, y0, x1 - x0, y1 - y0); paths = [path]; }
+      if (!paths.length) {
+        const path = new Path2D(), [x0, y0, , x1, y1] = it.box;
+        path.rect(x0, y0, x1 - x0, y1 - y0);
+        paths = [path];
+      }
       for (const path of paths) {
         if (fill) { g.fillStyle = fill; g.fill(path, "evenodd"); }
         if (line) { g.strokeStyle = line; g.lineWidth = width / this.k; g.stroke(path); }
@@ -262,7 +278,8 @@ export class Plan {
       more = true;
     }
     const accent = scheme.matches ? "130,185,240" : "35,82,124";
-    if (this.over && !this.selected.includes(this.over)) over(this.over, `rgba(${accent},.14)`, `rgba(${accent},.55)`, 1.4);
+    if (this.over && !this.selected.includes(this.over))
+      over(this.over, `rgba(${accent},.14)`, `rgba(${accent},.55)`, 1.4);
     for (const id of this.selected) over(id, `rgba(${accent},.30)`, `rgb(${accent})`, 2.4);
     g.strokeStyle = "#e5342b";
     g.lineWidth = 3 / this.k;
@@ -273,10 +290,13 @@ export class Plan {
   hit(at) {
     if (!this.g || !this.city) return null;
     const [x, y] = this.ground(at);
-    const under = [...this.city.within(x, y, x, y)].map((it) => { this.heightOf(it); return it; }).sort((a, b) => b.at - a.at);
+    const under = [...this.city.within(x, y, x, y)];
+    for (const it of under) this.heightOf(it);
+    under.sort((a, b) => b.at - a.at);
     this.g.save();
     this.g.setTransform(1, 0, 0, 1, 0, 0);
-    const found = under.find((it) => !it.faces || this.drawn(it).paths.some(({ path }) => this.g.isPointInPath(path, x, y, "evenodd")));
+    const has = ({ path }) => this.g.isPointInPath(path, x, y, "evenodd");
+    const found = under.find((it) => !it.faces || this.drawn(it).paths.some(has));
     this.g.restore();
     return found?.id ?? null;
   }
@@ -286,7 +306,11 @@ export class Plan {
   listen() {
     const { canvas } = this;
     let from = null, went = 0;
-    canvas.addEventListener("pointerdown", (e) => { from = [e.offsetX, e.offsetY]; went = 0; canvas.setPointerCapture(e.pointerId); });
+    canvas.addEventListener("pointerdown", (e) => {
+      from = [e.offsetX, e.offsetY];
+      went = 0;
+      canvas.setPointerCapture(e.pointerId);
+    });
     canvas.addEventListener("pointermove", (e) => {
       if (from) {
         const [dx, dy] = [e.offsetX - from[0], e.offsetY - from[1]];

@@ -50,18 +50,21 @@ export function faces(object, place) {
 // A circle for what has a box and no shape.
 export function circle(box) {
   const [x, y, r] = [(box[0] + box[3]) / 2, (box[1] + box[4]) / 2, Math.min(box[3] - box[0], box[4] - box[1]) / 2];
-  const ring = Array.from({ length: 20 }, (_, k) => [x + r * Math.cos(k * Math.PI / 10), y + r * Math.sin(k * Math.PI / 10), box[2]]);
+  const at = (k) => [x + r * Math.cos(k * Math.PI / 10), y + r * Math.sin(k * Math.PI / 10), box[2]];
+  const ring = Array.from({ length: 20 }, (_, k) => at(k));
   return { rings: [ring], normal: [0, 0, 1], type: "" };
 }
 
 const COLOURS = {
   LandUse: [226, 231, 212], PlantCover: [201, 221, 178], WaterBody: [178, 205, 226], Waterway: [178, 205, 226],
   Road: [252, 251, 248], Railway: [214, 210, 206], TransportSquare: [246, 243, 236], TINRelief: [232, 228, 216],
-  SolitaryVegetationObject: [137, 177, 116], CityFurniture: [150, 150, 150], Bridge: [205, 200, 192], Tunnel: [205, 200, 192],
+  SolitaryVegetationObject: [137, 177, 116], CityFurniture: [150, 150, 150], Bridge: [205, 200, 192],
+  Tunnel: [205, 200, 192],
 };
 const DARK = {
   LandUse: [44, 50, 42], PlantCover: [46, 62, 40], WaterBody: [34, 54, 78], Waterway: [34, 54, 78], Road: [58, 60, 64],
-  Railway: [66, 64, 66], TransportSquare: [60, 60, 58], TINRelief: [48, 47, 43], SolitaryVegetationObject: [66, 100, 58],
+  Railway: [66, 64, 66], TransportSquare: [60, 60, 58], TINRelief: [48, 47, 43],
+  SolitaryVegetationObject: [66, 100, 58],
   CityFurniture: [110, 110, 112], Bridge: [104, 102, 98], Tunnel: [80, 78, 76],
 };
 export const scheme = matchMedia("(prefers-color-scheme: dark)");
@@ -75,7 +78,9 @@ export function colour(type, face, flat) {
   return is === "RoofSurface" ? [203, 124, 96] : is === "GroundSurface" ? [200, 194, 184] : [236, 230, 218];
 }
 
-export const LAYERS = ["TINRelief", "LandUse", "PlantCover", "WaterBody", "Waterway", "Railway", "TransportSquare", "Road"];
+export const LAYERS = [
+  "TINRelief", "LandUse", "PlantCover", "WaterBody", "Waterway", "Railway", "TransportSquare", "Road",
+];
 
 // The edges of a solid's shells that no other face has in the other direction, as pairs of points.
 export function openEdges(geometry, place) {

@@ -43,7 +43,8 @@ export class Solid {
   // The objects near what is looked at: their shapes are shown, or asked for.
   gather() {
     if (!this.city) return;
-    const { x, y } = this.controls.target, far = Math.max(60, this.camera.position.distanceTo(this.controls.target) * 1.6);
+    const { x, y } = this.controls.target;
+    const far = Math.max(60, this.camera.position.distanceTo(this.controls.target) * 1.6);
     let found = [...this.city.within(x - far, y - far, x + far, y + far)];
     if (found.length > MOST) {
       const distance = ({ box }) => Math.hypot((box[0] + box[3]) / 2 - x, (box[1] + box[4]) / 2 - y);
@@ -79,7 +80,8 @@ export class Solid {
     geometry.setAttribute("color", new THREE.Float32BufferAttribute(colours, 3));
     geometry.computeVertexNormals();
     const mesh = new THREE.Mesh(geometry, new THREE.MeshLambertMaterial({ vertexColors: THREE.VertexColors,
-      side: it.flat ? THREE.DoubleSide : THREE.FrontSide, polygonOffset: true, polygonOffsetFactor: 1, polygonOffsetUnits: 1 }));
+      side: it.flat ? THREE.DoubleSide : THREE.FrontSide, polygonOffset: true, polygonOffsetFactor: 1,
+      polygonOffsetUnits: 1 }));
     mesh.userData.id = it.id;
     if (lines.length) {
       const edges = new THREE.BufferGeometry();
@@ -108,7 +110,10 @@ export class Solid {
     const mark = this.marks.get(id), left = mark ? Math.max(0, (mark.until - performance.now()) / 4000) : 0;
     mesh.material.emissive.setRGB(0, 0, 0);
     mesh.material.color.setRGB(1, 1, 1);
-    if (this.selected.includes(id)) { mesh.material.color.setRGB(0.42, 0.66, 0.95); mesh.material.emissive.setRGB(0.0, 0.05, 0.16); }
+    if (this.selected.includes(id)) {
+      mesh.material.color.setRGB(0.42, 0.66, 0.95);
+      mesh.material.emissive.setRGB(0.0, 0.05, 0.16);
+    }
     if (left > 0) {
       const s = Math.min(1, left * 1.6), rgb = mark.rgb.split(",").map((n) => Number(n) / 255);
       mesh.material.color.setRGB(...rgb.map((c) => 1 - s + s * c));
@@ -132,7 +137,8 @@ export class Solid {
     if (lines.length) {
       const edges = new THREE.BufferGeometry();
       edges.setAttribute("position", new THREE.Float32BufferAttribute(lines.flat(2), 3));
-      this.open = new THREE.LineSegments(edges, new THREE.LineBasicMaterial({ color: 0xe5342b, linewidth: 3, depthTest: false }));
+      const red = new THREE.LineBasicMaterial({ color: 0xe5342b, linewidth: 3, depthTest: false });
+      this.open = new THREE.LineSegments(edges, red);
       this.open.renderOrder = 9;
       for (const [a, b] of lines) this.open.add(this.tube(a, b));
       this.scene.add(this.open);
@@ -143,7 +149,8 @@ export class Solid {
   // A line is one pixel wide whatever is asked for, so a thin tube goes with it.
   tube(a, b) {
     const path = new THREE.LineCurve3(new THREE.Vector3(...a), new THREE.Vector3(...b));
-    const tube = new THREE.Mesh(new THREE.TubeBufferGeometry(path, 1, 0.12, 6), new THREE.MeshBasicMaterial({ color: 0xe5342b, depthTest: false }));
+    const red = new THREE.MeshBasicMaterial({ color: 0xe5342b, depthTest: false });
+    const tube = new THREE.Mesh(new THREE.TubeBufferGeometry(path, 1, 0.12, 6), red);
     tube.renderOrder = 9;
     return tube;
   }
@@ -224,7 +231,8 @@ function triangles({ rings, normal }) {
     const [p, q, r] = [points[i], points[j], points[k]];
     if (!p || !q || !r) continue;
     const u = [q[0] - p[0], q[1] - p[1], q[2] - p[2]], v = [r[0] - p[0], r[1] - p[1], r[2] - p[2]];
-    const dot = (u[1] * v[2] - u[2] * v[1]) * normal[0] + (u[2] * v[0] - u[0] * v[2]) * normal[1] + (u[0] * v[1] - u[1] * v[0]) * normal[2];
+    const across = [u[1] * v[2] - u[2] * v[1], u[2] * v[0] - u[0] * v[2], u[0] * v[1] - u[1] * v[0]];
+    const dot = across[0] * normal[0] + across[1] * normal[1] + across[2] * normal[2];
     out.push(...(dot >= 0 ? [p, q, r] : [p, r, q]));
   }
   return out;

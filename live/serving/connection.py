@@ -2,14 +2,10 @@
 import asyncio
 import json
 import logging
-import sys
 import time
-from pathlib import Path
 
-sys.path.insert(0, str(Path(__file__).resolve().parent.parent))
-from cityed import dumps, loads  # noqa: E402 - the client keeps digits
-
-from .places import dump  # noqa: E402
+from .places import dump, dumps
+from cityed import loads  # places has put it on the path; it keeps digits
 
 MOST_UNANSWERED = 64  # requests of one connection; then nothing more is read from it
 MOST_HANDS = 16  # hands of one connection
@@ -18,12 +14,13 @@ READERS = {"look", "ids", "follow", "watch"}
 EDITORS = READERS | {"script", "begin", "do", "commit", "abort", "model", "save", "made", "bye"}
 LOCKING = ("read", "put", "add", "set", "unset", "reshape", "expect", "delete", "attach", "detach", "parent", "rename",
            "to")  # members of a command whose values are ids
-NOT_JSON, NOT_REQUEST, NOT_ALLOWED, NO_ENGINE, ENGINE_ENDED = (
+NOT_JSON, NOT_REQUEST, NOT_ALLOWED, NO_ENGINE, ENGINE_ENDED, TOO_SOON = (
     (200, "NotJson", "The message isn't JSON."),
     (201, "NotRequest", "A request is an object, and its id a whole number or a text."),
     (202, "NotAllowed", "You may watch, but not edit."),
     (203, "NoEngine", "The engine isn't there."),
-    (204, "EngineEnded", "The engine has ended; it isn't known whether this was done."))
+    (204, "EngineEnded", "The engine has ended; it isn't known whether this was done."),
+    (205, "TooSoon", "The model that was asked for before isn't sent yet."))
 log = logging.getLogger("gateway")
 
 
@@ -45,6 +42,7 @@ class Connection:
         self.hands, self.open, self.touched = set(), {}, {}  # names used; open transactions: when they last asked; ids
         self.waiting, self.size, self.some = [], 0, asyncio.Event()
         self.watches, self.unanswered, self.room = False, {}, asyncio.Event()
+        self.has_long = False  # whether a model was asked for, and isn't sent yet
         self.room.set()
         self.task = asyncio.create_task(self.writer())
 
@@ -67,7 +65,7 @@ class Connection:
             await self.some.wait()
             self.some.clear()
             texts, self.waiting = self.waiting, []
-            sent = self.size
+            sent, had_long = self.size, self.has_long == "sent"
             try:
                 if texts:
                     await self.write("\n".join(texts))
@@ -75,6 +73,8 @@ class Connection:
                 self.cut()
                 return
             self.size = max(0, self.size - sent)
+            if had_long:
+                self.has_long = False
 
     def refuse(self, fault, asked=None):
         number, name, message = fault
@@ -106,6 +106,8 @@ class Connection:
         if not self.gateway.up:
             return self.refuse(NO_ENGINE, asked)
         name = tree.get("hand", "")
+        if "model" in tree and self.has_long:
+            return self.refuse(TOO_SOON, asked)
         too_many = type(name) is str and len(self.hands | {name}) > MOST_HANDS
         if type(name) is not str or len(name) > 64 or too_many or tree["id"] in self.unanswered:
             return self.refuse(NOT_REQUEST, asked)
@@ -113,16 +115,26 @@ class Connection:
 
     async def pass_on(self, text, tree, name):
         hand = self.hand + ("/" + name if name else "")
+        try:
+            line = self.line_of(text, tree, hand)
+        except RecursionError:
+            return self.refuse(NOT_JSON, {"id": tree["id"]})
         self.hands.add(name)
         self.note(tree, hand)
+        if "model" in tree:
+            self.has_long = True
         self.unanswered[tree["id"]] = time.monotonic()
         if len(self.unanswered) >= MOST_UNANSWERED:
             self.room.clear()
-        if "hand" in tree:  # in place of the hand's own name; digits stay as they are
-            line = dumps({"hand": hand, **{k: v for k, v in loads(text).items() if k != "hand"}})
-        else:  # between the parts of a JSON value alone can a line break stand
-            line = '{"hand":%s,%s' % (dump(hand), text.strip().replace("\n", " ").replace("\r", " ")[1:])
         await self.gateway.ask(line.encode() + b"\n", self)
+
+    @staticmethod
+    def line_of(text, tree, hand):
+        """The request with its hand; digits stay as they are."""
+        if "hand" in tree:
+            return dumps({"hand": hand, **{name: it for name, it in loads(text).items() if name != "hand"}})
+        # between the parts of a JSON value alone can a line break stand
+        return '{"hand":%s,%s' % (dump(hand), text.strip().replace("\n", " ").replace("\r", " ")[1:])
 
     def note(self, tree, hand):
         """What a hand with an open transaction touches, and when it last asked."""
@@ -133,9 +145,12 @@ class Connection:
             if type(tree.get("do")) is dict:
                 self.touched[hand] |= {it for it in map(tree["do"].get, LOCKING) if type(it) is str}
 
-    def answered(self, tree):
-        """An answer of the engine to this connection."""
+    def answered(self, tree, text):
+        """An answer of the engine to this connection, which is sent. A model may be long, one at a time."""
         hand = tree.get("hand")
+        self.send(text, counts="model" not in tree)
+        if "model" in tree:
+            self.has_long = "sent"
         if "ended" in tree or "died" in tree:
             self.open.pop(hand, None)
             self.touched.pop(hand, None)
@@ -152,7 +167,7 @@ class Connection:
         """The engine is gone, and with it the answers."""
         for one in self.unanswered:
             self.refuse(ENGINE_ENDED, {"id": one})
-        self.unanswered, self.open, self.touched, self.hands = {}, {}, {}, set()
+        self.unanswered, self.open, self.touched, self.hands, self.has_long = {}, {}, {}, set(), False
         self.room.set()
 
     def leave(self):

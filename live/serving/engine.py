@@ -16,6 +16,7 @@ TICK = 0.02  # seconds at least from one writing of changes to the next
 LONG_LINE = 1 << 20  # bytes from which a line is read by a thread
 MINE = b'{"hand":"gateway",'
 CHANGED = b'{"hand":"gateway","changed":'
+MODEL = re.compile(rb'\{("hand":"(?:[^"\\]|\\.)*","id":(?:-?[0-9]+|"(?:[^"\\]|\\.)*")),"model":')
 VERSION = re.compile(rb'"version":([0-9]+)\}+\s*$')
 log = logging.getLogger("gateway")
 
@@ -46,8 +47,9 @@ class Gateway:
         while not self.stopping:
             started = time.monotonic()
             try:
-                pipe = asyncio.subprocess.PIPE
-                self.process = await asyncio.create_subprocess_exec(*self.given.engine, stdin=pipe, stdout=pipe)
+                pipe = asyncio.subprocess.PIPE  # a session of its own: what ends the gateway at a terminal lets it save
+                self.process = await asyncio.create_subprocess_exec(
+                    *self.given.engine, stdin=pipe, stdout=pipe, start_new_session=True)
             except OSError as error:
                 log.error("the engine can't be started: %s", error)
             else:
@@ -89,7 +91,8 @@ class Gateway:
         if line.startswith(MINE) and len(line) > LONG_LINE:
             return self.have(await asyncio.to_thread(Places.of_answer, line))
         try:
-            tree = json.loads(line)
+            found = MODEL.match(line) if len(line) > LONG_LINE else None  # of a model the beginning is enough
+            tree = json.loads(b"{%s,\"model\":null}" % found[1] if found else line)
         except ValueError:
             return log.error("the engine wrote no JSON: %.200r", line)
         if "cityed" in tree:
@@ -99,8 +102,7 @@ class Gateway:
         else:
             hand = tree.get("hand") or self.of_line.get(tree.get("error", {}).get("line"), "")
             if to := self.connections.get(hand.partition("/")[0]):
-                to.answered(tree)
-                to.send(line.decode())
+                to.answered(tree, line.decode())
 
     def ready(self, tree):
         """The first line of the engine."""
@@ -242,7 +244,7 @@ class Gateway:
         """Saves now and then, and aborts what is still for too long in another's way."""
         last = time.monotonic()
         while True:
-            await asyncio.sleep(min(1, self.given.idle / 4))
+            await asyncio.sleep(max(0.05, min(1, self.given.idle / 4)))
             now = time.monotonic()
             if self.up and self.saves and self.version != self.saved and now - last >= self.given.save_every > 0:
                 last = now

@@ -1,5 +1,10 @@
 """Where each object of a city lies: what a page gets first, and draws until it has the shapes that are in view."""
 import json
+import sys
+from pathlib import Path
+
+sys.path.insert(0, str(Path(__file__).resolve().parent.parent))
+from cityed import Number, dumps  # noqa: E402 - the client keeps digits
 
 
 def dump(tree):
@@ -52,12 +57,12 @@ class Places:
     @staticmethod
     def of_answer(line):
         """The places of a model's answer. This takes seconds for a large model, and so a thread of its own."""
-        tree = json.loads(line)
+        tree = json.loads(line, parse_float=Number)
         model, vertices, rows = tree["model"], tree["model"]["vertices"], {}
         for id, it in model["CityObjects"].items():
             numbers = {n for shape in it.get("geometry", []) for n in numbers_in(shape["boundaries"])}
             rows[id] = row_of(id, it, box_of(vertices[n] for n in numbers) or extent_of(it, model))
-        frame = {name: model[name] for name in ("transform", "metadata") if name in model}
+        frame = {name: it for name, it in model.items() if name not in ("CityObjects", "vertices")}
         return Places(frame, rows, tree["version"])
 
     def fold(self, line):
@@ -74,6 +79,7 @@ class Places:
     def told(self, epoch):
         """The rows as a line for a page."""
         if self.text is None:
-            rows = ",\n".join(self.rows.values()).replace("\n", "")
-            self.text = '"city":{"frame":%s,"objects":[%s]},"version":%d}' % (dump(self.frame), rows, self.version)
+            frame = dumps({name: self.frame[name] for name in ("transform", "metadata") if name in self.frame})
+            rows = ",".join(self.rows.values())
+            self.text = '"city":{"frame":%s,"objects":[%s]},"version":%d}' % (frame, rows, self.version)
         return '{"epoch":"%s",%s' % (epoch, self.text)
