@@ -68,6 +68,12 @@ class Live:
             return False
         return True
 
+    def pour(self, *requests):
+        """Sends requests by a thread of its own, so that answers can be read meanwhile."""
+        feeder = threading.Thread(target=self.send, args=requests)
+        feeder.start()
+        return feeder
+
     def read(self):
         """The next answer, or None if there is none any more."""
         line = self.process.stdout.readline()
