@@ -57,19 +57,15 @@ def starts_as(program, home, models, version, is_cut, *told):
 
 def refused(program, home, words, *told):
     """A start that is refused has touched no file but those of locks. Returns what it says."""
-    state = held(home)
+    state = home.state()
     live = Live(program, *words)
     if live.first is not None:
         live.kill()
         raise Wrong(*told, "starts", live.first, home.root)
     status, error = live.over(), live.told()
     require(status == 1 and error.startswith("cityed: "), *told, status, error)
-    require(held(home) == state, *told, "a file was touched", {k: v[-200:] for k, v in home.state().items()})
+    require(home.state() == state, *told, "a file was touched", {k: v[-200:] for k, v in home.state().items()})
     return error
-
-
-def held(home):
-    return {name: text for name, text in home.state().items() if not name.endswith("-lock")}
 
 
 def cuts(program, folder, given):
@@ -301,11 +297,11 @@ def locks(program, folder, _given):
     lines += [["--journal", journal, file], ["--output", other, "--journal", journal, other]]
     lines += [["--journal", linked, file], ["--output", file, "--wait", "1", file]]
     for words in lines:
-        state, start = home.state(), time.monotonic()
+        names, start = home.names(), time.monotonic()
         error = refused(program, home, words, "in use", words)
         require(error in (IN_USE, IN_USE.replace(": ", ": journal: ", 1)), words, error)
         require(("--wait" in words) == (time.monotonic() - start >= 1), "waited", words, time.monotonic() - start)
-        require(home.state() == state, words, "touched")
+        require(home.names() == names, words, "names", home.names(), names)
         count += 1
     for words in (["-o", file, file, home.path("edits")], ["-o", link, other, home.path("edits")]):
         ran = subprocess.run([program, *words], capture_output=True, stdin=subprocess.DEVNULL, timeout=60, check=False)

@@ -181,8 +181,8 @@ class Home:
         return sorted(os.listdir(self.root))
 
     def state(self):
-        """What each file holds."""
-        return {name: self.read(name) for name in self.names()}
+        """What each file holds, but for those of locks."""
+        return {name: self.read(name) for name in self.names() if not name.endswith("-lock")}
 
     def copy(self, folder):
         """The same files in another folder."""
