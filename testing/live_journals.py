@@ -98,8 +98,9 @@ def changes(program, folder, given):
         home = first.copy(folder)
         home.write("journal", text[:at] + byte + text[at + 1 :])
         told = ("changed", at, text[max(at - 10, 0) : at + 10], byte, home.root)
-        if at >= last:
-            starts_as(program, home, models, 6, True, *told)
+        if at >= last - 1:
+            # (without the newline before it the last line has the last two commits)
+            starts_as(program, home, models, 6 if at >= last else 5, True, *told)
             counts["dropped"] += 1
         elif at < head and (live := Live(program, *home.words())).first is not None:
             require(live.model()[0] == models[7], *told, "another model")
