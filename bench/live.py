@@ -31,7 +31,7 @@ MOST_WATCHER, MOST_COMMIT, MOST_MEMORY = 1.3, 3, 1.1
 LONG = 1_000  # sets of one commit
 SCRIPTS = 40  # so many scripts of so many sets show what one takes
 TURN = 10  # so many patient sets of each in turn
-MOST_REPLAY = 4e-5  # seconds of a start for each commit behind which it is
+MOST_REPLAY = 4e-5  # seconds that a start takes more for each commit that it makes again
 COUNTING = """
 #define _GNU_SOURCE
 #include <dlfcn.h>
@@ -231,9 +231,12 @@ def pipelined(figures, program, folder, model, yardstick, given):
             is_held = syncs * SETS_A_SYNC <= sets
             figures.tell(f"  {syncs} syncs: one for {sets / max(syncs, 1):.0f} sets", SETS_A_SYNC, is_held)
         live.end()
+    alone = Live(program, model)
     live = Live(program, "--journal", os.path.join(folder, "poured.journal"), model)
-    most = MOST_REPLAY * sets
-    figures.tell(f"  ready behind {sets:,} commits: {live.ready:.2f} s", f"{most:.1f} s", live.ready <= most)
+    most, took = MOST_REPLAY * sets, live.ready - alone.ready
+    told = f"  ready in {alone.ready:.2f} s, and behind {sets:,} commits in {live.ready:.2f} s"
+    figures.tell(told, f"{most:.1f} s more", took <= most)
+    alone.end()
     live.end()
     costs = []
     for _ in range(2):
