@@ -1,11 +1,11 @@
 -- What a crash leaves of lines.
 use Rattle.std.proofs.Common.{◌≡◌, ◌+◌, ◌<◌, ◌≤◌, ◌∙◌, ◌∷◌, ◌++◌, ◌⊎◌, inl, inr, ℕ, List, [], refl, sym, ap, length, take}
-use Rattle.std.proofs.Common.{Option, Some, None, append-nil, arith, IfSome}
+use Rattle.std.proofs.Common.{Option, Some, None, append-nil, arith, IfSome, ap₂, ◌-◌, take-add}
 use Rattle.std.proofs.lemmas.Bool.{cases_lt}
-use Rattle.std.proofs.lemmas.List.{length-append, take_all, take-append-le}
+use Rattle.std.proofs.lemmas.List.{length-append, take_all, take-append-le, take_at, drop_at}
 use Rattle.std.specs.Io.KnownBytes.{Appends, Keeps}
-use Rattle.city_journal.specs.Files.{IsKept, LeavesAsBefore, LeavesMore, LeavesPart}
-use Rattle.city_journal.specs.Kept.{Gains, Holds, MayTell, Stays}
+use Rattle.city_journal.specs.Files.{IsKept, LeavesAsBefore, LeavesFirst, LeavesMore, LeavesPart}
+use Rattle.city_journal.specs.Kept.{Gains, GoesBy, Holds, MayTell, Stays}
 use Rattle.city_journal.specs.Lines.{AreLines, IsLine, lines_text, whole_lines}
 use Rattle.city_journal.proofs.Lines.{are_more, line_first, lines_and, more_lines, part_of_line}
 
@@ -60,6 +60,13 @@ all_left lines line told k c are is fits lt eq =
       ∙ sym (take_all (length (lines ++ line ∷ [])) (lines ++ line ∷ []) (omega arith)),
     )
 
+left_cut : (lines : List (List ℕ)) (line : List ℕ) (told k : ℕ) (c : List ℕ) → AreLines lines → IsLine line
+    → told ≤ length lines → c ≡ lines_text lines ++ take k (line ++ 10 ∷ [])
+    → (length line < k) ⊎ (k ≤ length line) → IsLeft (lines ++ line ∷ []) told c
+left_cut lines line told k c are is fits eq (inl lt) = all_left lines line told k c are is fits lt eq
+left_cut lines line told k c are is fits eq (inr le) =
+    more_left lines line told c (part_left lines line told k c are is fits le eq)
+
 left_more : (lines : List (List ℕ)) (line : List ℕ) (told : ℕ) (c : List ℕ) (P : Type 0) → AreLines lines → IsLine line
     → told ≤ length lines → (P → IsLeft lines told c)
     → (P ⊎ ((k : ℕ) × (k ≤ length (line ++ 10 ∷ [])) × (c ≡ lines_text lines ++ take k (line ++ 10 ∷ []))))
@@ -68,13 +75,6 @@ left_more lines line told c P are is fits old (inl p) = more_left lines line tol
 left_more lines line told c P are is fits old (inr (k, le, eq)) =
     left_cut lines line told k c are is fits eq (cases_lt (length line) k)
 
-left_cut : (lines : List (List ℕ)) (line : List ℕ) (told k : ℕ) (c : List ℕ) → AreLines lines → IsLine line
-    → told ≤ length lines → c ≡ lines_text lines ++ take k (line ++ 10 ∷ [])
-    → (length line < k) ⊎ (k ≤ length line) → IsLeft (lines ++ line ∷ []) told c
-left_cut lines line told k c are is fits eq (inl lt) = all_left lines line told k c are is fits lt eq
-left_cut lines line told k c are is fits eq (inr le) =
-    more_left lines line told c (part_left lines line told k c are is fits le eq)
-
 left_part : (lines : List (List ℕ)) (line : List ℕ) (told : ℕ) (c : List ℕ) (P : Type 0) → AreLines lines → IsLine line
     → told ≤ length lines → (P → IsLeft lines told c)
     → (P ⊎ ((k : ℕ) × (k < length (line ++ 10 ∷ [])) × (c ≡ lines_text lines ++ take k (line ++ 10 ∷ []))))
@@ -82,6 +82,31 @@ left_part : (lines : List (List ℕ)) (line : List ℕ) (told : ℕ) (c : List �
 left_part lines line told c P are is fits old (inl p) = old p
 left_part lines line told c P are is fits old (inr (k, lt, eq)) =
     part_left lines line told k c are is fits (omega (arith, lt, length-append line (10 ∷ []))) eq
+
+-- ---- a file that keeps its first bytes
+
+take_past : (xs ys : List ℕ) (j : ℕ) → take (length xs + j) (xs ++ ys) ≡ xs ++ take j ys
+take_past xs ys j = take-add (length xs) j (xs ++ ys)
+    ∙ ap₂ (λ a b. a ++ take j b) (take_at xs ys (length xs) refl) (drop_at xs ys (length xs) refl)
+
+grown_at : (synced : ℕ) (bytes more c : List ℕ) (k : ℕ) → synced ≤ k → k ≤ length (bytes ++ more)
+    → c ≡ take k (bytes ++ more) → (length bytes < k) ⊎ (k ≤ length bytes)
+    → LeavesFirst synced bytes c ⊎ ((j : ℕ) × (j ≤ length more) × (c ≡ bytes ++ take j more))
+grown_at synced bytes more c k least most eq (inr le) =
+    inl (k, least, le, eq ∙ take-append-le k bytes more le)
+grown_at synced bytes more c k least most eq (inl lt) =
+    let split : k ≡ length bytes + (k - length bytes) = omega (arith, lt) in
+    inr (
+      k - length bytes,
+      omega (arith, most, length-append bytes more),
+      eq ∙ ap (λ n. take n (bytes ++ more)) split ∙ take_past bytes more (k - length bytes),
+    )
+
+pub grown_left : (synced : ℕ) (bytes more new : List ℕ) → new ≡ bytes ++ more
+    → LeavesMore (LeavesFirst synced bytes) (LeavesFirst synced new) bytes more
+grown_left synced bytes more new grown c left =
+    let known = rw grown at left in
+    grown_at synced bytes more c known.0 known.1 known.2 known.3 (cases_lt (length bytes) known.0)
 
 -- ---- files
 
@@ -155,3 +180,9 @@ module _ {F : Type 0} (seen : F → Option (List ℕ)) (may_leave : F → List �
 
   pub stays_same : Stays seen may_leave file file
   stays_same lines told h = h
+
+-- the same where there may be no file
+pub may_tell_all : {F : Type 0} (seen : F → Option (List ℕ)) (may_leave : F → List ℕ → Type 0) (file : Option F)
+    → IfSome file (λ f. IsKept (seen f) (may_leave f)) → GoesBy (MayTell seen may_leave) file file
+may_tell_all seen may_leave None h = refl
+may_tell_all seen may_leave (Some f) h = may_tell_synced seen may_leave f h

@@ -5,7 +5,7 @@ ghost use Rattle.city_journal.specs.Kept.{Gains, GoesBy, MayTell, Stays};
 
 use crate::file::JournalFile;
 use crate::keys::{Keys, Made};
-use crate::live::{Entry, Journal, Unwritten};
+use city_live::{Entry, Journal, Unwritten};
 use crate::model_sum::ModelSum;
 use crate::noting::{note, sync};
 use crate::write_line::{append_beginning, commit_line, saved_line};
@@ -202,6 +202,10 @@ impl<F: JournalFile> Journaling<F> {
 }
 
 impl<F: JournalFile> Journal for Journaling<F> {
+    ghost use Rattle.std.specs.Prelude.{None};
+
+    ghost noted = { λ _. None };
+
     fn is_kept(&self) -> bool {
         self.file.is_some()
     }

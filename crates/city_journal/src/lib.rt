@@ -6,7 +6,7 @@
 //! - `read`, `reading`: a whole journal read; `fault`: why one is refused
 //! - `replaying`: its commits, made again on a city
 //! - `file`: a file that grows; `memory_file`: one in memory; `runtime_file`: one of a runtime
-//! - `journaling`: what a live city notes its commits by; `noting`: lines in a file; `live`: what that asks of it
+//! - `journaling`: what a live city notes its commits by; `noting`: lines in a file
 #![tactic(auto)]
 
 mod fault;
@@ -16,7 +16,6 @@ mod keys;
 mod line;
 mod line_parts;
 mod line_sum;
-mod live;
 mod memory_file;
 mod model_sum;
 mod noting;
@@ -34,7 +33,6 @@ pub use fault::JournalFault;
 pub use file::{JournalFile, Refused};
 pub use journaling::Journaling;
 pub use keys::{Keys, MAX_KEYS, Made};
-pub use live::{Commands, Entry, Journal, NoJournal, Unwritten};
 pub use memory_file::MemoryFile;
 pub use model_sum::ModelSum;
 pub use read::{Commit, ReadJournal, read_journal};

@@ -6,7 +6,7 @@ ghost use Rattle.city_journal.specs.Kept.{Gains, GoesBy, MayTell, Stays};
 ghost use Rattle.city_journal.specs.Lines.{IsLine};
 
 use crate::file::JournalFile;
-use crate::live::Unwritten;
+use city_live::Unwritten;
 
 /// Whether there is a newline among the bytes.
 fn has_newline(bytes: &[u8]) -> bool

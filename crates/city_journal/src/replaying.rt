@@ -138,12 +138,14 @@ fn push_others(text: &mut Vec<u8>, commits: &[Commit<'_>]) -> Result<(), OutOfMe
 fn first_uncommitted(ends: &[End]) -> Option<(usize, bool)>
     ensures { IfNone result (AllByRecursion IsCommitted ends.now) }
 {
-    for (i, end) in ends.iter().enumerate() {
+    let mut place: usize = 0;
+    for end in ends {
         match end.outcome {
             Outcome::Committed => {}
-            Outcome::NoMemory(_) => return Some((i, true)),
-            _ => return Some((i, false)),
+            Outcome::NoMemory(_) => return Some((place, true)),
+            _ => return Some((place, false)),
         }
+        place = place.saturating_add(1);
     }
     None
 }

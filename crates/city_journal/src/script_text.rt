@@ -2,7 +2,7 @@
 ghost use Rattle.std.specs.Prelude.{◌≡◌, ◌∷◌, [], IfOk};
 ghost use Rattle.city_writer.specs.script.Canonical.{scripts_text};
 
-use crate::live::{Commands, Entry, Unwritten};
+use city_live::{Commands, Entry, Unwritten};
 use crate::steps::script_of_steps;
 use city_decimals::{DecimalsFault, decode};
 use city_model::OutOfMemory;

@@ -1,5 +1,6 @@
 //! Tests for development.
 use crate::*;
+use city_live::{Commands, Entry, Journal};
 use city_doc::{append_city, read_city};
 use city_members::text::Text;
 use city_scripts::read_scripts;
@@ -31,10 +32,10 @@ fn a_journal_is_read_again(rt: HostRuntime) -> Result<(), Fail> {
     let key = text(alloc, "k1")?;
     journal.ask(&hand, &key)?;
     let entry = Entry { by: &hand, name: scripts[1].name(), version: 8, commands: Commands::Script(&scripts[1]) };
-    assert_eq!(rt; journal.append(&entry), Ok(()));
+    if journal.append(&entry).is_err() { return Err(fail()); }
     let entry = Entry { by: &hand, name: &key, version: 9, commands: Commands::Each(scripts.as_slice()) };
-    assert_eq!(rt; journal.append(&entry), Ok(()));
-    assert_eq!(rt; journal.sync(), Ok(()));
+    if journal.append(&entry).is_err() { return Err(fail()); }
+    if journal.sync().is_err() { return Err(fail()); }
     let Some(file) = journal.into_file() else { return Err(fail()); };
     let Ok(shown) = std::str::from_utf8(file.bytes()) else { return Err(fail()); };
     print!(rt; "{shown}")?;

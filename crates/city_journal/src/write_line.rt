@@ -1,7 +1,7 @@
 //! The lines of a journal, written.
 use crate::keys::Keys;
 use crate::line_sum::sum_digits;
-use crate::live::{Entry, Unwritten};
+use city_live::{Entry, Unwritten};
 use crate::model_sum::ModelSum;
 use crate::script_text::script_text;
 use city_members::text::Text;
