@@ -5,10 +5,10 @@ ghost use Rattle.city_journal.specs.Kept.{Gains, GoesBy, MayTell, Stays};
 
 use crate::file::JournalFile;
 use crate::keys::{Keys, Made};
-use city_live::{Entry, Journal, Unwritten};
 use crate::model_sum::ModelSum;
 use crate::noting::{note, sync};
 use crate::write_line::{append_beginning, commit_line, saved_line};
+use city_live::{Entry, Journal, Unwritten};
 use city_members::copied::Copied;
 use city_members::text::Text;
 use city_model::OutOfMemory;
@@ -83,6 +83,14 @@ impl<F: JournalFile> Journaling<F> {
         self.file
     }
 
+    /// Takes the file out, if there is one: no more is noted. Doesn't allocate.
+    pub fn take_file(&mut self) -> Option<F>
+        ensures file { result ≡ self.old }
+        ensures left { self.new ≡ None }
+    {
+        self.file.take()
+    }
+
     /// Sets the time that the next lines have: so many seconds since 1970. Doesn't allocate.
     pub fn set_time(&mut self, seconds: u64)
         ensures { self.new ≡ self.old }
@@ -154,7 +162,8 @@ impl<F: JournalFile> Journaling<F> {
             return Ok(());
         };
         let room = Vec::new(self.alloc);
-        let Ok(lines) = append_beginning(self.alloc, room, sum, self.decimals, version, &self.keys) else {
+        let Ok(lines) = append_beginning(self.alloc, room, sum, self.decimals, version, &self.keys)
+        else {
             return Err(Unwritten::OutOfMemory);
         };
         match file.begin(lines.as_slice(), version) {
@@ -190,14 +199,7 @@ impl<F: JournalFile> Journaling<F> {
         if self.file.is_none() {
             return Ok(Vec::new(self.alloc));
         }
-        commit_line(
-            self.alloc,
-            self.seed,
-            self.decimals,
-            entry,
-            key,
-            self.time,
-        )
+        commit_line(self.alloc, self.seed, self.decimals, entry, key, self.time)
     }
 }
 
@@ -206,8 +208,9 @@ impl<F: JournalFile> Journal for Journaling<F> {
 
     ghost noted = { λ _. None };
 
+    // (keys are noted without a file too)
     fn is_kept(&self) -> bool {
-        self.file.is_some()
+        true
     }
 
     fn append(&mut self, entry: &Entry<'_>) -> Result<(), Unwritten> {

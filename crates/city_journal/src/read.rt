@@ -67,6 +67,16 @@ impl<'a> ReadJournal<'a> {
         }
     }
 
+    /// Whether a save of the model with this sum is all that stands behind its last commit. Doesn't allocate.
+    pub fn is_saved_as(&self, model: &ModelSum) -> bool {
+        match self.places.last() {
+            Some(place) => {
+                self.places.len() > 1 && place.sum == *model && place.before >= self.commits.len()
+            }
+            None => false,
+        }
+    }
+
     /// The keys of its last commits, and of those before it.
     pub fn into_keys(self) -> Keys {
         self.keys

@@ -1,21 +1,25 @@
 //! Where a session finds its journal.
+ghost use Rattle.std.specs.Prelude.{OnOk};
+ghost use Rattle.city_journal.specs.Files.{IsKept};
 
 use city_journal::{JournalFile, MemoryFile, RuntimeFile};
 use city_serve::ServeFault;
+use std::alloc::Global;
 use std::fs::{File, Files};
-use std::io;
+use std::io::{self, ErrorKind};
 use std::time::Clock;
 
 /// A journal's file, locked, that is read at the start of a session, and then grows.
 pub trait JournalStore: JournalFile {
     /// All its bytes; none if it isn't there.
-    fn read_all(&self) -> io::Result<Vec<u8>>;
+    fn read_all(&self, alloc: Global) -> io::Result<Vec<u8>>;
 
-    /// Opens it to append behind its first bytes, so many; cuts off all others.
-    fn open_behind(&mut self, whole: usize) -> io::Result<()>;
+    /// Opens it to append behind its first bytes, so many; cuts off all others. What it has then is on the disk.
+    fn open_behind(&mut self, whole: usize) -> io::Result<()>
+        ensures { OnOk result (IsKept (Self.seen self.new) (Self.may_leave self.new)) };
 
     /// Lets other runs have it.
-    fn unlock(&mut self);
+    fn let_go(&mut self);
 }
 
 /// Journals by their paths.
@@ -30,7 +34,7 @@ pub trait Journals {
 }
 
 impl<R: Files<File = File> + AllocGlobal + Clock> JournalStore for RuntimeFile<'_, R> {
-    fn read_all(&self) -> io::Result<Vec<u8>> {
+    fn read_all(&self, _alloc: Global) -> io::Result<Vec<u8>> {
         self.read()
     }
 
@@ -38,9 +42,28 @@ impl<R: Files<File = File> + AllocGlobal + Clock> JournalStore for RuntimeFile<'
         self.open(whole)
     }
 
-    fn unlock(&mut self) {
-        self.unlock_file();
+    fn let_go(&mut self) {
+        self.unlock();
     }
+}
+
+impl JournalStore for MemoryFile {
+    fn read_all(&self, alloc: Global) -> io::Result<Vec<u8>> {
+        match self.bytes().to_vec(alloc) {
+            Ok(bytes) => Ok(bytes),
+            Err(_) => Err(io::Error::from(ErrorKind::OutOfMemory)),
+        }
+    }
+
+    // (none of its lines was cut)
+    fn open_behind(&mut self, whole: usize) -> io::Result<()> {
+        if whole != self.bytes().len() || self.sync().is_err() {
+            return Err(io::Error::from(ErrorKind::InvalidInput));
+        }
+        Ok(())
+    }
+
+    fn let_go(&mut self) {}
 }
 
 /// The journals of a runtime.
@@ -64,18 +87,4 @@ impl<'a, R: Files<File = File> + AllocGlobal + Clock> Journals for RuntimeJourna
     fn lock(&mut self, path: &str, wait: usize) -> Result<RuntimeFile<'a, R>, ServeFault> {
         RuntimeFile::lock(self.rt, path, self.seed, wait)
     }
-}
-
-impl JournalStore for MemoryFile {
-    fn read_all(&self) -> io::Result<Vec<u8>> {
-        let bytes = self.bytes().to_vec(self.alloc())?;
-        Ok(bytes)
-    }
-
-    fn open_behind(&mut self, whole: usize) -> io::Result<()> {
-        self.cut(whole);
-        Ok(())
-    }
-
-    fn unlock(&mut self) {}
 }

@@ -52,7 +52,7 @@ pub fn run_live<C: Clock, F: OutputFiles, K: Journals, R: Read, W: Write, E: Wri
     let mut server = served(alloc, seed, started, line)?;
     let ended = server.run(clock, files, input, output);
     if let Some(mut journal) = server.hands.journal_mut().take_file() {
-        journal.unlock();
+        journal.let_go();
     }
     ended
 }

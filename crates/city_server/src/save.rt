@@ -3,7 +3,7 @@
 use crate::server::Server;
 use city_journal::{JournalFile, ModelSum};
 use city_lines::{Form, LineFault};
-use city_live::{Request, Tag, What};
+use city_live::{Request, Tag, Unwritten, What};
 use city_members::copied::Copied;
 use city_members::text::Text;
 use city_model::OutOfMemory;
@@ -82,7 +82,7 @@ impl<D: JournalFile + Drop> Server<'_, D> {
         let Some(new) = filled_new(files, self.seed, path, text.as_slice()) else {
             return Err(Unsaved::CannotWrite);
         };
-        if self.hands.journal_mut().begin_save(&sum).is_err() {
+        if self.note_save(&sum).is_err() {
             files.give_up(new);
             return Err(Unsaved::CannotWrite);
         }
@@ -97,6 +97,13 @@ impl<D: JournalFile + Drop> Server<'_, D> {
         // (the file is known again, so that the next save finds changes by others)
         let _ = files.read(path);
         Ok(())
+    }
+
+    /// Notes a save in the journal, and brings that to the disk.
+    fn note_save(&mut self, sum: &ModelSum) -> Result<(), Unwritten> {
+        let journal = self.hands.journal_mut();
+        journal.begin_save(sum)?;
+        journal.sync()
     }
 
     /// Saves the model at the end of the input, if there is an output and it doesn't have the model.

@@ -52,7 +52,7 @@ pub(crate) fn start<F: OutputFiles, D: JournalStore + Drop>(
             is_saved: is_output(files, line, line.model),
         });
     };
-    let Ok(bytes) = journal.read_all() else {
+    let Ok(bytes) = journal.read_all(alloc) else {
         return Err(LiveFault::JournalFile(ServeFault::Read));
     };
     if bytes.is_empty() {
