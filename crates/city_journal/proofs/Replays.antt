@@ -28,7 +28,7 @@ pub one_array_more : (decimals : Bool) (n : ℕ) (commits : List Commit) (m betw
     → Replays decimals ns (scripts_of (drop n commits)) between after
     → Replays decimals (n ∷ ns) (scripts_of commits) m after
 one_array_more decimals n commits m between leads ns after rest = (
-  between,
-  rw (take-map (λ e. e.script.now) n commits) leads,
-  rw (drop-map (λ e. e.script.now) n commits) rest,
-)
+      between,
+      rw (take-map (λ e. e.script.now) n commits) leads,
+      rw (drop-map (λ e. e.script.now) n commits) rest,
+    )
