@@ -1,2 +1,7 @@
 pub mod Prelude
 pub mod Begun
+pub mod EndTokens
+pub mod Found
+pub mod More
+pub mod Parts
+pub mod Written

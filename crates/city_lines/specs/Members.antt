@@ -1,5 +1,5 @@
 -- The members of a line.
-use Rattle.std.specs.Prelude.{◌≡◌, ◌≢◌, ◌⊎◌, ℕ, List, [], ◌∷◌, ◌++◌, Bool, true, false, codes, filter, flat_map}
+use Rattle.std.specs.Prelude.{◌≡◌, ◌≢◌, ◌⊎◌, ℕ, List, [], ◌∷◌, ◌++◌, Bool, true, false, codes, filter, flat_map, Option, Some, None}
 use Rattle.json.specs.Lex.{tokens}
 use Rattle.json.specs.Token.{Token, begin_object, end_object, key}
 use Rattle.city_lines.specs.declared.members.Member.{Member}
@@ -65,3 +65,8 @@ HasMember name text (m ∷ ms) = ((m.name ≡ name) × (m.text.now ≡ text)) �
 abbrev pub HasNone : Name → List Member → Type 0
 HasNone name [] = Unit {0}
 HasNone name (m ∷ ms) = (m.name ≢ name) × HasNone name ms
+
+-- the text of the member of this name, if there is one
+abbrev pub IsText : Name → List Member → Option (List ℕ) → Type 0
+IsText name ms None = HasNone name ms
+IsText name ms (Some text) = HasMember name text ms

@@ -1,4 +1,10 @@
 //! An answer of the engine as a line.
+ghost use Rattle.std.specs.Prelude.{◌≡◌, ◌++◌, IfOk, OnOk, Some, option_map};
+ghost use Rattle.std.specs.Arc.{arc_value};
+ghost use Rattle.city_lines.specs.Answers.{line_text};
+ghost use Rattle.city_writer.specs.internal.tree.PartTokens.{tokens_of_members};
+ghost use Rattle.city_lines.specs.Told.{answer_text, told_members, whole_model};
+
 use crate::ends::{write_blocked, write_ended, write_refused, write_reply_member};
 use crate::error::write_engine_fault;
 use crate::front::{begun, ended, write_number, write_truth};
@@ -6,6 +12,7 @@ use crate::looks::{write_changed, write_each, write_ids, write_one};
 use crate::models::append_city;
 use city_live::{Answer, What};
 use city_model::OutOfMemory;
+use city_model::city::City;
 use json::Writer;
 use std::alloc::Global;
 
@@ -31,18 +38,51 @@ pub fn append_answer(
     form: Form,
     answer: &Answer,
     bytes: Vec<u8>,
-) -> Result<Vec<u8>, OutOfMemory> {
+) -> Result<Vec<u8>, OutOfMemory>
+    ensures { IfOk result (λ b. b.items ≡ bytes.items
+        ++ answer_text line form answer.now) }
+{
     let hand = answer.hand.as_str();
-    match (&answer.what, form) {
-        (What::Model(city, version), Form::Plain | Form::One | Form::Each) => {
-            append_city(alloc, seed, hand, &answer.tag, *version, city, bytes)
+    match whole_model(form, &answer.what) {
+        Some((city, version)) => {
+            let whole = append_city(alloc, seed, hand, &answer.tag, version, city, bytes)?;
+            Ok(whole)
         }
-        (what, form) => {
-            let mut out = begun(Some(hand), &answer.tag, bytes)?;
-            write_what(alloc, seed, line, form, what, &mut out)?;
-            ended(out)
+        None => {
+            let told = append_told(alloc, seed, line, form, answer, bytes)?;
+            Ok(told)
         }
     }
+}
+
+/// The model that an answer has whole, and its version.
+fn whole_model(form: Form, what: &What) -> Option<(&City, u64)>
+    ensures { option_map (λ m. (m.0.now, m.1)) result ≡ whole_model form what.now }
+{
+    match (form, what) {
+        (Form::Plain | Form::One | Form::Each, What::Model(city, version)) => Some((
+            city, *version,
+        )),
+        _ => None,
+    }
+}
+
+/// The bytes, and behind them the line of an answer without a whole model.
+fn append_told(
+    alloc: Global,
+    seed: u64,
+    line: u64,
+    form: Form,
+    answer: &Answer,
+    bytes: Vec<u8>,
+) -> Result<Vec<u8>, OutOfMemory>
+    ensures { IfOk result (λ b. b.items ≡ bytes.items ++ line_text (Some (arc_value answer.now.hand))
+        answer.now.tag (tokens_of_members (told_members line form answer.now.what))) }
+{
+    let mut out = begun(Some(answer.hand.as_str()), &answer.tag, bytes)?;
+    write_what(alloc, seed, line, form, &answer.what, &mut out)?;
+    let written = ended(out)?;
+    Ok(written)
 }
 
 /// Writes what an answer tells.
@@ -53,7 +93,11 @@ fn write_what(
     form: Form,
     what: &What,
     out: &mut Writer,
-) -> Result<(), OutOfMemory> {
+) -> Result<(), OutOfMemory>
+    ensures before { OnOk result (out.new.before ≡ out.old.before) }
+    ensures tokens { OnOk result (out.new.tokens
+        ≡ out.old.tokens ++ tokens_of_members (told_members line form what.now)) }
+{
     match what {
         What::Began(since) => write_number("began", *since, out),
         What::Reply(reply) => write_reply_member(alloc, seed, reply, out),

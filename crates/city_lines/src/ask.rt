@@ -1,4 +1,9 @@
 //! What a line asks for.
+ghost use Rattle.std.specs.Prelude.{◌≡◌, ℕ, List, Option, IfOk, option_map};
+ghost use Rattle.city_lines.specs.declared.members.Member.{Member};
+ghost use Rattle.city_lines.specs.Requests.{IsString, Asks, AsksEngine, AskedBy};
+ghost use Rattle.city_lines.specs.declared.name.Name.TheVariants as names;
+
 use crate::fault::{LineFault, Wrong};
 use crate::line::Ask;
 use crate::members::{Member, Members};
@@ -19,11 +24,9 @@ pub fn wrong(alloc: Global, name: Name, wrong: Wrong) -> LineFault {
 }
 
 /// What the members ask for.
-pub fn ask_of(
-    alloc: Global,
-    members: &Members<'_>,
-    scratch: &mut Scratch,
-) -> Result<Ask, LineFault> {
+pub fn ask_of(alloc: Global, members: &Members<'_>, scratch: &mut Scratch) -> Result<Ask, LineFault>
+    ensures { IfOk result (λ a. AskedBy members.now.list.items a) }
+{
     let request = members.request()?;
     if members.find(Name::Key).is_some() && !matches!(request.name, Name::Script | Name::Commit) {
         return Err(wrong(alloc, Name::Key, Wrong::Misplaced));
@@ -41,7 +44,9 @@ fn request_of(
     request: Member<'_>,
     vertices: Option<&str>,
     scratch: &mut Scratch,
-) -> Result<Ask, LineFault> {
+) -> Result<Ask, LineFault>
+    ensures { IfOk result (λ a. Asks request.entry (option_map (λ v. v.now) vertices.entry) a) }
+{
     let Member { name, text } = request;
     match name {
         Name::Script => Ok(Ask::Engine(Request::Script(script_in(alloc, text)?))),
@@ -57,7 +62,7 @@ fn request_of(
             None => Err(wrong(alloc, name, Wrong::Form)),
         },
         Name::Look => look_of(alloc, text, scratch),
-        _ => plain_request(alloc, request, scratch),
+        _ => plain_request(alloc, request, vertices, scratch),
     }
 }
 
@@ -65,8 +70,11 @@ fn request_of(
 fn plain_request(
     alloc: Global,
     request: Member<'_>,
+    vertices: Option<&str>,
     scratch: &mut Scratch,
-) -> Result<Ask, LineFault> {
+) -> Result<Ask, LineFault>
+    ensures { IfOk result (λ a. Asks request.entry (option_map (λ v. v.now) vertices.entry) a) }
+{
     let Member { name, text } = request;
     let Some(true) = truth_in(text, scratch)? else {
         return Err(wrong(alloc, name, Wrong::Form));
@@ -87,7 +95,9 @@ pub fn needed_text(
     alloc: Global,
     member: Member<'_>,
     scratch: &mut Scratch,
-) -> Result<Text, LineFault> {
+) -> Result<Text, LineFault>
+    ensures { IfOk result (λ s. IsString member.entry.text.now s) }
+{
     match text_in(alloc, member.text, scratch)? {
         Some(text) => Ok(text),
         None => Err(wrong(alloc, member.name, Wrong::Form)),
@@ -100,7 +110,10 @@ fn act_of(
     text: &str,
     vertices: Option<&str>,
     scratch: &mut Scratch,
-) -> Result<Request, LineFault> {
+) -> Result<Request, LineFault>
+    ensures { IfOk result (λ r. (m : Member) → m.name ≡ names.Do → m.text.now ≡ text.now
+        → AsksEngine m (option_map (λ v. v.now) vertices.entry) r) }
+{
     if let Some(word) = text_in(alloc, text, scratch)? {
         match word.as_str() {
             "commit" => return Ok(Request::Commit),
@@ -112,7 +125,10 @@ fn act_of(
 }
 
 /// A look at an object, or at several.
-fn look_of(alloc: Global, text: &str, scratch: &mut Scratch) -> Result<Ask, LineFault> {
+fn look_of(alloc: Global, text: &str, scratch: &mut Scratch) -> Result<Ask, LineFault>
+    ensures { IfOk result (λ a. (m : Member) (vertices : Option (List ℕ)) → m.name ≡ names.Look → m.text.now ≡ text.now
+        → Asks m vertices a) }
+{
     if let Some(id) = text_in(alloc, text, scratch)? {
         return Ok(Ask::LookAtOne(id));
     }

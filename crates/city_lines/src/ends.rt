@@ -1,4 +1,14 @@
 //! Replies, ends, and who stands in the way.
+ghost use Rattle.std.specs.Prelude.{◌≡◌, ◌++◌, OnOk, codes};
+ghost use Rattle.std.specs.Arc.{arc_value};
+ghost use Rattle.serde_json.specs.Data.{object, string, no_members};
+ghost use Rattle.city_writer.specs.report.Ends.{put_refusal};
+ghost use Rattle.city_writer.specs.report.Replies.{reply_data};
+ghost use Rattle.city_writer.specs.tree.Lists.{list_data};
+ghost use Rattle.city_writer.specs.internal.tree.PartTokens.{tokens_of_members};
+ghost use Rattle.city_writer.specs.tree.Tokens.{tokens_of};
+ghost use Rattle.city_lines.specs.Told.{one, blocked_data, ended_data, with_replies};
+
 use crate::front::{write_number, write_text};
 use city_live::{Blocked, Ended, Name};
 use city_model::OutOfMemory;
@@ -13,13 +23,21 @@ pub fn write_reply_member(
     seed: u64,
     reply: &Reply,
     out: &mut Writer,
-) -> Result<(), OutOfMemory> {
+) -> Result<(), OutOfMemory>
+    ensures before { OnOk result (out.new.before ≡ out.old.before) }
+    ensures tokens { OnOk result (out.new.tokens
+        ≡ out.old.tokens ++ tokens_of_members (one (codes "reply") (reply_data reply.now))) }
+{
     out.key("reply")?;
     write_reply(alloc, seed, reply, out)
 }
 
 /// Writes a refusal in a transaction that goes on.
-pub fn write_refused(at: usize, cause: &Cause, out: &mut Writer) -> Result<(), OutOfMemory> {
+pub fn write_refused(at: usize, cause: &Cause, out: &mut Writer) -> Result<(), OutOfMemory>
+    ensures before { OnOk result (out.new.before ≡ out.old.before) }
+    ensures tokens { OnOk result (out.new.tokens
+        ≡ out.old.tokens ++ tokens_of_members (one (codes "refused") (object (put_refusal at cause.now no_members)))) }
+{
     out.key("refused")?;
     out.begin_object()?;
     write_refusal(at, cause, out)?;
@@ -28,7 +46,11 @@ pub fn write_refused(at: usize, cause: &Cause, out: &mut Writer) -> Result<(), O
 }
 
 /// Writes a lock in the way, and the hands with a hold on it.
-pub fn write_blocked(member: &str, blocked: &Blocked, out: &mut Writer) -> Result<(), OutOfMemory> {
+pub fn write_blocked(member: &str, blocked: &Blocked, out: &mut Writer) -> Result<(), OutOfMemory>
+    ensures before { OnOk result (out.new.before ≡ out.old.before) }
+    ensures tokens { OnOk result (out.new.tokens
+        ≡ out.old.tokens ++ tokens_of_members (one member.now (blocked_data blocked.now))) }
+{
     out.key(member)?;
     out.begin_object()?;
     out.key("for")?;
@@ -39,7 +61,11 @@ pub fn write_blocked(member: &str, blocked: &Blocked, out: &mut Writer) -> Resul
 }
 
 /// Writes the names of hands.
-fn write_names(names: &[Name], out: &mut Writer) -> Result<(), OutOfMemory> {
+fn write_names(names: &[Name], out: &mut Writer) -> Result<(), OutOfMemory>
+    ensures before { OnOk result (out.new.before ≡ out.old.before) }
+    ensures tokens { OnOk result (out.new.tokens
+        ≡ out.old.tokens ++ tokens_of (list_data (λ name. string (arc_value name)) names.now)) }
+{
     out.begin_array()?;
     for name in names {
         out.string(name.as_str())?;
@@ -54,7 +80,11 @@ pub fn write_ended(
     seed: u64,
     end: &Ended,
     out: &mut Writer,
-) -> Result<(), OutOfMemory> {
+) -> Result<(), OutOfMemory>
+    ensures before { OnOk result (out.new.before ≡ out.old.before) }
+    ensures tokens { OnOk result (out.new.tokens
+        ≡ out.old.tokens ++ tokens_of_members (one (codes "ended") (ended_data end.now))) }
+{
     out.key("ended")?;
     out.begin_object()?;
     write_ending(&end.outcome, out)?;
@@ -73,7 +103,11 @@ fn write_end_replies(
     seed: u64,
     end: &Ended,
     out: &mut Writer,
-) -> Result<(), OutOfMemory> {
+) -> Result<(), OutOfMemory>
+    ensures before { OnOk result (out.new.before ≡ out.old.before) }
+    ensures tokens { OnOk result (out.new.tokens
+        ≡ out.old.tokens ++ tokens_of_members (with_replies end.now.replies no_members)) }
+{
     match &end.replies {
         None => Ok(()),
         Some(replies) => {

@@ -2,7 +2,7 @@
 ghost use Rattle.std.specs.Prelude.{◌≡◌, ◌++◌, [], ◌∷◌, IfOk, OnOk, option_map, decimal, codes};
 ghost use Rattle.json.specs.Print.{print};
 ghost use Rattle.json.specs.Token.{begin_object, end_object, key, string, number as numeral, boolean};
-ghost use Rattle.city_lines.specs.Answers.{hand_tokens, ended_text, IsBegun};
+ghost use Rattle.city_lines.specs.Answers.{hand_tokens, IsBegun};
 
 use city_live::Tag;
 use city_model::OutOfMemory;
@@ -55,7 +55,8 @@ fn tagged(tag: &str, out: Writer) -> Result<Writer, OutOfMemory>
 
 /// Ends a line, with its newline.
 pub fn ended(out: Writer) -> Result<Vec<u8>, OutOfMemory>
-    ensures { IfOk result (λ bytes. bytes.items ≡ ended_text out []) }
+    ensures { IfOk result (λ bytes. bytes.items
+        ≡ (out.before ++ print (out.tokens ++ end_object ∷ [])) ++ 10 ∷ []) }
 {
     let mut out = out;
     out.end_object()?;

@@ -1,8 +1,8 @@
 //! The members of a line.
-ghost use Rattle.std.specs.Prelude.{◌≡◌, ◌≢◌, ◌++◌, [], ◌∷◌, IfOk, IfSome, IfNone, IsTrue, None};
+ghost use Rattle.std.specs.Prelude.{◌≡◌, ◌≢◌, ◌++◌, [], ◌∷◌, IfOk, IsTrue, None, option_map};
 ghost use Rattle.json.specs.Token.{end_object, key};
 ghost use Rattle.json.specs.Reads.{token_of};
-ghost use Rattle.city_lines.specs.Members.{IsObjectOf, HasMember, HasNone, requests, name_text};
+ghost use Rattle.city_lines.specs.Members.{IsObjectOf, IsText, requests};
 
 use crate::fault::{LineFault, Wrong};
 use crate::name::Name;
@@ -31,12 +31,12 @@ pub struct Members<'t> {
 
 impl<'t> Members<'t> {
     /// The JSON text of the member of this name.
+    #[tactic(auto, using(crate::proofs::Found::found_here, crate::proofs::Found::passed_here))]
     pub fn find(&self, name: Name) -> Option<&'t str>
-        ensures found { IfSome result (λ text. HasMember name text.now self.now.list.items) }
-        ensures none { IfNone result (HasNone name self.now.list.items) }
+        ensures { IsText name self.now.list.items (option_map (λ t. t.now) result) }
     {
         for member in &self.list {
-            if member.name == name {
+            if member.name.is(name) {
                 return Some(member.text);
             }
         }

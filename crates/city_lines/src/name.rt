@@ -1,5 +1,6 @@
 //! The names of members.
-ghost use Rattle.std.specs.Prelude.{◌≡◌, IfSome};
+ghost use Rattle.std.specs.Prelude.{◌≡◌, ◌≢◌, IfSome};
+ghost use Rattle.std.specs.Bool.{MatchBool};
 ghost use Rattle.city_lines.specs.Members.{name_text, is_request};
 
 /// The name of a line's member.
@@ -71,6 +72,13 @@ impl Name {
             Name::Made => "made",
             Name::Bye => "bye",
         }
+    }
+
+    /// Whether it is this one.
+    pub fn is(self, other: Name) -> bool
+        ensures { MatchBool result (self ≡ other) (self ≢ other) }
+    {
+        self == other
     }
 
     /// Whether a member of this name asks for something.

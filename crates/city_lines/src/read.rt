@@ -1,4 +1,9 @@
 //! Reads a line.
+ghost use Rattle.std.specs.Prelude.{◌≡◌, IfOk, Some, None};
+ghost use Rattle.city_lines.specs.Members.{IsText};
+ghost use Rattle.city_lines.specs.Requests.{IsRequest, IsOwnText, IsLineOf};
+ghost use Rattle.city_lines.specs.declared.name.Name.TheVariants as names;
+
 use crate::ask::{ask_of, needed_text, wrong};
 use crate::fault::{LineError, LineFault, Wrong};
 use crate::line::Line;
@@ -19,7 +24,9 @@ pub const MAX_LINE: usize = 67_108_864;
 pub const MAX_NAME: usize = 256;
 
 /// The request of a line, without its newline. It allocates a few times the line's length at most.
-pub fn read_line(alloc: Global, bytes: &[u8]) -> Result<Line, LineError> {
+pub fn read_line(alloc: Global, bytes: &[u8]) -> Result<Line, LineError>
+    ensures { IfOk result (λ line. IsRequest bytes.now line) }
+{
     if bytes.len() > MAX_LINE {
         return Err(LineError::unnamed(LineFault::TooLong));
     }
@@ -29,13 +36,19 @@ pub fn read_line(alloc: Global, bytes: &[u8]) -> Result<Line, LineError> {
     };
     let mut scratch = Scratch::new(alloc);
     match members_of(alloc, text, &mut scratch) {
-        Ok(members) => line_of(alloc, members, &mut scratch),
+        Ok(members) => {
+            let line = line_of(alloc, members, &mut scratch)?;
+            Ok(line)
+        }
         Err(_) => Err(LineError::unnamed(LineFault::NoMemory)),
     }
 }
 
 /// The request of these members.
-fn line_of(alloc: Global, members: Members<'_>, scratch: &mut Scratch) -> Result<Line, LineError> {
+fn line_of(alloc: Global, members: Members<'_>, scratch: &mut Scratch) -> Result<Line, LineError>
+    ensures { IfOk result (λ line. (members.entry.fault ≡ None)
+        × IsLineOf members.entry.list.items line) }
+{
     let tag = match tag_of(alloc, &members) {
         Ok(tag) => tag,
         Err(_) => return Err(LineError::unnamed(LineFault::NoMemory)),
@@ -48,7 +61,10 @@ fn line_of(alloc: Global, members: Members<'_>, scratch: &mut Scratch) -> Result
     }
     let members = Members { list, fault: None };
     match hand {
-        Ok(hand) => asked_line(alloc, hand, tag, &members, scratch),
+        Ok(hand) => {
+            let line = asked_line(alloc, hand, tag, &members, scratch)?;
+            Ok(line)
+        }
         Err(fault) => Err(LineError {
             hand: None,
             tag,
@@ -64,7 +80,11 @@ fn asked_line(
     tag: Tag,
     members: &Members<'_>,
     scratch: &mut Scratch,
-) -> Result<Line, LineError> {
+) -> Result<Line, LineError>
+    requires hand { IsOwnText names.Hand members.now.list.items (Some hand) }
+    requires tag { IsText names.Id members.now.list.items tag }
+    ensures { IfOk result (λ line. IsLineOf members.now.list.items line) }
+{
     let key = match key_of(alloc, members, scratch) {
         Ok(key) => key,
         Err(fault) => {
@@ -87,7 +107,9 @@ fn asked_line(
 }
 
 /// The JSON text of the `id`, if there is one.
-fn tag_of(alloc: Global, members: &Members<'_>) -> Result<Tag, OutOfMemory> {
+fn tag_of(alloc: Global, members: &Members<'_>) -> Result<Tag, OutOfMemory>
+    ensures { IfOk result (λ tag. IsText names.Id members.now.list.items tag) }
+{
     match members.find(Name::Id) {
         Some(text) => Ok(Some(text_of(alloc, text)?)),
         None => Ok(None),
@@ -95,7 +117,9 @@ fn tag_of(alloc: Global, members: &Members<'_>) -> Result<Tag, OutOfMemory> {
 }
 
 /// The hand.
-fn hand_of(alloc: Global, members: &Members<'_>, scratch: &mut Scratch) -> Result<Text, LineFault> {
+fn hand_of(alloc: Global, members: &Members<'_>, scratch: &mut Scratch) -> Result<Text, LineFault>
+    ensures { IfOk result (λ hand. IsOwnText names.Hand members.now.list.items (Some hand)) }
+{
     match short_text(alloc, members, Name::Hand, scratch)? {
         Some(hand) => Ok(hand),
         None => Err(LineFault::NoHand),
@@ -107,7 +131,9 @@ fn key_of(
     alloc: Global,
     members: &Members<'_>,
     scratch: &mut Scratch,
-) -> Result<Option<Text>, LineFault> {
+) -> Result<Option<Text>, LineFault>
+    ensures { IfOk result (λ key. IsOwnText names.Key members.now.list.items key) }
+{
     short_text(alloc, members, Name::Key, scratch)
 }
 
@@ -117,7 +143,9 @@ fn short_text(
     members: &Members<'_>,
     name: Name,
     scratch: &mut Scratch,
-) -> Result<Option<Text>, LineFault> {
+) -> Result<Option<Text>, LineFault>
+    ensures { IfOk result (λ found. IsOwnText name members.now.list.items found) }
+{
     let Some(text) = members.find(name) else {
         return Ok(None);
     };

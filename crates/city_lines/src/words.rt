@@ -1,4 +1,7 @@
 //! The errors: their numbers, names and words.
+ghost use Rattle.std.specs.Prelude.{◌≡◌};
+ghost use Rattle.city_lines.specs.Told.{fault_words};
+
 use crate::fault::{LineFault, Wrong};
 use city_live::Fault;
 
@@ -10,7 +13,9 @@ pub struct Words {
     pub message: &'static str,
 }
 
-fn words(number: u64, name: &'static str, message: &'static str) -> Words {
+fn worded(number: u64, name: &'static str, message: &'static str) -> Words
+    ensures { (result.name.now, (result.message.now, result.number)) ≡ (name.now, (message.now, number)) }
+{
     Words {
         number,
         name,
@@ -21,24 +26,24 @@ fn words(number: u64, name: &'static str, message: &'static str) -> Words {
 /// What is told of a fault of a line. A refused script has words of its own; these stand in for them.
 pub fn words_of(fault: &LineFault) -> Words {
     match fault {
-        LineFault::NotJson(_) => words(
+        LineFault::NotJson(_) => worded(
             21,
             "NotJson",
             "The line isn't one JSON object in UTF-8 that nests no deeper than 127.",
         ),
-        LineFault::TooLong => words(22, "TooLong", "The line has more than 67,108,864 bytes."),
-        LineFault::NoHand => words(23, "NoHand", "The line has no hand."),
-        LineFault::NoRequest => words(24, "NoRequest", "The line asks for nothing."),
-        LineFault::TwoRequests => words(25, "TwoRequests", "The line asks for two things."),
-        LineFault::BadMember(_, wrong) => words(26, "BadMember", message_of(*wrong)),
-        LineFault::Refused(_) => words(27, "Refused", "The script or the command isn't read."),
+        LineFault::TooLong => worded(22, "TooLong", "The line has more than 67,108,864 bytes."),
+        LineFault::NoHand => worded(23, "NoHand", "The line has no hand."),
+        LineFault::NoRequest => worded(24, "NoRequest", "The line asks for nothing."),
+        LineFault::TwoRequests => worded(25, "TwoRequests", "The line asks for two things."),
+        LineFault::BadMember(_, wrong) => worded(26, "BadMember", message_of(*wrong)),
+        LineFault::Refused(_) => worded(27, "Refused", "The script or the command isn't read."),
         LineFault::NoMemory => engine_words(Fault::NoMemory),
-        LineFault::CannotWrite => words(
+        LineFault::CannotWrite => worded(
             34,
             "CannotWrite",
             "The journal or the output can't be written.",
         ),
-        LineFault::NoOutput => words(35, "NoOutput", "There is no output to save to."),
+        LineFault::NoOutput => worded(35, "NoOutput", "There is no output to save to."),
         LineFault::Engine(fault) => engine_words(*fault),
     }
 }
@@ -54,21 +59,23 @@ fn message_of(wrong: Wrong) -> &'static str {
 }
 
 /// What is told of a request that the engine doesn't do.
-pub fn engine_words(fault: Fault) -> Words {
+pub fn engine_words(fault: Fault) -> Words
+    ensures { (result.name.now, (result.message.now, result.number)) ≡ fault_words fault }
+{
     match fault {
-        Fault::Busy => words(28, "Busy", "An earlier request of the hand still waits."),
-        Fault::NotOpen => words(29, "NotOpen", "The hand has no open transaction."),
-        Fault::AlreadyOpen => words(30, "AlreadyOpen", "The hand has an open transaction."),
-        Fault::TooMany => words(
+        Fault::Busy => worded(28, "Busy", "An earlier request of the hand still waits."),
+        Fault::NotOpen => worded(29, "NotOpen", "The hand has no open transaction."),
+        Fault::AlreadyOpen => worded(30, "AlreadyOpen", "The hand has an open transaction."),
+        Fault::TooMany => worded(
             31,
             "TooMany",
             "The transaction has as many commands as it may; only a commit or an abort goes on.",
         ),
-        Fault::TooManyHands => words(
+        Fault::TooManyHands => worded(
             32,
             "TooManyHands",
             "As many hands as there may be have a transaction or a watch.",
         ),
-        Fault::NoMemory => words(33, "NoMemory", "Memory ran out."),
+        Fault::NoMemory => worded(33, "NoMemory", "Memory ran out."),
     }
 }

@@ -21,7 +21,7 @@ returns-in_ok-next-in-Some c =
     let before : out.before ≡ bytes = search rules in
     let tokens : out.tokens ≡ begin_object ∷ hand_tokens hand = search rules in
     let behind : next.before ≡ (bytes ++ print (begin_object ∷ (hand_tokens hand ++ key (codes "id") ∷ [])))
-        ++ (c.in-Some.tag ++ 44 ∷ []) =
-        rw (c.in_ok-next-in-Some.ensures.before, before, tokens, c.as_str.ensures) refl in
+    ++ (c.in-Some.tag ++ 44 ∷ []) =
+    rw (c.in_ok-next-in-Some.ensures.before, before, tokens, c.as_str.ensures) refl in
     subst (λ id. IsBegun bytes hand id next) (sym c.in-Some.is)
     (begun_with bytes hand c.in-Some.tag next behind c.in_ok-next-in-Some.ensures.tokens)
