@@ -140,8 +140,7 @@ heard_begins {s} {u} {works} {others} {es} r stamp kept b free new fresh is_kept
     let given = below_given stamp s.stamps b.taken b.stamp_is (λ t e. (b.kept_is t e).1) in
     subst (λ l. AreHeard u others l) (sym noted)
     (heard_event r u others stamp (Some new) (Some g) b.begun.start (omega (arith, given.1, b.begun.given))
-    (λ h. omega (arith, given.0, b.begun.given)) to b.begun.growing
-    (
+    (λ h. omega (arith, given.0, b.begun.given)) to b.begun.growing (
       fresh_far new.task (length s.closed) fresh,
       subst (λ ks. IsKept new.task ks (Some g)) (sym keeps) (fresh_kept new.task is_kept (length s.closed)),
     )

@@ -54,31 +54,31 @@ one_more e a b c = c ∙ (b ∙ ap (λ l. l ++ e ∷ []) a)
 module _ {s : Served} {session after : SessionState} {log : Logged} {before later : Option (List Noted)}
     (is : record { session = session; events = log.events; answers = log.answers; noted = before } ≡ s)
     (goes : Continues session after) (notes : Notes before later (committed session.core) (committed after.core))
-    where
-  -- these events are noted, with the answers that they tell
-  pub noting : (logged : Logged) (more : List Event) → logged.events ≡ log.events ++ more
-      → logged.answers ≡ log.answers ++ told_in more
-      → Follows s (record { session = after; events = logged.events; answers = logged.answers; noted = later })
-  noting logged more events answers =
-      subst (λ v. Follows v (record { session = after; events = logged.events; answers = logged.answers; noted = later })) is
-      (record { more = more; events = events; answers = answers; continues = goes; notes = notes })
+  where
+    -- these events are noted, with the answers that they tell
+    pub noting : (logged : Logged) (more : List Event) → logged.events ≡ log.events ++ more
+        → logged.answers ≡ log.answers ++ told_in more
+        → Follows s (record { session = after; events = logged.events; answers = logged.answers; noted = later })
+    noting logged more events answers =
+        subst (λ v. Follows v (record { session = after; events = logged.events; answers = logged.answers; noted = later })) is
+        (record { more = more; events = events; answers = answers; continues = goes; notes = notes })
 
-  pub saying : (logged : Logged) (stamp : Option ℕ) (a : Answer) → IsSaid stamp a log logged
-      → Follows s (record { session = after; events = logged.events; answers = logged.answers; noted = later })
-  saying logged stamp a said =
-      noting logged (events.Says stamp a said.is_told ∷ []) said.events
-      (said.answers ∙ ap (λ l. log.answers ++ l) (sym (append-nil (told_by (events.Says stamp a said.is_told)))))
+    pub saying : (logged : Logged) (stamp : Option ℕ) (a : Answer) → IsSaid stamp a log logged
+        → Follows s (record { session = after; events = logged.events; answers = logged.answers; noted = later })
+    saying logged stamp a said =
+        noting logged (events.Says stamp a said.is_told ∷ []) said.events
+        (said.answers ∙ ap (λ l. log.answers ++ l) (sym (append-nil (told_by (events.Says stamp a said.is_told)))))
 
-  -- an event that is no answer
-  pub quietly : (logged : Logged) (e : Event) → told_by e ≡ [] → logged.events ≡ log.events ++ e ∷ []
-      → logged.answers ≡ log.answers
-      → Follows s (record { session = after; events = logged.events; answers = logged.answers; noted = later })
-  quietly logged e none events answers =
-      noting logged (e ∷ []) events
-      (answers ∙ (sym (append-nil log.answers) ∙ ap (λ l. log.answers ++ l) (sym (ap (λ l. l ++ []) none))))
+    -- an event that is no answer
+    pub quietly : (logged : Logged) (e : Event) → told_by e ≡ [] → logged.events ≡ log.events ++ e ∷ []
+        → logged.answers ≡ log.answers
+        → Follows s (record { session = after; events = logged.events; answers = logged.answers; noted = later })
+    quietly logged e none events answers =
+        noting logged (e ∷ []) events
+        (answers ∙ (sym (append-nil log.answers) ∙ ap (λ l. log.answers ++ l) (sym (ap (λ l. l ++ []) none))))
 
-  pub silently : Follows s (record { session = after; events = log.events; answers = log.answers; noted = later })
-  silently = noting log [] (sym (append-nil log.events)) (sym (append-nil log.answers))
+    pub silently : Follows s (record { session = after; events = log.events; answers = log.answers; noted = later })
+    silently = noting log [] (sym (append-nil log.events)) (sym (append-nil log.answers))
 
 -- ---- what is seen
 

@@ -265,8 +265,7 @@ heard_replied {s} {u} {works} {others} {log} {logged} r stamp by command asked p
     (λ h. omega (arith, r.given stamp (ap is_some asked.there), acted.given))
     (subst (λ o. WorksTo stamp (option_map (replied is_done) o) works others) asked.there to)
     (subst (λ o. GrowsTo stamp (option_map (told_after command (acts.Replied reply)) o) s.growing u.growing)
-    grown.1 acted.growing)
-    (
+    grown.1 acted.growing) (
       subst (λ t. IsSoFar t (Some after)) (sym (task_replied is_done w))
           (far_single (with_asked None w.task) after (whole_answered w.task asked.single)),
       subst (λ t. IsKept t (replied is_done w).kept (Some after)) (sym (task_replied is_done w))
@@ -388,8 +387,7 @@ module _ {s : SessionState} {works others : List (ℕ × Working)} {es next : Li
       (heard_event r s others stamp (Some (asking script tag w)) og refl (omega arith)
       (λ h. r.given stamp (ap is_some o.there))
       (subst (λ x. WorksTo stamp (option_map (asking script tag) x) works others) o.there to)
-      (grows_same stamp og s.growing refl)
-      (
+      (grows_same stamp og s.growing refl) (
         subst (λ t. IsSoFar (with_asked (Some script) t) og) (sym o.so)
             (subst (λ x. IsSoFar (task.Single (Some script)) x) (sym grown.1) tt),
         kept_task w.task (Some script) w.kept og all.1,

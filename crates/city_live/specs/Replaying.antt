@@ -1,5 +1,5 @@
 -- Commits noted in a journal, run again.
-use Rattle.std.specs.Prelude.{◌≡◌, ◌++◌, List, [], ◌∷◌, Option, None, Some, true, is_some, option_map}
+use Rattle.std.specs.Prelude.{◌≡◌, ◌⊎◌, ◌++◌, ℕ, List, [], ◌∷◌, Option, None, Some, true, is_some, option_map}
 use Rattle.city_model.specs.declared.command.Command.{Command}
 use Rattle.city_model.specs.declared.end.Outcome.{Outcome}
 use Rattle.city_model.specs.CityMap.{CityMap}
@@ -28,3 +28,7 @@ pub record NotesCommands (commands : Option (List Command)) (before after : Opti
 abbrev pub NotesWork : Option Working → Option (List Noted) → Option (List Noted) → Type 0
 NotesWork None before after = Unit {0}
 NotesWork (Some w) before after = NotesCommands (commands_noted w) before after
+
+-- so is a commit, unless the version stays
+abbrev pub NotesCommit : ℕ → ℕ → Option Working → Option (List Noted) → Option (List Noted) → Type 0
+NotesCommit version next w before after = ((next ≡ version) × (after ≡ before)) ⊎ NotesWork w before after

@@ -172,14 +172,7 @@ impl<J: Journal> Talks<J> {
     {
         let kept = self.table.free(kept);
         let stamp = begin_under(&mut self.session, kept)?;
-        let work = Work::new(
-            self.alloc,
-            hand,
-            seat,
-            name,
-            task,
-            self.journal.is_kept(),
-        );
+        let work = Work::new(self.alloc, hand, seat, name, task, self.journal.is_kept());
         let noted = self.log.events().begins(stamp, &work);
         if self.table.add(stamp, work).is_err() {
             if self.session.is_open(stamp) {

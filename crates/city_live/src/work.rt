@@ -69,7 +69,6 @@ impl Model for Work {
     ghost coded = { Prim.hlevel (codes, coded_members, coded_objects) };
 
     ghost use Rattle.std.specs.Arc.{arc_value};
-
     ghost use Rattle.std.specs.Prelude.{option_map};
     ghost use Rattle.city_live.specs.Works.{HasRoom};
 
@@ -103,11 +102,7 @@ impl Work {
           kept = none_kept is_kept;
         } }
     {
-        let kept = if is_kept {
-            Some(Vec::new(alloc))
-        } else {
-            None
-        };
+        let kept = if is_kept { Some(Vec::new(alloc)) } else { None };
         Work {
             hand,
             seat,
@@ -315,11 +310,7 @@ impl Work {
         ensures tag { result ≡ self.old.tag }
         ensures work { self.new ≡ replied is_done self.old }
     {
-        if is_done {
-            self.done()
-        } else {
-            self.answer()
-        }
+        if is_done { self.done() } else { self.answer() }
     }
 
     /// Takes out a script that goes on, and the replies to its commands so far. Doesn't allocate.

@@ -6,7 +6,7 @@ ghost use Rattle.city_session.specs.Grown.{Grown};
 ghost use Rattle.city_session.specs.Live.{grown_at};
 ghost use Rattle.city_live.specs.Ending.{IsReady, IsAllowed, IsEnded, IsUnrefused, AreTold, IsTelling, told_replies};
 ghost use Rattle.city_live.specs.Ending.{IsTellingOf, IsCounted};
-ghost use Rattle.city_live.specs.Replaying.{NotesWork, NotesCommands};
+ghost use Rattle.city_live.specs.Replaying.{NotesCommit, NotesWork, NotesCommands};
 ghost use Rattle.city_live.specs.Works.{work_at, commands_noted};
 ghost use Rattle.city_live.specs.Serving.{Follows};
 
@@ -163,9 +163,7 @@ impl<J: Journal> Talks<J> {
         if !self.table.may_commit(stamp) {
             return Ok(None);
         }
-        if version != before {
-            note_at(&mut self.journal, &self.table, stamp, version)?;
-        }
+        note_commit(&mut self.journal, &self.table, stamp, before, version)?;
         let Some(work) = self.table.take(stamp) else {
             unreachable!()
         };
@@ -232,6 +230,24 @@ impl<J: Journal> Talks<J> {
         self.log.says(Some(stamp), Answer { hand, tag, what });
         Some(seat)
     }
+}
+
+/// Notes the commit of the stamp's work in a journal, if it wrote: then the version after it is another.
+fn note_commit<J: Journal>(
+    journal: &mut J,
+    table: &Table,
+    stamp: u64,
+    before: u64,
+    version: u64,
+) -> Result<(), Unwritten>
+    ensures ok { OnOk result (NotesCommit before version (work_at table.now stamp) (J.noted journal.old)
+        (J.noted journal.new)) }
+    ensures err { OnErr result (J.noted journal.new ≡ J.noted journal.old) }
+{
+    if version == before {
+        return Ok(());
+    }
+    note_at(journal, table, stamp, version)
 }
 
 /// Notes the work of the stamp in a journal that is kept, at the version after its commit.

@@ -1,12 +1,13 @@
 use Rattle.std.specs.Prelude.{true}
 use Rattle.std.proofs.Common.{refl, ◌∙◌, sym, ap, subst}
 use Rattle.city_model.specs.declared.end.Outcome.TheVariants as outcomes
-use Rattle.city_live.specs.Ending.{EndsAs, Leads, told_replies}
+use Rattle.city_live.specs.Ending.{EndsAs, IsCounted, Leads, told_replies}
 use Rattle.city_live.specs.Heard.{AreHeard}
 use Rattle.city_live.specs.Serving.{Served}
 use Rattle.city_live.proofs.Continued.{same, ended}
 use Rattle.city_live.proofs.Followed.{then, noting, saying}
 use Rattle.city_live.proofs.Finished.{heard_ended, heard_tellings, steps_if, committing}
+use Rattle.city_live.proofs.Replayed.{stays, commit_notes}
 use Rattle.city_live.proofs.talks.Talks.commit.Goals as goal
 
 pub invariant_of-self-2 : goal.invariant_of-self-2
@@ -26,4 +27,16 @@ invariant_of-self-2 g c =
     (committing _ c.in-Some.work (c.may_commit.ensures c.if-not-may_commit.false) there))
 
 pub returns : goal.returns
-returns g c = ?
+returns g c =
+    let there = sym c.take.ensures.taken ∙ c.in-Some.is in
+    (then)
+    (noting c.self.view_is (same c.self.inside.session) (stays refl) c.tell_all.new.log c.tell_all.ensures.more
+    c.tell_all.ensures.events c.tell_all.ensures.answers)
+    (saying refl (ended c.args.stamp _ c.commit.ensures.ended)
+    (commit_notes c.self.invariant c.is_live.ensures c.args.stamp c.in-Some.work there
+    (c.may_commit.ensures c.if-not-may_commit.false) c.commit.new.self c.args.before c.args.version _ _
+    c.commit.ensures.ended.ended c.commit.ensures.ended.is_there c.commit.ensures.city
+    (subst (λ (v : Served). IsCounted c.args.stamp c.args.before c.args.version v.session) (sym c.self.view_is)
+    c.requires.counted)
+    c.in_ok-note_commit.ensures.ok)
+    c.says.new.self _ _ c.says.ensures)
