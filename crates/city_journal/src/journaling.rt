@@ -209,7 +209,7 @@ impl<F: JournalFile> Journaling<F> {
     }
 }
 
-impl<F: JournalFile> Journal for Journaling<F> {
+impl<F: JournalFile + Drop> Journal for Journaling<F> {
     ghost use Rattle.std.specs.Prelude.{None};
 
     ghost noted = { λ _. None };
