@@ -1,5 +1,5 @@
 -- The tokens of an end.
-use Rattle.city_lines.proofs.Prelude.{◌≡◌, ◌++◌, ◌∷◌, List, ℕ, Option, Some, None, ap, sym, refl, append-nil, codes, key}
+use Rattle.city_lines.proofs.Prelude.{◌≡◌, ◌++◌, ◌∷◌, List, Option, Some, None, ap, sym, refl, append-nil, codes, key}
 use Rattle.city_lines.proofs.Prelude.{Data, Members, member, no_members, closing_members, tokens_of_members, tokens_of}
 use Rattle.city_model.specs.declared.command.Cause.TheVariants.{NoMark}
 use Rattle.city_model.specs.declared.command.Reply.{Reply}
