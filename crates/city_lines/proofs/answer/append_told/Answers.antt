@@ -10,6 +10,7 @@ returns c =
     let bytes = c.args.bytes.items in
     let hand : c.as_str.result.now ≡ arc_value a.hand = search rules in
     c.in_ok-written.ensures
-    ∙ line_ended bytes (Some c.as_str.result.now) a.tag c.in_ok-out.out c.write_what.new.out _ c.in_ok-out.ensures c.in_ok-write_what.ensures.before
+    ∙ line_ended bytes (Some c.as_str.result.now) a.tag c.in_ok-out.out c.write_what.new.out _
+    c.in_ok-out.ensures c.in_ok-write_what.ensures.before
     c.in_ok-write_what.ensures.tokens
     ∙ ap (λ h. bytes ++ line_text (Some h) a.tag (tokens_of_members (told_members c.args.line c.args.form a.what))) hand

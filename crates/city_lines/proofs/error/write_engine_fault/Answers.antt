@@ -14,4 +14,5 @@ returns-clause-tokens c =
       c.in_ok-key.ensures.ok,
     )
     (of_four old _ _ _ _
-    ∙ ap (λ w. old ++ tokens_of_members (one (codes "error") (object (words_members c.args.line w)))) c.engine_words.ensures)
+    ∙ ap (λ w. old ++ tokens_of_members (one (codes "error") (object (words_members c.args.line w))))
+    c.engine_words.ensures)
