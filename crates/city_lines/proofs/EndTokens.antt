@@ -1,5 +1,5 @@
 -- The tokens of an end.
-use Rattle.city_lines.proofs.Prelude.{◌≡◌, ◌++◌, ◌∷◌, List, ℕ, Option, Some, None, ap, sym, refl, append-nil, codes, key}
+use Rattle.city_lines.proofs.Prelude.{◌≡◌, ◌++◌, ◌∷◌, List, Option, Some, None, ap, sym, refl, append-nil, codes, key}
 use Rattle.city_lines.proofs.Prelude.{Data, Members, member, no_members, closing_members, tokens_of_members, tokens_of}
 use Rattle.city_model.specs.declared.command.Cause.TheVariants.{NoMark}
 use Rattle.city_model.specs.declared.command.Reply.{Reply}
@@ -13,7 +13,8 @@ pub replies_first : (r : Option (List Reply)) (ms : Members)
     → closing_members (with_replies r ms) ≡ tokens_of_members (with_replies r no_members) ++ closing_members ms
 replies_first None ms = refl
 replies_first (Some rs) ms =
-    ap (λ ts. key (codes "replies") ∷ (ts ++ closing_members ms)) (sym (append-nil (tokens_of (list_data reply_data rs))))
+    ap (λ ts. key (codes "replies") ∷ (ts ++ closing_members ms))
+    (sym (append-nil (tokens_of (list_data reply_data rs))))
 
 -- the members of an outcome come before all others
 pub ending_first : (o : Outcome) (name : Data) (ms : Members)

@@ -1,11 +1,13 @@
 -- The members that are left of a list.
-use Rattle.city_lines.proofs.Prelude.{◌≡◌, ◌+◌, ◌<◌, ℕ, List, drop, drop-cons, get_or, length, add-one, suc, refl, subst, sym, inl, inr, ◌≢◌}
+use Rattle.city_lines.proofs.Prelude.{◌≡◌, ◌+◌, ◌<◌, ℕ, List, drop, drop-cons, get_or, length, add-one, suc, refl}
+use Rattle.city_lines.proofs.Prelude.{subst, sym, inl, inr, ◌≢◌}
 use Rattle.city_lines.proofs.Prelude.{HasMember, HasNone, Member, Name}
 
 -- what holds of the members from here on holds of all
 abbrev pub IsCarried : Name → List Member → ℕ → Type 0
 IsCarried name ms i =
-    ((text : List ℕ) → HasMember name text (drop i ms) → HasMember name text ms) × (HasNone name (drop i ms) → HasNone name ms)
+    ((text : List ℕ) → HasMember name text (drop i ms) → HasMember name text ms)
+    × (HasNone name (drop i ms) → HasNone name ms)
 
 pub found_here : (name : Name) (ms : List Member) (i : ℕ) (d : Member) → i < length ms → IsCarried name ms i
     → (get_or ms i d).name ≡ name → HasMember name (get_or ms i d).text.now ms

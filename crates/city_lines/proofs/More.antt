@@ -1,5 +1,6 @@
 -- Tokens written one part after another.
-use Rattle.city_lines.proofs.Prelude.{◌≡◌, ◌++◌, ◌∙◌, ◌∷◌, [], List, Token, append_assoc, append-nil, ap, sym, refl, codes, key}
+use Rattle.city_lines.proofs.Prelude.{◌≡◌, ◌++◌, ◌∙◌, ◌∷◌, [], List, Token, append_assoc, append-nil, ap, sym, codes}
+use Rattle.city_lines.proofs.Prelude.{key}
 use Rattle.city_lines.specs.Errors.{TellsMore, TellsError}
 
 pub none_more : (a : List Token) → TellsMore a a

@@ -1,11 +1,14 @@
 -- Parts written one after another.
-use Rattle.city_lines.proofs.Prelude.{◌≡◌, ◌++◌, ◌∙◌, List, append_assoc, on_ok_weaker, OnOk, Result, ap}
+use Rattle.city_lines.proofs.Prelude.{◌≡◌, ◌++◌, ◌∙◌, List, append_assoc, on_ok_weaker, OnOk, Result}
 
 -- what follows from the success of a call
 pub on_ok : {T E P Q : Type 0} (r : Result T E) → OnOk r P → (P → Q) → OnOk r Q
 on_ok r h f = on_ok_weaker r f h
 
 module _ {A : Type 0} where
+  pub of_three : (o a b c : List A) → ((o ++ a) ++ b) ++ c ≡ o ++ (a ++ (b ++ c))
+  of_three o a b c = append_assoc (o ++ a) b c ∙ append_assoc o a (b ++ c)
+
   pub of_four : (o a b c d : List A) → (((o ++ a) ++ b) ++ c) ++ d ≡ o ++ (a ++ (b ++ (c ++ d)))
   of_four o a b c d =
       append_assoc ((o ++ a) ++ b) c d ∙ append_assoc (o ++ a) b (c ++ d) ∙ append_assoc o a (b ++ (c ++ d))

@@ -1,6 +1,8 @@
 -- Words shared by the proofs of this crate.
-pub use Rattle.std.proofs.Common.{add-one, List, None, Option, Some, [], ap, append-nil, append_assoc, arith, drop, length, map}
-pub use Rattle.std.proofs.Common.{refl, rules, suc, subst, sym, ℕ, ◌++◌, ◌∙◌, ◌∷◌, ◌≡◌, drop-cons, get_or, inl, inr, ◌+◌, ◌<◌, ◌≢◌}
+pub use Rattle.std.proofs.Common.{add-one, List, None, Option, Some, [], ap, append-nil, append_assoc, arith, drop}
+pub use Rattle.std.proofs.Common.{length, map}
+pub use Rattle.std.proofs.Common.{refl, rules, suc, subst, sym, ℕ, ◌++◌, ◌∙◌, ◌∷◌, ◌≡◌, drop-cons, get_or, inl, inr}
+pub use Rattle.std.proofs.Common.{◌+◌, ◌<◌, ◌≢◌}
 pub use Rattle.std.specs.Prelude.{codes, option_map, option_to_list, flat_map, filter}
 pub use Rattle.json.specs.Lex.{tokens}
 pub use Rattle.json.specs.Print.{print}

@@ -1,7 +1,7 @@
 -- What a line asks for.
-use Rattle.std.specs.Prelude.{◌≡◌, ◌⊎◌, ℕ, List, [], ◌∷◌, ◌++◌, Option, Some, None, codes, map, true, false, MatchOption}
+use Rattle.std.specs.Prelude.{◌≡◌, ◌⊎◌, ℕ, List, [], ◌∷◌, ◌++◌, Option, Some, None, codes, map, true, false}
 use Rattle.json.specs.Lex.{tokens}
-use Rattle.json.specs.Token.{Token, begin_array, end_array, boolean, string}
+use Rattle.json.specs.Token.{begin_array, end_array, boolean, string}
 use Rattle.city_live.specs.declared.request.Request.{Request}
 use Rattle.city_live.specs.declared.request.Request.TheVariants as engine
 use Rattle.city_tokens.specs.script.Scripts.{IsReadAs}

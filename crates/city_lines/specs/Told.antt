@@ -1,5 +1,5 @@
 -- What answers of the engine tell, as members of their lines.
-use Rattle.std.specs.Prelude.{ℕ, List, [], ◌∷◌, Bool, true, false, Option, Some, None, codes}
+use Rattle.std.specs.Prelude.{ℕ, List, [], ◌∷◌, true, false, Option, Some, None, codes}
 use Rattle.std.specs.Arc.{arc_value}
 use Rattle.std.specs.FinMap.{entries}
 use Rattle.serde_json.specs.Data.{Data, null, boolean, string, object, Members, no_members, member}
@@ -13,7 +13,6 @@ use Rattle.city_live.specs.declared.answer.What.{What}
 use Rattle.city_live.specs.declared.answer.What.TheVariants as what
 use Rattle.city_model.specs.CityMap.{CityValue}
 use Rattle.city_model.specs.Types.{name_of}
-use Rattle.city_model.specs.declared.command.Cause.{Cause}
 use Rattle.city_model.specs.declared.command.Reply.{Reply}
 use Rattle.city_model.specs.declared.object.Object.{Object}
 use Rattle.city_writer.specs.document.Canonical.{city_text}

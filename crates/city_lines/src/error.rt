@@ -132,7 +132,8 @@ fn write_bad(line: u64, name: &str, words: Words, out: &mut Writer) -> Result<()
 fn write_words(line: u64, words: Words, out: &mut Writer) -> Result<(), OutOfMemory>
     ensures before { OnOk result (out.new.before ≡ out.old.before) }
     ensures tokens { OnOk result (out.new.tokens
-        ≡ out.old.tokens ++ tokens_of_members (words_members line (words.name.now, (words.message.now, words.number)))) }
+        ≡ out.old.tokens ++ tokens_of_members
+        (words_members line (words.name.now, (words.message.now, words.number)))) }
 {
     write_text("fault", words.name, out)?;
     write_number("line", line, out)?;

@@ -14,7 +14,9 @@ pub struct Words {
 }
 
 fn worded(number: u64, name: &'static str, message: &'static str) -> Words
-    ensures { (result.name.now, (result.message.now, result.number)) ≡ (name.now, (message.now, number)) }
+    ensures name { result.name.now ≡ name.now }
+    ensures message { result.message.now ≡ message.now }
+    ensures number { result.number ≡ number }
 {
     Words {
         number,

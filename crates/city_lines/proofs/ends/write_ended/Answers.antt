@@ -1,4 +1,4 @@
-use Rattle.city_lines.proofs.Prelude.{◌∙◌, ◌∷◌, ◌++◌, [], ap, sym, append-nil, codes, key, begin_object, string, tokens_of}
+use Rattle.city_lines.proofs.Prelude.{◌∙◌, ◌∷◌, ◌++◌, ap, sym, append-nil, codes, key, begin_object, string, tokens_of}
 use Rattle.city_lines.proofs.Prelude.{tokens_of_members, no_members, member}
 use Rattle.serde_json.specs.Data.{string as text}
 use Rattle.city_writer.specs.report.Ends.{count_data, outcome_name, put_ending}

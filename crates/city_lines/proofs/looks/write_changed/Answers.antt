@@ -1,4 +1,4 @@
-use Rattle.city_lines.proofs.Prelude.{◌∙◌, ◌∷◌, ◌++◌, ap, sym, append-nil, codes, key, tokens_of, rules}
+use Rattle.city_lines.proofs.Prelude.{◌∙◌, ◌∷◌, ◌++◌, ap, sym, append-nil, codes, key, tokens_of}
 use Rattle.city_lines.specs.Told.{changed_data}
 use Rattle.city_lines.proofs.Parts.{of_eight}
 use Rattle.city_lines.proofs.looks.write_changed.Goals as goal
@@ -17,7 +17,7 @@ returns-clause-tokens c =
     (rw (
       c.in_ok-write_text.ensures.tokens,
       c.as_str.ensures,
-      c.deref.ensures.value,
+      c.deref.ensures,
       c.in_ok-begin_object.ensures.ok,
       c.in_ok-key.ensures.ok,
     )
