@@ -1,5 +1,5 @@
 //! The commits of a journal, made again on a city.
-ghost use Rattle.std.specs.Prelude.{◌≡◌, ◌≤◌, ◌<◌, ◌++◌, ℕ, List, length, IfOk, IfNone, OnOk};
+ghost use Rattle.std.specs.Prelude.{◌≡◌, ◌≤◌, ◌<◌, ◌++◌, ◌∷◌, [], ℕ, List, length, IfOk, IfNone, OnOk};
 ghost use Rattle.std.specs.List.{AllByRecursion};
 ghost use Rattle.city_model.specs.CityMap.{object_at};
 ghost use Rattle.city_model.specs.Relations.{IsLawful};
@@ -38,7 +38,9 @@ pub fn replay(
     let mut rest = commits;
     while !rest.is_empty() {
         let count = batch_len(rest);
-        city = replay_some(alloc, decimals, city, &rest[..count])?;
+        let some = &rest[..count];
+        let next = replay_some(alloc, decimals, city, some)?;
+        city = next;
         rest = &rest[count..];
     }
     Ok(city)
@@ -128,9 +130,17 @@ fn push_others(text: &mut Vec<u8>, commits: &[Commit<'_>]) -> Result<(), OutOfMe
     ensures { OnOk result (text.new.items ≡ text.old.items ++ others_text (scripts_of commits.now)) }
 {
     for commit in commits {
-        text.push(b',')?;
-        text.extend_from_slice(commit.script)?;
+        push_other(text, commit)?;
     }
+    Ok(())
+}
+
+/// Appends a comma and the script of a commit.
+fn push_other(text: &mut Vec<u8>, commit: &Commit<'_>) -> Result<(), OutOfMemory>
+    ensures { OnOk result (text.new.items ≡ (text.old.items ++ 44 ∷ []) ++ commit.now.script.now) }
+{
+    text.push(b',')?;
+    text.extend_from_slice(commit.script)?;
     Ok(())
 }
 

@@ -79,65 +79,72 @@ impl<'a, R: Files<File = File> + AllocGlobal + Clock> RuntimeFile<'a, R> {
     pub fn unlock(&mut self) {
         self.files.unlock();
     }
+}
 
-    /// Keeps the journal that is there under a name with this number too: the first that no other file has.
-    fn keep_old(&self, number: u64) -> io::Result<()> {
-        let real = match fs::canonicalize(self.rt, self.path.as_str()) {
-            Ok(real) => real,
-            Err(error) if error.kind() == ErrorKind::NotFound => return Ok(()),
-            Err(error) => return Err(error),
-        };
-        let own = real.as_str();
-        let alloc = self.rt.alloc();
-        if self.is_kept_as(own, format!(in alloc; "{own}.{number}")?.as_str())? {
+/// Keeps the journal of a path under a name with this number too: the first that no other file has.
+fn keep_old<R: Files<File = File> + AllocGlobal>(rt: &R, path: &str, number: u64) -> io::Result<()> {
+    let real = match fs::canonicalize(rt, path) {
+        Ok(real) => real,
+        Err(error) if error.kind() == ErrorKind::NotFound => return Ok(()),
+        Err(error) => return Err(error),
+    };
+    let own = real.as_str();
+    let name = format!(in rt.alloc(); "{own}.{number}")?;
+    if is_kept_as(rt, own, name.as_str())? {
+        return Ok(());
+    }
+    for turn in 1..MOST_NAMES {
+        let name = format!(in rt.alloc(); "{own}.{number}.{turn}")?;
+        if is_kept_as(rt, own, name.as_str())? {
             return Ok(());
         }
-        for turn in 1..MOST_NAMES {
-            if self.is_kept_as(own, format!(in alloc; "{own}.{number}.{turn}")?.as_str())? {
-                return Ok(());
-            }
-        }
-        Err(io::Error::from(ErrorKind::AlreadyExists))
     }
+    Err(io::Error::from(ErrorKind::AlreadyExists))
+}
 
-    /// Gives the journal this name too, unless it is another file's; a copy has it where a file has one name alone.
-    fn is_kept_as(&self, own: &str, name: &str) -> io::Result<bool> {
-        match fs::symlink_metadata(self.rt, name) {
-            Ok(found) => {
-                let journal = fs::metadata(self.rt, own)?;
-                return Ok(found.dev() == journal.dev() && found.ino() == journal.ino());
-            }
-            Err(error) if error.kind() == ErrorKind::NotFound => {}
-            Err(error) => return Err(error),
+/// Gives the journal this name too, unless it is another file's; a copy has it where a file has one name alone.
+fn is_kept_as<R: Files<File = File>>(rt: &R, own: &str, name: &str) -> io::Result<bool> {
+    match fs::symlink_metadata(rt, name) {
+        Ok(found) => {
+            let journal = fs::metadata(rt, own)?;
+            return Ok(found.dev() == journal.dev() && found.ino() == journal.ino());
         }
-        if fs::hard_link(self.rt, own, name).is_err() {
-            fs::copy(self.rt, own, name)?;
-        }
-        Ok(true)
+        Err(error) if error.kind() == ErrorKind::NotFound => {}
+        Err(error) => return Err(error),
     }
+    if fs::hard_link(rt, own, name).is_err() {
+        fs::copy(rt, own, name)?;
+    }
+    Ok(true)
+}
 
-    /// Writes a new file with these bytes, synced, and gives it the journal's name.
-    fn put_new(&mut self, bytes: &[u8], number: u64) -> Result<(), Refused> {
-        let path = self.path.as_str();
-        let Some(new) = self.files.create(path, self.seed.wrapping_add(number)) else {
-            return Err(Refused);
-        };
-        let mut device = Device::new(new);
-        let filled = write_output(&mut device, bytes);
-        let mut new = device.into_inner();
-        if !filled || !self.files.sync(&mut new) {
-            self.files.give_up(new);
-            return Err(Refused);
-        }
-        if self.keep_old(number).is_err() {
-            self.files.give_up(new);
-            return Err(Refused);
-        }
-        if self.files.rename(new, path) {
-            Ok(())
-        } else {
-            Err(Refused)
-        }
+/// Writes a new file with these bytes, synced, and gives it the journal's name.
+fn put_new<R: Files<File = File> + AllocGlobal + Clock>(
+    rt: &R,
+    files: &mut RuntimeFiles<'_, R>,
+    path: &str,
+    seed: u64,
+    bytes: &[u8],
+    number: u64,
+) -> Result<(), Refused> {
+    let Some(new) = files.create(path, seed.wrapping_add(number)) else {
+        return Err(Refused);
+    };
+    let mut device = Device::new(new);
+    let filled = write_output(&mut device, bytes);
+    let mut new = device.into_inner();
+    if !filled || !files.sync(&mut new) {
+        files.give_up(new);
+        return Err(Refused);
+    }
+    if keep_old(rt, path, number).is_err() {
+        files.give_up(new);
+        return Err(Refused);
+    }
+    if files.rename(new, path) {
+        Ok(())
+    } else {
+        Err(Refused)
     }
 }
 
@@ -181,7 +188,8 @@ impl<R: Files<File = File> + AllocGlobal + Clock> JournalFile for RuntimeFile<'_
     }
 
     fn begin(&mut self, bytes: &[u8], number: u64) -> Result<(), Refused> {
-        self.put_new(bytes, number)?;
+        let path = self.path.as_str();
+        put_new(self.rt, &mut self.files, path, self.seed, bytes, number)?;
         self.file = None;
         if !self.files.sync_folder(self.path.as_str()) {
             return Err(Refused);

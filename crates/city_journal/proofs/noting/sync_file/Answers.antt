@@ -6,7 +6,7 @@ returns-in-Ok-clause-ok g c =
     may_tell g.F.JournalFile.seen g.F.JournalFile.may_leave c.args.file.now c.sync.new.self c.sync.ensures.seen
     c.in-Ok.ensures.ok
 
-pub returns-in-Err-clause-err : goal.returns-clause-err
+pub returns-in-Err-clause-err : goal.returns-in-Err-clause-err
 returns-in-Err-clause-err g c =
     stays_unsynced g.F.JournalFile.seen g.F.JournalFile.may_leave c.args.file.now c.sync.new.self c.sync.ensures.seen
     c.in-Err.ensures.err

@@ -6,5 +6,5 @@ use Rattle.city_journal.proofs.replaying.first_uncommitted.Goals as goal
 pub loop-end-preserved : goal.loop-end-preserved
 loop-end-preserved c =
     let l = c.loop-end in
-    next_of_all IsCommitted l.ends l.end-index c.end-item.result c.loop-end-test.true c.end-item.is (search rules)
+    next_of_all IsCommitted c.args.ends.now l.end-index c.end-item.result c.loop-end-test.true c.end-item.is (search rules)
     l.invariant
