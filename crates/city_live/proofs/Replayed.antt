@@ -11,16 +11,22 @@ use Rattle.city_model.specs.declared.end.Outcome.{Outcome}
 use Rattle.city_model.specs.CityMap.{CityMap}
 use Rattle.city_model.specs.Marks.{Snapshot, unmarked}
 use Rattle.city_model.specs.Meaning.{Effect, effect, GoesOn, is_refusal}
-use Rattle.city_model.specs.Runs.{Scripted, map_left, view_at_end, goes_to}
+use Rattle.city_model.specs.Runs.{Scripted, Change, after_change, map_left, view_at_end, goes_to}
 use Rattle.city_model.specs.Standing.{Held, Answered, IsTraceUnderLocks}
 use Rattle.city_model.proofs.History.{Next}
-use Rattle.city_txn.specs.CoreState.{committed, view, snapshot, held, StandsUnderLocks}
+use Rattle.std.specs.Arc.{arc_value}
+use Rattle.std.specs.declared.sync.Arc.{Arc}
+use Rattle.std.specs.declared.alloc.Global.{Global}
+use Rattle.city_txn.specs.Changing.{IsChangeOf}
+use Rattle.city_txn.specs.CoreState.{committed, view, is_open, snapshot, held, StandsUnderLocks}
 use Rattle.city_session.specs.Grown.{Grown, commands_in, unrefused}
 use Rattle.city_session.specs.Live.{SessionState, IsLive, grown_at}
 use Rattle.city_session.proofs.AsScripts.{leads_to}
 use Rattle.city_live.specs.declared.ghosts.event.Event.{Event}
+use Rattle.city_live.specs.declared.answer.Changed.{Changed}
 use Rattle.city_live.specs.declared.task.Task.{Task}
 use Rattle.city_live.specs.declared.task.Task.TheVariants as task
+use Rattle.city_live.specs.Ending.{IsAllowed, IsCounted}
 use Rattle.city_live.specs.Heard.{AreHeard, IsSoFar, IsKept, AreSoFar, ArePlain, answered_by, script_told}
 use Rattle.city_live.specs.Noting.{Noted, firsts}
 use Rattle.city_live.specs.Replaying.{replayed, Notes, NotesCommands, NotesWork, NotesCommit}
@@ -50,6 +56,10 @@ replayed_both m (x ∷ xs) ys = replayed_both (map_left m x.commands Outcome.Com
 -- nothing is noted, and the city is the same
 pub stays : {o : Option (List Noted)} {m n : CityMap} → n ≡ m → Notes o o m n
 stays {o} e = record { more = []; noted = sym (nothing_more o); leads = λ h. e }
+
+-- the same, where it is known by an equation
+pub stays_so : {o p : Option (List Noted)} {m n : CityMap} → p ≡ o → n ≡ m → Notes o p m n
+stays_so {o} {p} {m} {n} h e = subst (λ x. Notes o x m n) (sym h) (stays e)
 
 pub notes_then : {a b c : Option (List Noted)} {m n k : CityMap} → Notes a b m n → Notes b c n k → Notes a c m k
 notes_then {a} {m = m} x y = record {
@@ -149,4 +159,27 @@ unkept (Some w) before e = record {
   more = [];
   noted = sym (nothing_more before);
   one = λ h. absurd (false≢true (ap is_some (sym e) ∙ h));
+}
+
+-- ---- a commit that is ready
+
+nothing_done : (m n : CityMap) (change : Change) → after_change m change ≡ n → change ≡ [] → n ≡ m
+nothing_done m n change makes none = sym makes ∙ ap (after_change m) none
+
+pub counted_of : {s : SessionState} (stamp before next : ℕ) (change : Change) → IsChangeOf s.core stamp change
+    → (next ≡ before → change ≡ []) → IsCounted stamp before next s
+counted_of {s} stamp before next change i h = λ e.
+    nothing_done (committed s.core) (view s.core stamp) change i.makes_view (h e)
+
+pub allowed_of : {s : SessionState} (stamp : ℕ) (change : Change) → is_open s.core stamp ≡ true
+    → IsChangeOf s.core stamp change → IsAllowed stamp None s
+allowed_of stamp change o i = record { opened = o; lawful = i.lawful.1; leads = tt }
+
+pub allowed_so : {s : SessionState} (stamp : ℕ) (change : Change) → is_open s.core stamp ≡ true
+    → IsChangeOf s.core stamp change → (c : Arc Changed Global) → (arc_value c).change ≡ change
+    → IsAllowed stamp (Some c) s
+allowed_so {s} stamp change o i c e = record {
+  opened = o;
+  lawful = i.lawful.1;
+  leads = ap (after_change (committed s.core)) e ∙ i.makes_view;
 }

@@ -4,6 +4,7 @@ pub mod Entering
 pub mod Heard
 pub mod Noting
 pub mod Replaying
+pub mod Room
 pub mod Running
 pub mod Serving
 pub mod Works

@@ -1,10 +1,11 @@
 //! The work of a hand: a script, or a transaction with commands one by one.
-ghost use Rattle.std.specs.Prelude.{◌≡◌, None, Some, MatchOption, IfSome, IfNone, IsTrue, OnOk, OnErr, false};
+ghost use Rattle.std.specs.Prelude.{◌≡◌, None, Some, MatchOption, IfSome, IfNone, IsTrue, OnOk, OnErr, false, option_map};
 ghost use Rattle.std.specs.Arc.{arc_value};
 ghost use Rattle.city_live.specs.declared.task.Task.TheVariants as task;
 ghost use Rattle.city_live.specs.Entering.{commands_by};
 ghost use Rattle.city_live.specs.Works.{next_of, asking, requested, answered, again, is_whole, with_done, none_kept, replied};
 ghost use Rattle.city_live.specs.Works.{commands_noted, IsFresh};
+ghost use Rattle.city_live.specs.Room.{HasRoomForOne};
 ghost use Rattle.city_live.specs.Works.{after_taking, with_script, IsAtCommit};
 
 use crate::answer::Name;
@@ -236,10 +237,8 @@ impl Work {
         if !self.is_idle() || !is_same_id(&self.hand, hand) {
             return Err(tag);
         }
-        if let Some(kept) = &mut self.kept {
-            if kept.reserve(1).is_err() {
-                return Err(tag);
-            }
+        if make_room(&mut self.kept).is_err() {
+            return Err(tag);
         }
         self.task = Task::Single(Some(script));
         self.tag = tag;
@@ -381,4 +380,15 @@ impl Work {
         } = self;
         (hand, name, task, tag)
     }
+}
+
+/// Makes room for one script more, if any are kept.
+fn make_room(kept: &mut Option<Vec<Script>>) -> Result<(), OutOfMemory>
+    ensures same { option_map (λ v. v.items) kept.new ≡ option_map (λ v. v.items) kept.old }
+    ensures room { OnOk result (HasRoomForOne kept.new) }
+{
+    if let Some(kept) = kept {
+        kept.reserve(1)?;
+    }
+    Ok(())
 }

@@ -132,13 +132,29 @@ impl<J: Journal> Hands<J> {
         if self.talks.reopen(stamp).is_err() {
             return Err(tag);
         }
+        self.cancel(stamp);
+        self.end_for(sender, tag, stamp);
+        Ok(())
+    }
+
+    /// Takes a work off its list, and answers its waiting request.
+    #[tactic(auto, using(crate::proofs::Followed::then, crate::proofs::Followed::same))]
+    fn cancel(&mut self, stamp: u64)
+        ensures { Follows self.old self.new }
+    {
         let _place = self.unlist(stamp);
         if self.talks.is_waited_for(stamp) {
             self.talks.tell_cancelled(stamp);
         }
+    }
+
+    /// Aborts a work, as its hand asks.
+    #[tactic(auto, using(crate::proofs::Followed::then, crate::proofs::Followed::same))]
+    fn end_for(&mut self, sender: &Sender, tag: Tag, stamp: u64)
+        ensures { Follows self.old self.new }
+    {
         self.talks.request(stamp, &sender.name, tag);
         self.end(stamp, Ending::Aborted);
-        Ok(())
     }
 
     /// Undoes a work, and tells its end.

@@ -193,12 +193,29 @@ impl<J: Journal> Hands<J> {
     fn dies(&mut self, stamp: u64, way: InTheWay)
         ensures { Follows self.old self.new }
     {
-        let done = if self.talks.is_script(stamp) {
-            self.hold_script(stamp, way)
+        if self.talks.is_script(stamp) {
+            self.script_dies(stamp, way);
         } else {
-            self.end_dead(stamp, way)
-        };
-        if done.is_err() {
+            self.single_dies(stamp, way);
+        }
+    }
+
+    /// A script's attempt dies.
+    #[tactic(auto, using(crate::proofs::Followed::then, crate::proofs::Followed::same))]
+    fn script_dies(&mut self, stamp: u64, way: InTheWay)
+        ensures { Follows self.old self.new }
+    {
+        if self.hold_script(stamp, way).is_err() {
+            self.not_done(stamp, Fault::NoMemory);
+        }
+    }
+
+    /// A transaction dies.
+    #[tactic(auto, using(crate::proofs::Followed::then, crate::proofs::Followed::same))]
+    fn single_dies(&mut self, stamp: u64, way: InTheWay)
+        ensures { Follows self.old self.new }
+    {
+        if self.end_dead(stamp, way).is_err() {
             self.not_done(stamp, Fault::NoMemory);
         }
     }

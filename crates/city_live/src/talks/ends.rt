@@ -1,5 +1,5 @@
 //! How works end.
-ghost use Rattle.std.specs.Prelude.{◌≡◌, ◌<◌, ℕ, Some, true, IfOk, OnOk, OnErr};
+ghost use Rattle.std.specs.Prelude.{◌≡◌, ◌<◌, ℕ, [], Some, true, IfOk, IfSome, OnOk, OnErr};
 ghost use Rattle.city_txn.specs.CoreState.{is_open};
 ghost use Rattle.std.specs.Arc.{arc_value};
 ghost use Rattle.city_session.specs.Grown.{Grown};
@@ -103,15 +103,14 @@ impl<J: Journal> Talks<J> {
             Ok(Prepared::Refused(cause)) => return Preparing::Refused(cause),
             Err(OutOfMemory) => return Preparing::NoMemory,
         };
-        let is_written = change.len() != 0;
-        let Some(version) = version_after(version, is_written) else {
+        let Some(next) = version_after(version, &change) else {
             return Preparing::NoMemory;
         };
-        if watchers == 0 || !is_written {
-            return Preparing::Ready(None, version);
+        if watchers == 0 || next == version {
+            return Preparing::Ready(None, next);
         }
-        match self.shared(stamp, change, version, watchers) {
-            Ok(changed) => Preparing::Ready(Some(changed), version),
+        match self.shared(stamp, change, next, watchers) {
+            Ok(changed) => Preparing::Ready(Some(changed), next),
             Err(OutOfMemory) => Preparing::NoMemory,
         }
     }
@@ -295,13 +294,14 @@ fn has_written(session: &Session, stamp: u64) -> bool {
     }
 }
 
-/// The version after a commit, if there is one. Doesn't allocate.
-fn version_after(version: u64, is_written: bool) -> Option<u64> {
-    if is_written {
-        version.checked_add(1)
-    } else {
-        Some(version)
+/// The version after a commit of this change, if there is one. Doesn't allocate.
+fn version_after(version: u64, change: &Change) -> Option<u64>
+    ensures { IfSome result (λ next. next ≡ version → change.now ≡ []) }
+{
+    if change.len() == 0 {
+        return Some(version);
     }
+    version.checked_add(1)
 }
 
 /// Makes a commit ready whose change nobody is told, with this version after it.

@@ -1,7 +1,8 @@
+use Rattle.city_live.proofs.Followed as followed
 use Rattle.std.proofs.Common.{refl}
 use Rattle.city_live.specs.declared.ghosts.event.Event.TheVariants as events
 use Rattle.city_live.proofs.Continued.{same}
-use Rattle.city_live.proofs.Followed.{quietly, one_more}
+use Rattle.city_live.proofs.Followed.{quietly, one_more, silently}
 use Rattle.city_live.proofs.Saying.{heard_ask}
 use Rattle.city_live.proofs.Replayed.{stays}
 use Rattle.city_live.proofs.talks.Talks.ask.Goals as goal
@@ -20,3 +21,11 @@ returns g c =
     (one_more (events.Asks c.args.stamp c.args.hand.now c.args.tag c.args.script) c.events.ensures
     c.asks-noted.ensures c.note.ensures.events)
     c.note.ensures.answers
+
+pub returns-then-not-goes_on : goal.returns-then-not-goes_on
+returns-then-not-goes_on g c =
+    followed.same c.args.self.now
+
+pub returns-in_err-ask : goal.returns-in_err-ask
+returns-in_err-ask g c =
+    silently c.self.view_is (same c.self.inside.session) (stays refl)

@@ -1,3 +1,4 @@
+use Rattle.city_txn.specs.CoreState.{CoreState, committed}
 use Rattle.std.specs.Prelude.{◌≡◌, None, IfSome}
 use Rattle.std.proofs.Common.{refl, ◌∙◌, sym, ap, subst}
 use Rattle.city_live.specs.declared.ghosts.event.Event.TheVariants as events
@@ -40,3 +41,8 @@ returns g c =
     (one_more (events.Begins c.in_ok-stamp.stamp c.new-work.result) c.events.ensures c.begins-noted.ensures
     c.note.ensures.events)
     c.note.ensures.answers
+
+pub returns-in_err-stamp : goal.returns-in_err-stamp
+returns-in_err-stamp g c =
+    silently c.self.view_is (continued.unchanged c.in_err-stamp.ensures.err)
+    (stays (ap (λ (x : CoreState). committed x) c.in_err-stamp.ensures.err.core))

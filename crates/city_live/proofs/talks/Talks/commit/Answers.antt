@@ -1,3 +1,4 @@
+use Rattle.city_live.proofs.Followed as followed
 use Rattle.std.specs.Prelude.{true}
 use Rattle.std.proofs.Common.{refl, ◌∙◌, sym, ap, subst}
 use Rattle.city_model.specs.declared.end.Outcome.TheVariants as outcomes
@@ -5,9 +6,9 @@ use Rattle.city_live.specs.Ending.{EndsAs, IsCounted, Leads, told_replies}
 use Rattle.city_live.specs.Heard.{AreHeard}
 use Rattle.city_live.specs.Serving.{Served}
 use Rattle.city_live.proofs.Continued.{same, ended}
-use Rattle.city_live.proofs.Followed.{then, noting, saying}
+use Rattle.city_live.proofs.Followed.{then, noting, saying, silently}
 use Rattle.city_live.proofs.Finished.{heard_ended, heard_tellings, steps_if, committing}
-use Rattle.city_live.proofs.Replayed.{stays, commit_notes}
+use Rattle.city_live.proofs.Replayed.{stays, commit_notes, stays_so}
 use Rattle.city_live.proofs.talks.Talks.commit.Goals as goal
 
 pub invariant_of-self-2 : goal.invariant_of-self-2
@@ -40,3 +41,11 @@ returns g c =
     c.requires.counted)
     c.in_ok-note_commit.ensures.ok)
     c.says.new.self _ _ c.says.ensures)
+
+pub returns-then-not-may_commit : goal.returns-then-not-may_commit
+returns-then-not-may_commit g c =
+    followed.same c.args.self.now
+
+pub returns-in_err-note_commit : goal.returns-in_err-note_commit
+returns-in_err-note_commit g c =
+    silently c.self.view_is (same c.self.inside.session) (stays_so c.in_err-note_commit.ensures.err refl)

@@ -1,7 +1,7 @@
 use Rattle.std.proofs.Common.{refl}
 use Rattle.city_live.specs.declared.ghosts.event.Event.TheVariants as events
 use Rattle.city_live.proofs.Continued.{same}
-use Rattle.city_live.proofs.Followed.{quietly, one_more}
+use Rattle.city_live.proofs.Followed.{quietly, one_more, silently}
 use Rattle.city_live.proofs.Saying.{heard_request}
 use Rattle.city_live.proofs.Replayed.{stays}
 use Rattle.city_live.proofs.talks.Talks.request.Goals as goal
@@ -20,3 +20,7 @@ returns g c =
     (one_more (events.Requests c.args.stamp c.args.hand.now c.args.tag) c.events.ensures c.requests-noted.ensures
     c.note.ensures.events)
     c.note.ensures.answers
+
+pub returns-then-not-request : goal.returns-then-not-request
+returns-then-not-request g c =
+    silently c.self.view_is (same c.self.inside.session) (stays refl)

@@ -1,6 +1,7 @@
+use Rattle.city_live.proofs.Followed as followed
 use Rattle.std.proofs.Common.{refl, subst, sym}
 use Rattle.city_live.proofs.Continued.{same}
-use Rattle.city_live.proofs.Followed.{saying}
+use Rattle.city_live.proofs.Followed.{saying, silently}
 use Rattle.city_live.proofs.Hearing.{heard_unlabelled}
 use Rattle.city_live.specs.Heard.{AreHeard, IsSeenAt}
 use Rattle.city_live.specs.Serving.{Served}
@@ -15,3 +16,7 @@ invariant_of-self g c =
 
 pub returns-in-Ok : goal.returns-in-Ok
 returns-in-Ok g c = saying c.self.view_is (same c.self.inside.session) (stays refl) c.says.new.self _ _ c.says.ensures
+
+pub returns-in_default : goal.returns-in_default
+returns-in_default g c =
+    followed.same c.args.self.now

@@ -1,6 +1,7 @@
+use Rattle.city_live.proofs.Followed as followed
 use Rattle.std.proofs.Common.{refl}
 use Rattle.city_live.proofs.Continued.{same}
-use Rattle.city_live.proofs.Followed.{saying}
+use Rattle.city_live.proofs.Followed.{saying, silently}
 use Rattle.city_live.proofs.Saying.{heard_cancelled}
 use Rattle.city_live.proofs.Replayed.{stays}
 use Rattle.city_live.proofs.talks.Talks.tell_cancelled.Goals as goal
@@ -12,3 +13,7 @@ invariant_of-self g c =
 
 pub returns : goal.returns
 returns g c = saying c.self.view_is (same c.self.inside.session) (stays refl) c.says.new.self _ _ c.says.ensures
+
+pub returns-in_default : goal.returns-in_default
+returns-in_default g c =
+    followed.same c.args.self.now

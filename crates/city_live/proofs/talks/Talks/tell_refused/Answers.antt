@@ -1,6 +1,7 @@
+use Rattle.city_live.proofs.Followed as followed
 use Rattle.std.proofs.Common.{refl}
 use Rattle.city_live.proofs.Continued.{same}
-use Rattle.city_live.proofs.Followed.{saying}
+use Rattle.city_live.proofs.Followed.{saying, silently}
 use Rattle.city_live.proofs.Saying.{heard_refused}
 use Rattle.city_live.proofs.Replayed.{stays}
 use Rattle.city_live.proofs.talks.Talks.tell_refused.Goals as goal
@@ -14,3 +15,11 @@ invariant_of-self-2 g c =
 
 pub returns : goal.returns
 returns g c = saying c.self.view_is (same c.self.inside.session) (stays refl) c.says.new.self _ _ c.says.ensures
+
+pub returns-in_default : goal.returns-in_default
+returns-in_default g c =
+    followed.same c.args.self.now
+
+pub returns-in_default-answer_idle : goal.returns-in_default-answer_idle
+returns-in_default-answer_idle g c =
+    silently c.self.view_is (same c.self.inside.session) (stays refl)

@@ -1,6 +1,7 @@
+use Rattle.city_live.proofs.Followed as followed
 use Rattle.std.proofs.Common.{refl, ◌∙◌, sym}
-use Rattle.city_live.proofs.Continued.{forgotten}
-use Rattle.city_live.proofs.Followed.{saying}
+use Rattle.city_live.proofs.Continued.{forgotten, same}
+use Rattle.city_live.proofs.Followed.{saying, silently}
 use Rattle.city_live.proofs.Finished.{heard_undone}
 use Rattle.city_live.proofs.Replayed.{stays}
 use Rattle.city_live.proofs.talks.Talks.undo.Goals as goal
@@ -15,3 +16,7 @@ pub returns : goal.returns
 returns g c =
     saying c.self.view_is (forgotten c.args.stamp c.forget.ensures) (stays c.forget.ensures.undone.city) c.says.new.self
     _ _ c.says.ensures
+
+pub returns-then-not-is_open : goal.returns-then-not-is_open
+returns-then-not-is_open g c =
+    followed.same c.args.self.now
