@@ -29,8 +29,9 @@ MOST_PROCESSOR = 20e-6  # seconds of processor time for a set
 SETS_A_SYNC = 32  # so many sets or more for each sync
 MOST_WATCHER, MOST_COMMIT, MOST_MEMORY = 1.3, 3, 1.1
 LONG = 1_000  # sets of one commit
+SCRIPTS = 40  # so many scripts of so many sets show what one takes
 TURN = 10  # so many patient sets of each in turn
-MOST_REPLAY = 4e-5  # seconds of a start for each commit behind which it is
+MOST_REPLAY = 4e-5  # seconds that a start takes more for each commit that it makes again
 COUNTING = """
 #define _GNU_SOURCE
 #include <dlfcn.h>
@@ -145,9 +146,10 @@ class Yardstick:
         words = "update objects set object=json_set(object,'$.attributes.n',?) where id=?"
         self.db.execute(words, (number, building(number, count)))
 
-    def times(self, sets, count):
+    def times(self, numbers, count):
+        """How long sets of these numbers take. A number is given once: SQLite writes nothing where nothing changes."""
         times = []
-        for number in range(sets):
+        for number in numbers:
             start = time.perf_counter()
             self.set(number, count)
             times.append(time.perf_counter() - start)
@@ -188,7 +190,7 @@ def patient(figures, program, folder, model, yardstick, given):
     times = {"SQLite": [], "no journal": [], "journal": []}
     for start in range(0, sets, TURN):
         lines = [set_line(number, count) for number in range(start, start + TURN)]
-        times["SQLite"] += yardstick.times(TURN, count)
+        times["SQLite"] += yardstick.times(range(start, start + TURN), count)
         times["no journal"] += one_by_one(plain, lines)
         times["journal"] += one_by_one(journaled, lines)
     found = {name: middle(them) for name, them in times.items()}
@@ -206,9 +208,9 @@ def pipelined(figures, program, folder, model, yardstick, given):
     count, sets = given.buildings, given.sets
     lines = b"".join(set_line(number, count) for number in range(sets))
     library, marks = counter(folder)
-    few = min(sets, 4_000)
+    few = min(sets, 2_000)
     begun = time.perf_counter()
-    yardstick.times(few, count)
+    yardstick.times(range(given.patient, given.patient + few), count)
     rate = few / (time.perf_counter() - begun)
     figures.tell(f"SQLite, a commit each: {rate:,.0f} sets a second")
     rates = {}
@@ -229,9 +231,12 @@ def pipelined(figures, program, folder, model, yardstick, given):
             is_held = syncs * SETS_A_SYNC <= sets
             figures.tell(f"  {syncs} syncs: one for {sets / max(syncs, 1):.0f} sets", SETS_A_SYNC, is_held)
         live.end()
+    alone = Live(program, model)
     live = Live(program, "--journal", os.path.join(folder, "poured.journal"), model)
-    most = MOST_REPLAY * sets
-    figures.tell(f"  ready behind {sets:,} commits: {live.ready:.2f} s", f"{most:.1f} s", live.ready <= most)
+    most, took = MOST_REPLAY * sets, live.ready - alone.ready
+    told = f"  ready in {alone.ready:.2f} s, and behind {sets:,} commits in {live.ready:.2f} s"
+    figures.tell(told, f"{most:.1f} s more", took <= most)
+    alone.end()
     live.end()
     costs = []
     for _ in range(2):
@@ -254,17 +259,18 @@ def long_commit(figures, program, folder, model, given):
     """A transaction of a thousand sets: its commit, beside a batch script of the same sets."""
     edits = os.path.join(folder, "edits.json")
     names = [building(number, given.buildings) for number in range(LONG)]
-    sets = [{"set": name, "attributes": {"n": number}} for number, name in enumerate(names)]
+    sets = [{"set": name, "attributes": {"n": number}} for number, name in enumerate(names)][: LONG - 1]
 
-    def batch(commands):
+    def batch(count):
+        """Processor time of a run with so many such scripts."""
         with open(edits, "w", encoding="utf-8") as file:
-            json.dump([{"name": "s", "commands": [*commands, "commit"]}], file)
+            json.dump([{"name": "s", "commands": [*sets, "commit"]}] * count, file)
         before = resource.getrusage(resource.RUSAGE_CHILDREN)
         subprocess.run([program, model, edits], stdout=subprocess.DEVNULL, check=True)
         after = resource.getrusage(resource.RUSAGE_CHILDREN)
         return after.ru_utime + after.ru_stime - before.ru_utime - before.ru_stime
 
-    batched = max(min(batch(sets[: LONG - 1]) for _ in range(3)) - min(batch([]) for _ in range(3)), 1e-4)
+    batched = (min(batch(SCRIPTS) for _ in range(2)) - min(batch(0) for _ in range(2))) / SCRIPTS
     for name, words in (("no journal", []), ("journal", ["--journal", os.path.join(folder, "long.journal")])):
         live, commits, all_of = Live(program, *words, model), [], []
         for turn in range(4):

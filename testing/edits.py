@@ -10,11 +10,11 @@ committed counts too. N checks run side by side: two if it isn't said, each of u
 
 The crates, and those below them, are copied into a folder of their own, which is removed at the end, with what `rt
 check` kept of them in `out/`; no check may run there meanwhile. In the copy `rt check` proves each crate as it stands,
-in under a minute where all was kept, and from nothing where it wasn't, and the toolchain's own must-fail tries each
-edit over that. Those in the crates' own must-fail folders are left out: the gate tries them. For each edit a line says
-what refused it: a clause of a contract, or another goal that was left open. An edit fails if it isn't refused or wasn't
-tried, if it can't be applied or read (BAD EDIT), if a proof file names what it took away (MISSING NAME), or if the
-prover met a limit (LIMIT).
+in under a minute where all was kept, and from nothing where it wasn't. Over that the toolchain's own must-fail tries
+the edits, those of different functions together (kept_edits.py). Those in the crates' own must-fail folders are left
+out: the gate tries them. For each edit a line says what refused it: a clause of a contract, or another goal that was
+left open. An edit fails if it isn't refused or wasn't tried, if it can't be applied or read (BAD EDIT), if a proof file
+names what it took away (MISSING NAME), or if the prover met a limit (LIMIT).
 
 With --apply nothing is proved: it looks whether each edit can be applied, those in must-fail too. It needs no
 toolchain, and takes a second. The last line counts, and the status is 1 where an edit failed.
@@ -233,18 +233,22 @@ def why_not_proved(room, name, jobs):
     finally:
         end(ran)
     lines = log.read_text(encoding="utf-8", errors="replace").splitlines()
-    is_proved = status == 0 and any(it.startswith("logic=proved ") for it in lines[-3:])
+    is_proved = status == 0 and any(it.startswith("logic=proved ") for it in lines)
     return None if is_proved else "\n  ".join([f"rt check of {name} ended with status {status}:", *lines[-5:]])
 
 
 def trials_of(edits):
-    """The commands that try edits: each over what the check kept, or all of a crate where the toolchain can't."""
-    kept_edit = [sys.executable, str(ROOT / "testing" / "kept_edit.py")]
-    if subprocess.run(kept_edit, stdin=subprocess.DEVNULL).returncode == 0:
-        return [Trial([*kept_edit, edit.crate, edit.path.name], [edit]) for edit in edits]
-    print("this toolchain's must-fail is another one: rt must-fail tries the edits of a crate together")
-    names = dict.fromkeys(edit.crate for edit in edits)
-    return [Trial(["rt", "must-fail", name], [it for it in edits if it.crate == name]) for name in names]
+    """For each crate the command that tries its edits, over what the check kept where the toolchain can."""
+    kept_edits = [sys.executable, str(ROOT / "testing" / "kept_edits.py")]
+    can = subprocess.run(kept_edits, stdin=subprocess.DEVNULL).returncode == 0
+    if edits and not can:
+        print("this toolchain's must-fail is another one, and begins each crate with a check from nothing", flush=True)
+    trials = []
+    for name in dict.fromkeys(edit.crate for edit in edits):
+        its = [it for it in edits if it.crate == name]
+        words = [*kept_edits, name, *[it.path.name for it in its]] if can else ["rt", "must-fail", name]
+        trials.append(Trial(words, its))
+    return trials
 
 
 def verdict(said):

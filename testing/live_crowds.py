@@ -21,8 +21,7 @@ def crowd(program, folder, _given):
     hands = [f"h{number}" for number in range(MOST_HANDS)]
 
     def asked(requests):
-        feeder = threading.Thread(target=lambda: live.send(*requests))
-        feeder.start()
+        feeder = live.pour(*requests)
         answers = [live.last() for _ in requests]
         feeder.join()
         require(None not in answers, "ended", live.told())
@@ -56,10 +55,10 @@ def byes(program, folder):
     live = ready(program, *home.words())
     live.ask(hand="first", begin="t")
     live.ask(hand="first", do=set_to("a", -1))
-    live.send(*({"hand": f"h{n}", "id": n, "script": script("s", set_to("a", n))} for n in range(count)))
+    live.pour(*({"hand": f"h{n}", "id": n, "script": script("s", set_to("a", n))} for n in range(count)))
     waits = [live.read() for _ in range(count)]
     require(all(it and "waits" in it for it in waits), "a wait", waits[-1], live.told())
-    live.send(*({"hand": f"h{n}", "id": "bye", "bye": True} for n in range(0, count, 2)))
+    live.pour(*({"hand": f"h{n}", "id": "bye", "bye": True} for n in range(0, count, 2)))
     for number in range(0, count, 2):
         cancelled, ended, bye = live.read(), live.read(), live.read()
         told = (number, cancelled, ended, bye)
@@ -108,7 +107,7 @@ def never_reads(program, folder, _given):
     for kind, (request, watchers) in kinds.items():
         line = line_of(request)
         live = ready(program, "--journal", home.path(f"{kind}-journal"), home.file)
-        live.send(*({"hand": f"w{n}", "watch": True} for n in range(watchers)))
+        live.pour(*({"hand": f"w{n}", "watch": True} for n in range(watchers)))
         for _ in range(watchers):
             live.read()
         live.model()
@@ -119,9 +118,7 @@ def never_reads(program, folder, _given):
         require(live.process.poll() is None, kind, "ended")
         rest = (-sent) % len(line)
         wanted = (sent + rest) // len(line)
-        last = line[len(line) - rest :] + line_of({"hand": "end", "look": "no"})
-        feeder = threading.Thread(target=live.send_bytes, args=(last,))
-        feeder.start()
+        feeder = live.pour(line[len(line) - rest :] + line_of({"hand": "end", "look": "no"}))
         count = 0
         for text in live.process.stdout:
             if text.startswith(b'{"hand":"end"'):

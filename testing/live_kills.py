@@ -130,7 +130,7 @@ def judge(program, folder, killed, counts):
     objects = json.loads(text)["CityObjects"]
     on_disk = max([version for version, them in wanted.models.items() if them == objects], default=-1)
     require(on_disk >= saved and text == city(objects), "FILE isn't a model that was to be saved", saved, text)
-    counts["in a save"] += bool(home.strays())
+    counts["in a save"] += any(not name.endswith("-lock") for name in home.strays())
     live = ready(program, *home.words())
     version, counts["torn"] = live.first["version"], counts["torn"] + ("cut" in live.told())
     require(version >= acknowledged, "a told commit is lost", f"told {acknowledged}, found {version}", live.told())

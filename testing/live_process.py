@@ -68,6 +68,12 @@ class Live:
             return False
         return True
 
+    def pour(self, *requests):
+        """Sends requests by a thread of its own, so that answers can be read meanwhile."""
+        feeder = threading.Thread(target=self.send, args=requests)
+        feeder.start()
+        return feeder
+
     def read(self):
         """The next answer, or None if there is none any more."""
         line = self.process.stdout.readline()
@@ -175,8 +181,8 @@ class Home:
         return sorted(os.listdir(self.root))
 
     def state(self):
-        """What each file holds."""
-        return {name: self.read(name) for name in self.names()}
+        """What each file holds, but for those of locks."""
+        return {name: self.read(name) for name in self.names() if not name.endswith("-lock")}
 
     def copy(self, folder):
         """The same files in another folder."""

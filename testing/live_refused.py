@@ -144,7 +144,8 @@ def try_step(refusing, program, room, kind, number, first_life):
         require(status in (0, 1) and (status == 0 or error.startswith("cityed: ")), *words, status, error)
     judge(program, home, told, before, words)
     lost = [name for name in home.strays() if not name.endswith("-lock")]
-    require(way == "KILL_STEP" or not lost, *words, "left over", lost)
+    # (where all later steps are refused, a new file can't be removed either)
+    require(way == "KILL_STEP" or later or not lost, *words, "left over", lost)
     scripts = scripts_in(home)
     require(replayed(program, room, home.base, scripts) == home.read("city.json"), *words, "the journals' scripts")
     return "went on" if status == 0 else "ended"

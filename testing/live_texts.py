@@ -15,6 +15,8 @@ from commands import read_scripts
 from json_tree import Fault, tree_of
 from live_process import SECONDS, Home, Wrong, line_of, ready, require, script, set_to
 
+EITHER = [text for verdict, text in json_texts.texts() if verdict == "either"]
+NEARLY_DEEP = 120  # a line may nest a little deeper than a text of its own
 LONGEST = 67_108_864  # the most bytes of a line
 OBJECTS = {"a": {"type": "Road", "attributes": {"n": 1}}, "b": {"type": "Road"}}
 WORDS = {"script", "begin", "do", "commit", "abort", "watch", "look", "ids", "model", "save", "made", "bye"}
@@ -81,8 +83,12 @@ def has_to_be(line):
     try:
         tree = tree_of(line)
     except Fault as fault:
-        return "either" if fault.args[0] == 3 else "error"
+        is_deep = b"[" * NEARLY_DEEP in line or b'{"a":' * NEARLY_DEEP in line
+        return "either" if fault.args[0] == 3 or is_deep or any(text in line for text in EITHER) else "error"
     if not isinstance(tree, dict) or not isinstance(tree.get("hand"), str) or len(WORDS & tree.keys()) != 1:
+        return "error"
+    names = [name for name, _ in json.loads(line, object_pairs_hook=Members)]
+    if len(names) != len(set(names)):
         return "error"
     if "script" not in tree or set(tree) != {"hand", "id", "script"}:
         return "either"
