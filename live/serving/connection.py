@@ -42,7 +42,7 @@ class Connection:
         self.hands, self.open, self.touched = set(), {}, {}  # names used; open transactions: when they last asked; ids
         self.waiting, self.size, self.some = [], 0, asyncio.Event()
         self.watches, self.unanswered, self.room = False, {}, asyncio.Event()
-        self.has_long = False  # whether a model was asked for, and isn't sent yet
+        self.long_id, self.is_long_here = None, False  # of a model that was asked for and isn't sent yet
         self.room.set()
         self.task = asyncio.create_task(self.writer())
 
@@ -65,7 +65,7 @@ class Connection:
             await self.some.wait()
             self.some.clear()
             texts, self.waiting = self.waiting, []
-            sent, had_long = self.size, self.has_long == "sent"
+            sent, has_long = self.size, self.is_long_here
             try:
                 if texts:
                     await self.write("\n".join(texts))
@@ -73,8 +73,8 @@ class Connection:
                 self.cut()
                 return
             self.size = max(0, self.size - sent)
-            if had_long:
-                self.has_long = False
+            if has_long:
+                self.long_id, self.is_long_here = None, False
 
     def refuse(self, fault, asked=None):
         number, name, message = fault
@@ -106,7 +106,7 @@ class Connection:
         if not self.gateway.up:
             return self.refuse(NO_ENGINE, asked)
         name = tree.get("hand", "")
-        if "model" in tree and self.has_long:
+        if "model" in tree and self.long_id is not None:
             return self.refuse(TOO_SOON, asked)
         too_many = type(name) is str and len(self.hands | {name}) > MOST_HANDS
         if type(name) is not str or len(name) > 64 or too_many or tree["id"] in self.unanswered:
@@ -122,7 +122,7 @@ class Connection:
         self.hands.add(name)
         self.note(tree, hand)
         if "model" in tree:
-            self.has_long = True
+            self.long_id = tree["id"]
         self.unanswered[tree["id"]] = time.monotonic()
         if len(self.unanswered) >= MOST_UNANSWERED:
             self.room.clear()
@@ -150,7 +150,9 @@ class Connection:
         hand = tree.get("hand")
         self.send(text, counts="model" not in tree)
         if "model" in tree:
-            self.has_long = "sent"
+            self.is_long_here = True
+        elif tree.get("id") == self.long_id and "waits" not in tree:
+            self.long_id = None
         if "ended" in tree or "died" in tree:
             self.open.pop(hand, None)
             self.touched.pop(hand, None)
@@ -167,7 +169,8 @@ class Connection:
         """The engine is gone, and with it the answers."""
         for one in self.unanswered:
             self.refuse(ENGINE_ENDED, {"id": one})
-        self.unanswered, self.open, self.touched, self.hands, self.has_long = {}, {}, {}, set(), False
+        self.unanswered, self.open, self.touched, self.hands = {}, {}, {}, set()
+        self.long_id, self.is_long_here = None, False
         self.room.set()
 
     def leave(self):
