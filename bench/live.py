@@ -284,8 +284,8 @@ def long_commit(figures, program, folder, model, given):
             if b'"committed"' not in answer:
                 raise SystemExit(f"bench/live.py: {answer[:300]!r}")
         figures.tell(
-            f"a commit of {LONG:,} sets, {name}: {min(commits) * 1e3:.1f} ms, {min(all_of) * 1e3:.1f} ms with its sets; in "
-            f"a batch script {batched * 1e3:.1f} ms",
+            f"a commit of {LONG:,} sets, {name}: {min(commits) * 1e3:.1f} ms, "
+            f"{min(all_of) * 1e3:.1f} ms with its sets; in a batch script {batched * 1e3:.1f} ms",
             f"{MOST_COMMIT * batched * 1e3:.1f} ms",
             min(commits) <= MOST_COMMIT * batched,
         )

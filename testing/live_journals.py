@@ -190,6 +190,8 @@ def saves(program, folder, _given):
         require(base["version"] == version and base["base"] in digests(home.read("city.json")), "the new journal", base)
     left = [name for name in home.names() if name.startswith("journal.") and not name.endswith("lock")]
     require(set(archives) <= set(left), "archives", left, archives)
+    for turn in range(120):
+        require(live.ask(hand="s", save=True) == {"hand": "s", "saved": version}, "a save of what is saved", turn)
     require(live.ask(hand="s", bye=True).get("bye"), "bye")
     status, rest, error = live.end()
     require((status, rest, error) == (0, [], ""), "the end", status, rest, error)

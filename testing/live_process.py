@@ -194,7 +194,7 @@ class Home:
 
     def strays(self):
         """Names of files that no run should leave: all but the file, the journal and its archives."""
-        return [name for name in self.names() if not re.fullmatch(r"city\.json|journal(\.\d+)?", name)]
+        return [name for name in self.names() if not re.fullmatch(r"city\.json|journal(\.\d+){0,2}", name)]
 
 
 def whole_lines(text):
@@ -204,8 +204,8 @@ def whole_lines(text):
 
 def scripts_in(home):
     """The texts of the scripts of all commits that the archives and the journal hold: each version once, in order."""
-    names = [name for name in home.names() if re.fullmatch(r"journal\.\d+", name)]
-    names.sort(key=lambda name: int(name.rpartition(".")[2]))
+    names = [name for name in home.names() if re.fullmatch(r"journal(\.\d+){1,2}", name)]
+    names.sort(key=lambda name: [int(number) for number in name.split(".")[1:]])
     lines = [line for name in [*names, "journal"] for line in home.read(name).split(b"\n")[:-1]]
     commits = [line for line in lines if b',"script":' in line]
     versions = [json.loads(line)["version"] for line in commits]

@@ -254,9 +254,9 @@ def order(program, folder, _given):
     requests = [{"hand": f"h{n % 8}", "script": script("s", set_to(f"o{n % 2}", n))} for n in range(4_000)]
     for place in (3_000, 1_000, 0):
         requests.insert(place, {"hand": "s", "save": True})
-    words = ["strace", "-e", "trace=write,fdatasync,fsync", "-s", "4000000", "-o", trace, program, "--live", *home.words()]
+    words = ["strace", "-e", "trace=write,fdatasync,fsync", "-s", "4000000", "-o", trace, program, "--live"]
     text = b"".join(map(line_of, requests))
-    ran = subprocess.run(words, input=text, capture_output=True, timeout=SECONDS, check=False)
+    ran = subprocess.run([*words, *home.words()], input=text, capture_output=True, timeout=SECONDS, check=False)
     if ran.returncode and not ran.stdout:
         return "not tried, since strace may not trace here"
     require(ran.stdout.count(b'"committed"') == 4_000, "commits", ran.stdout[-300:], ran.stderr)
