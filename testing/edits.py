@@ -6,10 +6,10 @@
 
 Without names the crates are all that have edits there. With --changed only those are taken whose edits differ from the
 commit BASE, or whose src, specs or proofs do, and those above the latter, whose contracts rest on them. What isn't
-committed counts too. N checks run side by side: two if it isn't said, each of up to 5 GB.
+committed counts too. N crates are tried side by side: two if it isn't said, each by a check of up to 5 GB.
 
-The crates, and those below them, are copied into a folder of their own, which is removed at the end, with what `rt
-check` kept of them in `out/`; no check may run there meanwhile. In the copy `rt check` proves each crate as it stands,
+Each crate is copied, with those below it, into a folder of its own, which is removed at the end, and so is what `rt
+check` kept of them in `out/`; no check may run there meanwhile. In the copy `rt check` proves the crate as it stands,
 in under a minute where all was kept, and from nothing where it wasn't. Over that the toolchain's own must-fail tries
 the edits, those of different functions together (kept_edits.py). Those in the crates' own must-fail folders are left
 out: the gate tries them. For each edit a line says what refused it: a clause of a contract, or another goal that was
@@ -29,17 +29,16 @@ import signal
 import subprocess
 import sys
 import tempfile
-import time
 from collections import namedtuple
+from concurrent.futures import ThreadPoolExecutor, as_completed
 from pathlib import Path
 
 from listed_crates import ROOT, listed, own, reached
 
 EDITS = ROOT / "testing" / "edits"
 PROVED_FROM = ("src", "specs", "proofs")
-# What a check keeps of a crate, for the next one and for those above.
-KEPT = ("out/incremental", "out/rlib")
 NAME = re.compile(r"[A-Za-z0-9_-][A-Za-z0-9_.-]*\.edit")
+OVER_KEPT = [sys.executable, str(ROOT / "testing" / "kept_edits.py")]
 
 # The words by which rt begins what it says of an edit, and the cases in which a refusal shows nothing of a contract.
 OF_AN_EDIT = re.compile(r"rt: must-fail (\w+)/(\S+\.edit): (.*)")
@@ -54,8 +53,8 @@ NO_ANSWER = re.compile(r"(?:\./)?(\S+?:\d+):\d+: error: `([^`]+)`")
 GOAL = re.compile(r"\(`([^`]+)`\)")
 
 Edit = namedtuple("Edit", "crate path")
-# A command, and the edits of which it tells.
-Trial = namedtuple("Trial", "words edits")
+# The commands that run.
+RUNNING = set()
 
 
 class Bad(Exception):
@@ -173,7 +172,7 @@ def applied(edits, kept):
 
 
 def copy(room, names, edits):
-    """Copies crates, as they stand, with what checks kept of them, and the edits that are to be tried."""
+    """Copies crates, as they stand, with what checks kept of them, and the edits of the last one."""
     listed = git("ls-files", "--cached", "--others", "--exclude-standard", "crates", "crates.txt", "HANDLES")
     for name in filter(lambda it: (ROOT / it).is_file(), listed):
         parts = name.split("/")
@@ -189,66 +188,53 @@ def copy(room, names, edits):
         folder.mkdir(exist_ok=True)
         shutil.copyfile(edit.path, folder / edit.path.name)
     for name in names:
-        for part in filter(lambda it: (ROOT / "crates" / name / it).is_dir(), KEPT):
-            shutil.copytree(ROOT / "crates" / name / part, room / "crates" / name / part)
+        kept, to = ROOT / "crates" / name / "out", room / "crates" / name / "out"
+        is_built = (kept / "rlib" / "stamp").is_file()
+        if is_built:
+            shutil.copytree(kept / "rlib", to / "rlib", copy_function=linked)
+        if (kept / "incremental").is_dir() and (name == names[-1] or not is_built):
+            shutil.copytree(kept / "incremental", to / "incremental")
 
 
-def begun(room, log, words):
-    """A command, begun in the copy in a group of its own, whose words go into a file."""
-    given = {"cwd": room, "env": {**os.environ, "TMPDIR": str(room), "RT_JOBS": "1"}, "stdin": subprocess.DEVNULL}
-    with open(log, "wb") as file:
-        return subprocess.Popen(words, stdout=file, stderr=subprocess.STDOUT, start_new_session=True, **given)
-
-
-def end(ran):
-    """Ends a command, and all that it began."""
-    with contextlib.suppress(ProcessLookupError):
-        os.killpg(ran.pid, signal.SIGKILL)
-    ran.wait()
-
-
-def side_by_side(room, trials, jobs):
-    """Runs the commands of trials, some at a time, and gives each trial with the lines that it said once it ends."""
-    left, running = list(trials), {}
+def linked(file, to):
+    """Links a file of a built library, which rt only reads and removes; where that can't be, it is copied."""
     try:
-        while left or running:
-            while left and len(running) < jobs:
-                trial, log = left.pop(0), room / f"{len(left)}.log"
-                running[begun(room, log, trial.words)] = trial, log
-            time.sleep(0.2)
-            for ran in [it for it in running if it.poll() is not None]:
-                trial, log = running.pop(ran)
-                yield trial, log.read_text(encoding="utf-8", errors="replace").splitlines()
-    finally:
-        for ran in running:
-            end(ran)
+        os.link(file, to)
+    except OSError:
+        shutil.copyfile(file, to)
 
 
-def why_not_proved(room, name, jobs):
-    """Has a crate of the copy checked as it stands, and gives the last lines of the check if it isn't proved."""
-    log = room / "check.log"
-    ran = begun(room / "crates" / name, log, ["rt", "check", "--jobs", str(jobs)])
-    try:
+def run(room, folder, words):
+    """Runs a command for a copy to its end, and gives its status and the lines that it said."""
+    given = {"cwd": folder, "env": {**os.environ, "TMPDIR": str(room), "RT_JOBS": "1"}, "stdin": subprocess.DEVNULL}
+    with tempfile.TemporaryFile(dir=room) as file:
+        ran = subprocess.Popen(words, stdout=file, stderr=subprocess.STDOUT, start_new_session=True, **given)
+        RUNNING.add(ran)
         status = ran.wait()
-    finally:
-        end(ran)
-    lines = log.read_text(encoding="utf-8", errors="replace").splitlines()
-    is_proved = status == 0 and any(it.startswith("logic=proved ") for it in lines)
-    return None if is_proved else "\n  ".join([f"rt check of {name} ended with status {status}:", *lines[-5:]])
+        RUNNING.discard(ran)
+        file.seek(0)
+        return status, file.read().decode(errors="replace").splitlines()
 
 
-def trials_of(edits):
-    """For each crate the command that tries its edits, over what the check kept where the toolchain can."""
-    kept_edits = [sys.executable, str(ROOT / "testing" / "kept_edits.py")]
-    can = subprocess.run(kept_edits, stdin=subprocess.DEVNULL).returncode == 0
-    if edits and not can:
-        print("this toolchain's must-fail is another one, and begins each crate with a check from nothing", flush=True)
-    trials = []
-    for name in dict.fromkeys(edit.crate for edit in edits):
-        its = [it for it in edits if it.crate == name]
-        words = [*kept_edits, name, *[it.path.name for it in its]] if can else ["rt", "must-fail", name]
-        trials.append(Trial(words, its))
-    return trials
+def end_all():
+    """Ends the commands that run, and all that they began."""
+    for ran in list(RUNNING):
+        with contextlib.suppress(ProcessLookupError):
+            os.killpg(ran.pid, signal.SIGKILL)
+
+
+def lines_of(uses, edits, over_kept):
+    """Has the edits of a crate tried, and gives the lines that tell of them, or why none was."""
+    name = edits[0].crate
+    with tempfile.TemporaryDirectory(prefix="edits-", ignore_cleanup_errors=True) as folder:
+        room = Path(folder)
+        copy(room, reached(uses, [name]), edits)
+        status, lines = run(room, room / "crates" / name, ["rt", "check", "--jobs", "1"])
+        if status or not any(it.startswith("logic=proved ") for it in lines):
+            return [], f"{name} isn't proved as it stands. The last lines of rt check:\n  " + "\n  ".join(lines[-5:])
+        names = [it.path.name for it in edits]
+        lines = run(room, room, [*OVER_KEPT, name, *names] if over_kept else ["rt", "must-fail", name])[1]
+        return lines, "\n  ".join(["rt says nothing of it. Its last lines:", *lines[-5:]])
 
 
 def verdict(said):
@@ -303,29 +289,25 @@ def tried(edits, uses, jobs):
     """Tries edits, tells what came of each, and returns whether each was refused."""
     if shutil.which("rt") is None:
         raise Stop("there is no command rt: the edits are tried by the Rattle toolchain, whose bin/ has to be in PATH")
-    names = [name for name in uses if any(it.crate == name for it in edits)]
-    below, well = reached(uses, names), []
-    with tempfile.TemporaryDirectory(prefix="edits-") as folder:
-        room = Path(folder)
-        copy(room, below, edits)
-        print("trying the edits over", *below, flush=True)
-        unproved = {name: why_not_proved(room, name, jobs) for name in names}
-        for why in filter(None, unproved.values()):
-            print(why, flush=True)
-        for edit in [it for it in edits if unproved[it.crate]]:
-            print(f"{label(edit)}: NOT TRIED: {edit.crate} isn't proved as it stands", flush=True)
-            well.append(False)
-        for trial, lines in side_by_side(room, trials_of([it for it in edits if not unproved[it.crate]]), jobs):
-            well += told(trial, lines)
-    return well
+    over_kept = subprocess.run(OVER_KEPT, stdin=subprocess.DEVNULL).returncode == 0
+    if not over_kept:
+        print("this toolchain's must-fail is another one, and begins each crate with a check from nothing", flush=True)
+    parts = {name: [it for it in edits if it.crate == name] for name in uses}
+    with ThreadPoolExecutor(jobs) as pool:
+        begun = {pool.submit(lines_of, uses, part, over_kept): part for part in parts.values() if part}
+        try:
+            return [well for it in as_completed(begun) for well in told(begun[it], *it.result())]
+        finally:
+            for it in begun:
+                it.cancel()
+            end_all()
 
 
-def told(trial, lines):
-    """Tells what a command said of edits, and returns whether each was refused."""
+def told(edits, lines, otherwise):
+    """Tells what was said of edits, and returns whether each was refused."""
     said, well = said_of_edits(lines), []
-    last = "\n  ".join(["NOT TRIED: rt says nothing of it. Its last lines:", *lines[-5:]])
-    for edit in trial.edits:
-        is_refused, tells = verdict(said.get(f"{edit.crate}/{edit.path.name}", last))
+    for edit in edits:
+        is_refused, tells = verdict(said.get(f"{edit.crate}/{edit.path.name}", f"NOT TRIED: {otherwise}"))
         print(f"{label(edit)}: {tells}", flush=True)
         well.append(is_refused)
     return well

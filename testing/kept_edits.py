@@ -31,8 +31,8 @@ OTHER_TOOLCHAIN = 3
 TAKES = {"must_fail": ["crate", "edit", "flags", "kept"], "checked": ["crate", "texts", "flags", "kept"]}
 FLAGS = ["--jobs", "1"]
 FUNCTION = re.compile(r"^ *(?:pub(?:\([^)]*\))? +)?(?:const +)?(?:unsafe +)?fn +(\w+)", re.M)
-NOT_JUDGED = re.compile(r"fn (\S+): no proof: it calls ")
-NOT_PROVED = re.compile(r"fn (\S+): not proved")
+NOT_JUDGED = re.compile(r"^fn (\S+): no proof: it calls ", re.M)
+NOT_PROVED = re.compile(r"^fn (\S+): (?:not proved|no proof: (?!it calls ))", re.M)
 # A goal that is left open, or an answer that doesn't fit; and one that only misses a name.
 TOLD = re.compile(r"(?:note: )?(?:\./)?((?:src|proofs)/\S+?):(\d+):\d+:")
 MISSES_A_NAME = re.compile(r"(\./)?proofs/.*(has no field|is not in scope|has no `)|.*\bnot admitted\b")
