@@ -66,7 +66,8 @@ impl<D: JournalFile + Drop> Server<'_, D> {
         }
     }
 
-    /// Writes a city to the file of this path, replaced whole, and begins the journal anew over it.
+    /// Writes a city to the file of this path, replaced whole, and begins the journal anew over it, unless the file had this
+    /// version already.
     pub(crate) fn save<F: OutputFiles>(
         &mut self,
         files: &mut F,
@@ -82,14 +83,15 @@ impl<D: JournalFile + Drop> Server<'_, D> {
         let Some(new) = filled_new(files, self.seed, path, text.as_slice()) else {
             return Err(Unsaved::CannotWrite);
         };
-        if self.note_save(&sum).is_err() {
+        let is_new = self.saved != Some(version);
+        if is_new && self.note_save(&sum).is_err() {
             files.give_up(new);
             return Err(Unsaved::CannotWrite);
         }
         if place(files, new, path).is_err() {
             return Err(Unsaved::CannotWrite);
         }
-        if self.hands.journal_mut().end_save(&sum, version).is_err() {
+        if is_new && self.hands.journal_mut().end_save(&sum, version).is_err() {
             return Err(Unsaved::CannotWrite);
         }
         self.saved = Some(version);
