@@ -92,6 +92,7 @@ fault_words fault.TooMany =
 fault_words fault.TooManyHands =
     (codes "TooManyHands", (codes "As many hands as there may be have a transaction or a watch.", 32))
 fault_words fault.NoMemory = (codes "NoMemory", (codes "Memory ran out.", 33))
+fault_words fault.CannotWrite = (codes "CannotWrite", (codes "The journal or the output can't be written.", 34))
 
 -- the members that each error has
 abbrev pub words_members : ℕ → List ℕ × (List ℕ × ℕ) → Members

@@ -40,11 +40,7 @@ pub fn words_of(fault: &LineFault) -> Words {
         LineFault::BadMember(_, wrong) => worded(26, "BadMember", message_of(*wrong)),
         LineFault::Refused(_) => worded(27, "Refused", "The script or the command isn't read."),
         LineFault::NoMemory => engine_words(Fault::NoMemory),
-        LineFault::CannotWrite => worded(
-            34,
-            "CannotWrite",
-            "The journal or the output can't be written.",
-        ),
+        LineFault::CannotWrite => engine_words(Fault::CannotWrite),
         LineFault::NoOutput => worded(35, "NoOutput", "There is no output to save to."),
         LineFault::Engine(fault) => engine_words(*fault),
     }
@@ -79,5 +75,10 @@ pub fn engine_words(fault: Fault) -> Words
             "As many hands as there may be have a transaction or a watch.",
         ),
         Fault::NoMemory => worded(33, "NoMemory", "Memory ran out."),
+        Fault::CannotWrite => worded(
+            34,
+            "CannotWrite",
+            "The journal or the output can't be written.",
+        ),
     }
 }
