@@ -73,9 +73,10 @@ impl<J: Journal> Hands<J> {
     fn commit(&mut self, stamp: u64) -> Committing
         ensures { Follows self.old self.new }
     {
-        match self.talks.prepare(stamp, self.version, self.watchers.len()) {
+        let before = self.version;
+        match self.talks.prepare(stamp, before, self.watchers.len()) {
             Preparing::Ready(changed, version) => {
-                self.commit_ready(stamp, changed, self.version, version)
+                self.commit_ready(stamp, changed, before, version)
             }
             Preparing::Refused(cause) => Committing::Refused(cause),
             Preparing::NoMemory => Committing::NoMemory,
