@@ -123,7 +123,7 @@ impl<J: Journal> Hands<J> {
     /// Does a request of a hand, and goes on with all works it was in the way of. The answers stand in their order.
     ///
     /// If memory runs out before anything is done, nothing changes. If it runs out later, the hand is told so.
-    #[tactic(auto, using(crate::proofs::Followed::then, crate::proofs::Followed::same))]
+    #[tactic(auto, using(crate::proofs::Handled::handled, crate::proofs::Followed::same))]
     pub fn handle(
         &mut self,
         hand: Text,
