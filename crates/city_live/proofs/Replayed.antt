@@ -17,7 +17,9 @@ use Rattle.city_model.proofs.History.{Next}
 use Rattle.std.specs.Arc.{arc_value}
 use Rattle.std.specs.declared.sync.Arc.{Arc}
 use Rattle.std.specs.declared.alloc.Global.{Global}
-use Rattle.city_txn.specs.Changing.{IsChangeOf}
+use Rattle.city_txn.specs.declared.txn_core.Prepared.{Prepared}
+use Rattle.city_txn.specs.declared.txn_core.Prepared.TheVariants.{Ready}
+use Rattle.city_txn.specs.Changing.{IsChangeOf, IsPrepared}
 use Rattle.city_txn.specs.CoreState.{committed, view, is_open, snapshot, held, StandsUnderLocks}
 use Rattle.city_session.specs.Grown.{Grown, commands_in, unrefused}
 use Rattle.city_session.specs.Live.{SessionState, IsLive, grown_at}
@@ -166,20 +168,22 @@ unkept (Some w) before e = record {
 nothing_done : (m n : CityMap) (change : Change) → after_change m change ≡ n → change ≡ [] → n ≡ m
 nothing_done m n change makes none = sym makes ∙ ap (after_change m) none
 
-pub counted_of : {s : SessionState} (stamp before next : ℕ) (change : Change) → IsChangeOf s.core stamp change
-    → (next ≡ before → change ≡ []) → IsCounted stamp before next s
-counted_of {s} stamp before next change i h = λ e.
-    nothing_done (committed s.core) (view s.core stamp) change i.makes_view (h e)
+module _ (s : SessionState) (stamp : ℕ) (change : Change) (p : Prepared) (is : p ≡ Ready change)
+    (prepared : IsPrepared s.core stamp p) where
+  of_change : IsChangeOf s.core stamp change
+  of_change = subst (IsPrepared s.core stamp) is prepared
 
-pub allowed_of : {s : SessionState} (stamp : ℕ) (change : Change) → is_open s.core stamp ≡ true
-    → IsChangeOf s.core stamp change → IsAllowed stamp None s
-allowed_of stamp change o i = record { opened = o; lawful = i.lawful.1; leads = tt }
+  pub counted_of : (before next : ℕ) → (next ≡ before → change ≡ []) → IsCounted stamp before next s
+  counted_of before next h = λ e.
+      nothing_done (committed s.core) (view s.core stamp) change of_change.makes_view (h e)
 
-pub allowed_so : {s : SessionState} (stamp : ℕ) (change : Change) → is_open s.core stamp ≡ true
-    → IsChangeOf s.core stamp change → (c : Arc Changed Global) → (arc_value c).change ≡ change
-    → IsAllowed stamp (Some c) s
-allowed_so {s} stamp change o i c e = record {
-  opened = o;
-  lawful = i.lawful.1;
-  leads = ap (after_change (committed s.core)) e ∙ i.makes_view;
-}
+  pub allowed_of : is_open s.core stamp ≡ true → IsAllowed stamp None s
+  allowed_of o = record { opened = o; lawful = of_change.lawful.1; leads = tt }
+
+  pub allowed_so : is_open s.core stamp ≡ true → (c : Arc Changed Global) → (arc_value c).change ≡ change
+      → IsAllowed stamp (Some c) s
+  allowed_so o c e = record {
+    opened = o;
+    lawful = of_change.lawful.1;
+    leads = ap (after_change (committed s.core)) e ∙ of_change.makes_view;
+  }

@@ -123,7 +123,7 @@ impl<J: Journal> Hands<J> {
     /// Does a request of a hand, and goes on with all works it was in the way of. The answers stand in their order.
     ///
     /// If memory runs out before anything is done, nothing changes. If it runs out later, the hand is told so.
-    #[tactic(auto, using(crate::proofs::Followed::then, crate::proofs::Followed::same))]
+    #[tactic(auto, using(crate::proofs::Handled::handled, crate::proofs::Followed::same))]
     pub fn handle(
         &mut self,
         hand: Text,
@@ -342,14 +342,31 @@ impl<J: Journal> Hands<J> {
     fn bye(&mut self, sender: &Sender, tag: Tag)
         ensures { Follows self.old self.new }
     {
-        if let Some(stamp) = self.stamp_of(sender) {
-            let Ok(again) = tag.copy(self.alloc) else {
-                return self.refuse(sender, tag, Fault::NoMemory);
-            };
-            if self.give_up(sender, again, stamp).is_err() {
-                return self.refuse(sender, tag, Fault::NoMemory);
-            }
+        match self.stamp_of(sender) {
+            Some(stamp) => self.bye_open(sender, tag, stamp),
+            None => self.forget(sender, tag),
         }
+    }
+
+    /// Aborts a work of the hand, and forgets the hand.
+    #[tactic(auto, using(crate::proofs::Followed::then, crate::proofs::Followed::same))]
+    fn bye_open(&mut self, sender: &Sender, tag: Tag, stamp: u64)
+        ensures { Follows self.old self.new }
+    {
+        let Ok(again) = tag.copy(self.alloc) else {
+            return self.refuse(sender, tag, Fault::NoMemory);
+        };
+        if self.give_up(sender, again, stamp).is_err() {
+            return self.refuse(sender, tag, Fault::NoMemory);
+        }
+        self.forget(sender, tag);
+    }
+
+    /// Forgets a hand without a work.
+    #[tactic(auto, using(crate::proofs::Followed::then, crate::proofs::Followed::same))]
+    fn forget(&mut self, sender: &Sender, tag: Tag)
+        ensures { Follows self.old self.new }
+    {
         self.stop_watching(sender);
         if let Some(seat) = sender.seat {
             let _before = self.roster.put_at(seat, At::Idle);

@@ -36,6 +36,14 @@ impl<J: Journal> Hands<J> {
             return self.refuse(sender, tag, Fault::Busy);
         }
         self.talks.request(stamp, &sender.name, tag);
+        self.commit_single(stamp);
+    }
+
+    /// Commits a transaction whose hand has asked for it.
+    #[tactic(auto, using(crate::proofs::Followed::then, crate::proofs::Followed::same))]
+    fn commit_single(&mut self, stamp: u64)
+        ensures { Follows self.old self.new }
+    {
         match self.commit(stamp) {
             Committing::Done => {}
             Committing::Refused(cause) => self.talks.tell_refused(stamp, cause),
@@ -73,9 +81,10 @@ impl<J: Journal> Hands<J> {
     fn commit(&mut self, stamp: u64) -> Committing
         ensures { Follows self.old self.new }
     {
-        match self.talks.prepare(stamp, self.version, self.watchers.len()) {
+        let before = self.version;
+        match self.talks.prepare(stamp, before, self.watchers.len()) {
             Preparing::Ready(changed, version) => {
-                self.commit_ready(stamp, changed, self.version, version)
+                self.commit_ready(stamp, changed, before, version)
             }
             Preparing::Refused(cause) => Committing::Refused(cause),
             Preparing::NoMemory => Committing::NoMemory,

@@ -105,12 +105,20 @@ impl<J: Journal> Hands<J> {
             self.all_due = true;
             return false;
         }
+        self.go_on_from_list(stamp);
+        true
+    }
+
+    /// Takes a work off its list and goes on with it. Those behind it are due, unless it waits there again.
+    #[tactic(auto, using(crate::proofs::Followed::then, crate::proofs::Followed::same))]
+    fn go_on_from_list(&mut self, stamp: u64)
+        ensures { Follows self.old self.new }
+    {
         let place = self.unlist(stamp);
         self.go_on(stamp);
         if !self.waits_as(stamp, &place) {
             self.wake_behind(stamp);
         }
-        true
     }
 
     /// A stamp still in the way of a dead script, if there is one. Doesn't allocate.

@@ -9,10 +9,10 @@ pub returns-then-watchers-eq0-2-clause-ready : goal.returns-then-watchers-eq0-2-
 returns-then-watchers-eq0-2-clause-ready g c =
     subst (λ (v : Served). IsAllowed c.args.stamp None v.session
     × IsCounted c.args.stamp c.args.version c.in-Some-version_after.next v.session) c.self.view_is (
-      allowed_of c.args.stamp c.in-Ok-Ready.change (sym c.is_open.ensures ∙ c.if-not-is_open.false)
-          c.in-Ok-Ready.ensures,
-      counted_of c.args.stamp c.args.version c.in-Some-version_after.next c.in-Ok-Ready.change c.in-Ok-Ready.ensures
-          c.in-Some-version_after.ensures,
+      allowed_of c.self.inside.session c.args.stamp c.in-Ok-Ready.change c.in-Ok-Ready.field-0 c.in-Ok-Ready.field-0-is
+          c.in-Ok-Ready.ensures (sym c.is_open.ensures ∙ c.if-not-is_open.false),
+      counted_of c.self.inside.session c.args.stamp c.in-Ok-Ready.change c.in-Ok-Ready.field-0 c.in-Ok-Ready.field-0-is
+          c.in-Ok-Ready.ensures c.args.version c.in-Some-version_after.next c.in-Some-version_after.ensures,
     )
 
 pub returns-in-Ok-clause-ready : goal.returns-in-Ok-clause-ready
@@ -20,8 +20,9 @@ returns-in-Ok-clause-ready g c =
     subst (λ (v : Served). IsAllowed c.args.stamp (Some c.in-Ok.changed) v.session
     × IsCounted c.args.stamp c.args.version c.in-Some-version_after.next v.session)
     (c.self.view_is ∙ sym c.shared.ensures.same) (
-      allowed_so c.args.stamp c.in-Ok-Ready.change (sym c.is_open.ensures ∙ c.if-not-is_open.false)
-          c.in-Ok-Ready.ensures c.in-Ok.changed c.in-Ok.ensures.changed,
-      counted_of c.args.stamp c.args.version c.in-Some-version_after.next c.in-Ok-Ready.change c.in-Ok-Ready.ensures
-          c.in-Some-version_after.ensures,
+      allowed_so c.self.inside.session c.args.stamp c.in-Ok-Ready.change c.in-Ok-Ready.field-0 c.in-Ok-Ready.field-0-is
+          c.in-Ok-Ready.ensures (sym c.is_open.ensures ∙ c.if-not-is_open.false) c.in-Ok.changed
+          c.in-Ok.ensures.changed,
+      counted_of c.self.inside.session c.args.stamp c.in-Ok-Ready.change c.in-Ok-Ready.field-0 c.in-Ok-Ready.field-0-is
+          c.in-Ok-Ready.ensures c.args.version c.in-Some-version_after.next c.in-Some-version_after.ensures,
     )
