@@ -1,6 +1,9 @@
 -- Commits made again, one more at a time.
-use Rattle.std.proofs.Common.{◌≡◌, ◌+◌, ◌<◌, ◌∙◌, ◌∷◌, ◌++◌, ℕ, List, [], refl, sym, ap, length, drop, take, Bool}
+use Rattle.std.proofs.Common.{◌≡◌, ◌+◌, ◌-◌, ◌<◌, ◌≤◌, ◌∙◌, ◌∷◌, ◌++◌, ℕ, List, [], refl, sym, ap, subst, length, drop, take, Bool}
+use Rattle.std.proofs.Common.{zero, suc, arith, take_all}
+use Rattle.std.proofs.lemmas.List.{length-drop}
 use Rattle.std.proofs.Common.{append_assoc, get_or}
+use Rattle.std.proofs.Math.Seq.{drop-nil}
 use Rattle.std.proofs.lemmas.List.{drop_more, take-map, drop-map}
 use Rattle.std.specs.List.{AllByRecursion}
 use Rattle.city_model.specs.CityMap.{CityMap}
@@ -32,3 +35,20 @@ one_array_more decimals n commits m between leads ns after rest = (
       rw (take-map (λ e. e.script.now) n commits) leads,
       rw (drop-map (λ e. e.script.now) n commits) rest,
     )
+
+pub drop_twice : {X : Type 0} (n i : ℕ) (xs : List X) → drop n (drop i xs) ≡ drop (i + n) xs
+drop_twice n zero xs = let e : n ≡ 0 + n = omega arith in ap (λ k. drop k xs) e
+drop_twice n (suc i) [] = drop-nil n ∙ sym (drop-nil (suc i + n))
+drop_twice n (suc i) (x ∷ xs) =
+    let e : suc (i + n) ≡ suc i + n = omega arith in drop_twice n i xs ∙ ap (λ k. drop k (x ∷ xs)) e
+
+pub one_slice_more : (decimals : Bool) (i n : ℕ) (commits : List Commit) (m between : CityMap)
+    → LeadsTo decimals (scripts_of (take n (take (length commits - i) (drop i commits)))) m between
+    → (ns : List ℕ) (after : CityMap) → Replays decimals ns (scripts_of (drop (i + n) commits)) between after
+    → Replays decimals (n ∷ ns) (scripts_of (drop i commits)) m after
+one_slice_more decimals i n commits m between leads ns after rest =
+    let fits : length (drop i commits) ≤ length commits - i = search (arith, length-drop) in
+    one_array_more decimals n (drop i commits) m between
+    (subst (λ xs. LeadsTo decimals (scripts_of (take n xs)) m between) (take_all (length commits - i) (drop i commits) fits)
+    leads) ns after
+    (subst (λ xs. Replays decimals ns (scripts_of xs) between after) (sym (drop_twice n i commits)) rest)

@@ -35,13 +35,13 @@ pub fn replay(
     ensures frame { IfOk result (λ c. c.0 ≡ city.0) }
 {
     let mut city = city;
-    let mut rest = commits;
-    while !rest.is_empty() {
+    let mut at: usize = 0;
+    while at < commits.len() {
+        let rest = &commits[at..];
         let count = batch_len(rest);
-        let some = &rest[..count];
-        let next = replay_some(alloc, decimals, city, some)?;
+        let next = replay_some(alloc, decimals, city, &rest[..count])?;
         city = next;
-        rest = &rest[count..];
+        at += count;
     }
     Ok(city)
 }
