@@ -69,23 +69,32 @@ impl InputLines {
     /// The next whole line. If memory runs out for it, the rest of it is taken for a line of its own.
     pub fn next(&mut self) -> Result<Next<'_>, OutOfMemory> {
         let from = self.at;
-        let Some(rest) = self.chunk.get(from..self.filled) else {
-            return Ok(Next::More);
-        };
-        let Some(count) = memchr(b'\n', rest) else {
+        let Some(to) = self.line_end() else {
             self.at = self.filled;
-            keep(&mut self.kept, &mut self.is_skipping, self.alloc, rest)?;
+            self.keep(from, self.filled)?;
             return Ok(Next::More);
         };
-        self.at = from + count + 1;
-        let Some(end) = rest.get(0..count) else {
-            return Ok(Next::More);
-        };
+        self.at = to.saturating_add(1);
         if self.kept.is_empty() && !self.is_skipping {
-            return Ok(Next::Line(end));
+            return Ok(Next::Line(self.part(from, to)));
         }
-        keep(&mut self.kept, &mut self.is_skipping, self.alloc, end)?;
+        self.keep(from, to)?;
         Ok(self.take())
+    }
+
+    /// Where the next newline of the chunk stands, if there is one.
+    fn line_end(&self) -> Option<usize> {
+        let rest = self.part(self.at, self.filled);
+        let count = memchr(b'\n', rest)?;
+        Some(self.at.saturating_add(count))
+    }
+
+    /// A part of the chunk.
+    fn part(&self, from: usize, to: usize) -> &[u8] {
+        match self.chunk.get(from..to) {
+            Some(part) => part,
+            None => &[],
+        }
     }
 
     /// The last line, if it has no newline.
@@ -105,23 +114,21 @@ impl InputLines {
         }
         Next::Long(line)
     }
-}
 
-/// Keeps a part of a line, or skips the line if it is too long.
-fn keep(
-    kept: &mut Vec<u8>,
-    is_skipping: &mut bool,
-    alloc: Global,
-    part: &[u8],
-) -> Result<(), OutOfMemory> {
-    if *is_skipping {
-        return Ok(());
+    /// Keeps a part of a line, or skips the line if it is too long.
+    fn keep(&mut self, from: usize, to: usize) -> Result<(), OutOfMemory> {
+        if self.is_skipping {
+            return Ok(());
+        }
+        let Some(part) = self.chunk.get(from..to) else {
+            return Ok(());
+        };
+        if part.len() > MAX_LINE.saturating_sub(self.kept.len()) {
+            self.is_skipping = true;
+            self.kept = Vec::new(self.alloc);
+            return Ok(());
+        }
+        self.kept.extend_from_slice(part)?;
+        Ok(())
     }
-    if part.len() > MAX_LINE - kept.len().min(MAX_LINE) {
-        *is_skipping = true;
-        *kept = Vec::new(alloc);
-        return Ok(());
-    }
-    kept.extend_from_slice(part)?;
-    Ok(())
 }

@@ -3,7 +3,7 @@
 use crate::server::Server;
 use city_journal::{JournalFile, ModelSum};
 use city_lines::{Form, LineFault};
-use city_live::{Request, Tag, Unwritten, What};
+use city_live::{Answer, Request, Tag, Unwritten, What};
 use city_members::copied::Copied;
 use city_members::text::Text;
 use city_model::OutOfMemory;
@@ -39,13 +39,14 @@ impl<D: JournalFile + Drop> Server<'_, D> {
             return self.refuse(None, None, LineFault::NoMemory);
         };
         for answer in answers {
-            match &answer.what {
+            let Answer { hand, tag, what } = answer;
+            match what {
                 What::Model(city, version) => {
-                    let saved = self.save(files, path, city, *version);
-                    let hand = answer.hand.copy(self.alloc)?;
-                    self.tell_saving(hand, answer.tag, *version, saved)?;
+                    let saved = self.save(files, path, &city, version);
+                    let hand = hand.copy(self.alloc)?;
+                    self.tell_saving(hand, tag, version, saved)?;
                 }
-                _ => self.tell(answer, Form::Plain)?,
+                what => self.tell(Answer { hand, tag, what }, Form::Plain)?,
             }
         }
         Ok(())
