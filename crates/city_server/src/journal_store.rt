@@ -57,10 +57,13 @@ impl JournalStore for MemoryFile {
 
     // (none of its lines was cut)
     fn open_behind(&mut self, whole: usize) -> io::Result<()> {
-        if whole != self.bytes().len() || self.sync().is_err() {
+        if whole != self.bytes().len() {
             return Err(io::Error::from(ErrorKind::InvalidInput));
         }
-        Ok(())
+        match self.sync() {
+            Ok(()) => Ok(()),
+            Err(_) => Err(io::Error::from(ErrorKind::InvalidInput)),
+        }
     }
 
     fn let_go(&mut self) {}
