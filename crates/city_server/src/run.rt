@@ -1,4 +1,6 @@
 //! A session from its start to the end of its input.
+ghost use Rattle.city_model.specs.CityMap.{object_at};
+ghost use Rattle.city_model.specs.Relations.{IsLawful};
 
 use crate::awaited::Awaited;
 use crate::fault::LiveFault;
@@ -81,7 +83,9 @@ fn served<'a, D: JournalStore + Drop>(
     seed: u64,
     started: Started<D>,
     line: &LiveLine<'a>,
-) -> Result<Server<'a, D>, OutOfMemory> {
+) -> Result<Server<'a, D>, OutOfMemory>
+    requires { IsLawful (object_at started.city.1) }
+{
     let objects = started.city.len() as u64;
     let answers = append_ready(VERSION, objects, started.version, Vec::new(alloc))?;
     let saved = if started.is_saved {

@@ -1,4 +1,7 @@
 //! The model and the journal at the start of a session.
+ghost use Rattle.std.specs.Prelude.{IfOk};
+ghost use Rattle.city_model.specs.CityMap.{object_at};
+ghost use Rattle.city_model.specs.Relations.{IsLawful};
 
 use crate::fault::LiveFault;
 use crate::journal_store::JournalStore;
@@ -40,7 +43,9 @@ pub(crate) fn start<F: OutputFiles, D: JournalStore + Drop>(
     files: &mut F,
     journal: Option<D>,
     line: &LiveLine<'_>,
-) -> Result<Started<D>, LiveFault> {
+) -> Result<Started<D>, LiveFault>
+    ensures { IfOk result (λ s. IsLawful (object_at s.city.1)) }
+{
     let Some(mut journal) = journal else {
         let city = read_model(alloc, files, line.model, line.decimals)?;
         let journal = Journaling::new(alloc, seed, line.decimals, None, Keys::new(alloc));
@@ -78,7 +83,9 @@ fn begin<F: OutputFiles, D: JournalStore + Drop>(
     files: &mut F,
     journal: D,
     line: &LiveLine<'_>,
-) -> Result<Started<D>, LiveFault> {
+) -> Result<Started<D>, LiveFault>
+    ensures { IfOk result (λ s. IsLawful (object_at s.city.1)) }
+{
     let mut journal = journal;
     let opened = open(alloc, seed, files, line, line.model)?;
     let keys = Keys::new(alloc);
@@ -105,7 +112,10 @@ fn resume<D: JournalStore + Drop>(
     journal: D,
     read: ReadJournal<'_>,
     decimals: bool,
-) -> Result<Started<D>, LiveFault> {
+) -> Result<Started<D>, LiveFault>
+    requires { IsLawful (object_at opened.city.1) }
+    ensures { IfOk result (λ s. IsLawful (object_at s.city.1)) }
+{
     let Opened {
         city,
         sum,
@@ -144,7 +154,9 @@ fn open_for<F: OutputFiles>(
     files: &mut F,
     read: &ReadJournal<'_>,
     line: &LiveLine<'_>,
-) -> Result<Opened, LiveFault> {
+) -> Result<Opened, LiveFault>
+    ensures { IfOk result (λ o. IsLawful (object_at o.city.1)) }
+{
     if let Some(path) = line.output {
         if !files.are_same(path, line.model) {
             if let Ok(opened) = open(alloc, seed, files, line, path) {
@@ -164,7 +176,9 @@ fn open<F: OutputFiles>(
     files: &mut F,
     line: &LiveLine<'_>,
     path: &str,
-) -> Result<Opened, LiveFault> {
+) -> Result<Opened, LiveFault>
+    ensures { IfOk result (λ o. IsLawful (object_at o.city.1)) }
+{
     let city = read_model(alloc, files, path, line.decimals)?;
     let sum = sum_of(alloc, seed, line.decimals, &city)?;
     let is_output = is_output(files, line, path);
@@ -181,7 +195,9 @@ fn read_model<F: OutputFiles>(
     files: &mut F,
     path: &str,
     decimals: bool,
-) -> Result<City, LiveFault> {
+) -> Result<City, LiveFault>
+    ensures { IfOk result (λ c. IsLawful (object_at c.1)) }
+{
     let mut text = Text::given(files.read(path)?);
     if decimals {
         encode_text(alloc, &mut text)?;
