@@ -35,29 +35,27 @@ more_left lines line told c h =
 -- all lines, and a part of another
 part_left : (lines : List (List ℕ)) (line : List ℕ) (told k : ℕ) (c : List ℕ) → AreLines lines → IsLine line
     → told ≤ length lines → k ≤ length line → c ≡ lines_text lines ++ take k (line ++ 10 ∷ []) → IsLeft lines told c
-part_left lines line told k c are is fits le eq =
-    (
-      length lines,
-      fits,
-      omega arith,
-      ap whole_lines eq ∙ lines_and lines (take k (line ++ 10 ∷ [])) are
+part_left lines line told k c are is fits le eq = (
+  length lines,
+  fits,
+  omega arith,
+  ap whole_lines eq ∙ lines_and lines (take k (line ++ 10 ∷ [])) are
       ∙ ap (λ w. lines ++ w) (part_of_line line k is le) ∙ append-nil lines
       ∙ sym (take_all (length lines) lines (omega arith)),
-    )
+)
 
 -- all lines, and another
 all_left : (lines : List (List ℕ)) (line : List ℕ) (told k : ℕ) (c : List ℕ) → AreLines lines → IsLine line
     → told ≤ length lines → length line < k → c ≡ lines_text lines ++ take k (line ++ 10 ∷ [])
     → IsLeft (lines ++ line ∷ []) told c
 all_left lines line told k c are is fits lt eq =
-    let all = take_all k (line ++ 10 ∷ []) (omega (arith, lt, length-append line (10 ∷ []))) in
-    (
+    let all = take_all k (line ++ 10 ∷ []) (omega (arith, lt, length-append line (10 ∷ []))) in (
       length (lines ++ line ∷ []),
       omega (arith, fits, length_more lines line),
       omega arith,
       ap whole_lines (eq ∙ ap (λ t. lines_text lines ++ t) all) ∙ lines_and lines (line ++ 10 ∷ []) are
-      ∙ ap (λ w. lines ++ w) (line_first line [] is)
-      ∙ sym (take_all (length (lines ++ line ∷ [])) (lines ++ line ∷ []) (omega arith)),
+          ∙ ap (λ w. lines ++ w) (line_first line [] is)
+          ∙ sym (take_all (length (lines ++ line ∷ [])) (lines ++ line ∷ []) (omega arith)),
     )
 
 left_cut : (lines : List (List ℕ)) (line : List ℕ) (told k : ℕ) (c : List ℕ) → AreLines lines → IsLine line
@@ -114,14 +112,17 @@ module _ {F : Type 0} (seen : F → Option (List ℕ)) (may_leave : F → List �
   pub gains : (line : List ℕ) → IsLine line → Appends (seen old) (seen new) (line ++ 10 ∷ [])
       → IfSome (seen old) (λ s. LeavesMore (may_leave old) (may_leave new) s (line ++ 10 ∷ []))
       → Gains seen may_leave old new
-  gains line is bytes left lines told h = (line, record {
-    has = appended (seen new) (lines_text lines) (line ++ 10 ∷ []) (rw h.has at bytes)
-        ∙ ap Some (sym (more_lines lines line));
-    are_lines = are_more lines line h.are_lines is;
-    fits = omega (arith, h.fits, length-append lines (line ∷ []));
-    left = λ c now. left_more lines line told c (may_leave old c) h.are_lines is h.fits (h.left c)
-        ((rw h.has at left) c now);
-  })
+  gains line is bytes left lines told h = (
+    line,
+    record {
+      has = appended (seen new) (lines_text lines) (line ++ 10 ∷ []) (rw h.has at bytes)
+          ∙ ap Some (sym (more_lines lines line));
+      are_lines = are_more lines line h.are_lines is;
+      fits = omega (arith, h.fits, length-append lines (line ∷ []));
+      left = λ c now. left_more lines line told c (may_leave old c) h.are_lines is h.fits (h.left c)
+          ((rw h.has at left) c now);
+    },
+  )
 
   pub stays : (line : List ℕ) → IsLine line → Keeps (seen old) (seen new)
       → IfSome (seen old) (λ s. LeavesPart (may_leave old) (may_leave new) s (line ++ 10 ∷ []))
@@ -156,7 +157,7 @@ module _ {F : Type 0} (seen : F → Option (List ℕ)) (may_leave : F → List �
           omega arith,
           omega arith,
           ap whole_lines (left c now ∙ sym (append-nil (lines_text lines))) ∙ lines_and lines [] h.are_lines
-          ∙ append-nil lines ∙ sym (take_all (length lines) lines (omega arith)),
+              ∙ append-nil lines ∙ sym (take_all (length lines) lines (omega arith)),
         );
       }
 
@@ -174,7 +175,7 @@ module _ {F : Type 0} (seen : F → Option (List ℕ)) (may_leave : F → List �
           omega arith,
           omega arith,
           ap whole_lines (left c now ∙ sym (append-nil (lines_text lines))) ∙ lines_and lines [] h.are_lines
-          ∙ append-nil lines ∙ sym (take_all (length lines) lines (omega arith)),
+              ∙ append-nil lines ∙ sym (take_all (length lines) lines (omega arith)),
         );
       }
 

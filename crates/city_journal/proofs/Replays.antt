@@ -31,10 +31,10 @@ pub one_array_more : (decimals : Bool) (n : ℕ) (commits : List Commit) (m betw
     → Replays decimals ns (scripts_of (drop n commits)) between after
     → Replays decimals (n ∷ ns) (scripts_of commits) m after
 one_array_more decimals n commits m between leads ns after rest = (
-      between,
-      rw (take-map (λ e. e.script.now) n commits) leads,
-      rw (drop-map (λ e. e.script.now) n commits) rest,
-    )
+  between,
+  rw (take-map (λ e. e.script.now) n commits) leads,
+  rw (drop-map (λ e. e.script.now) n commits) rest,
+)
 
 pub drop_twice : {X : Type 0} (n i : ℕ) (xs : List X) → drop n (drop i xs) ≡ drop (i + n) xs
 drop_twice n zero xs = let e : n ≡ 0 + n = omega arith in ap (λ k. drop k xs) e

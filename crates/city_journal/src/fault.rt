@@ -29,13 +29,18 @@ impl Display for JournalFault {
             JournalFault::OutOfMemory => f.write_str("out of memory"),
             JournalFault::NoJournal => f.write_str("journal: the first line is no journal's"),
             JournalFault::OtherNumbers(true) => f.write_str("journal: its numbers need --decimals"),
-            JournalFault::OtherNumbers(false) => f.write_str("journal: its numbers are whole, without --decimals"),
+            JournalFault::OtherNumbers(false) => f.write_str(
+                "journal: its numbers are whole, without --decimals",
+            ),
             JournalFault::BadLine(n) => write!(f, "journal: line {n} is damaged"),
             JournalFault::BadVersion(n) => write!(f, "journal: line {n} has not the next version"),
             JournalFault::OtherModel(own, model) => {
                 write!(f, "journal: it is over the model {own}, not over {model}")
             }
-            JournalFault::BadCommit(n) => write!(f, "journal: the commit of version {n} can't be made again"),
+            JournalFault::BadCommit(n) => write!(
+                f,
+                "journal: the commit of version {n} can't be made again"
+            ),
         }
     }
 }

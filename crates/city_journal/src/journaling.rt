@@ -5,10 +5,10 @@ ghost use Rattle.city_journal.specs.Kept.{Gains, GoesBy, MayTell, Stays};
 
 use crate::file::JournalFile;
 use crate::keys::{Keys, Made};
-use city_live::{Entry, Journal, Unwritten};
 use crate::model_sum::ModelSum;
 use crate::noting::{note, sync};
 use crate::write_line::{append_beginning, commit_line, saved_line};
+use city_live::{Entry, Journal, Unwritten};
 use city_members::copied::Copied;
 use city_members::text::Text;
 use city_model::OutOfMemory;
@@ -162,7 +162,8 @@ impl<F: JournalFile> Journaling<F> {
             return Ok(());
         };
         let room = Vec::new(self.alloc);
-        let Ok(lines) = append_beginning(self.alloc, room, sum, self.decimals, version, &self.keys) else {
+        let Ok(lines) = append_beginning(self.alloc, room, sum, self.decimals, version, &self.keys)
+        else {
             return Err(Unwritten::OutOfMemory);
         };
         match file.begin(lines.as_slice(), version) {
@@ -198,14 +199,7 @@ impl<F: JournalFile> Journaling<F> {
         if self.file.is_none() {
             return Ok(Vec::new(self.alloc));
         }
-        commit_line(
-            self.alloc,
-            self.seed,
-            self.decimals,
-            entry,
-            key,
-            self.time,
-        )
+        commit_line(self.alloc, self.seed, self.decimals, entry, key, self.time)
     }
 }
 

@@ -15,7 +15,11 @@ fn sum_of(before: &[u8], behind: &[u8]) -> u64 {
 }
 
 /// The digits of a line's sum.
-pub(crate) fn sum_digits(alloc: Global, before: &[u8], behind: &[u8]) -> Result<String, AllocError> {
+pub(crate) fn sum_digits(
+    alloc: Global,
+    before: &[u8],
+    behind: &[u8],
+) -> Result<String, AllocError> {
     let sum = sum_of(before, behind);
     format!(in alloc; "{sum:016x}")
 }

@@ -72,12 +72,19 @@ impl<'a> Reading<'a> {
     }
 
     /// Takes the line of a commit.
-    fn take_commit(&mut self, commit: CommitLine<'a>, number: usize) -> Result<Taken, JournalFault> {
+    fn take_commit(
+        &mut self,
+        commit: CommitLine<'a>,
+        number: usize,
+    ) -> Result<Taken, JournalFault> {
         if Some(commit.version) != self.version.checked_add(1) {
             return Err(JournalFault::BadVersion(number));
         }
         if let Some(key) = commit.key {
-            let (Some(key), Some(name)) = (text_of(self.alloc, key)?, name_of(self.alloc, commit.script)?) else {
+            let (Some(key), Some(name)) = (
+                text_of(self.alloc, key)?,
+                name_of(self.alloc, commit.script)?,
+            ) else {
                 return Ok(Taken::Damaged);
             };
             self.keys.note(&key, &name, commit.version)?;
@@ -92,7 +99,10 @@ impl<'a> Reading<'a> {
 
     /// Takes the line of a key.
     fn take_key(&mut self, line: KeyLine<'a>) -> Result<Taken, JournalFault> {
-        let (Some(key), Some(name)) = (text_of(self.alloc, line.key)?, text_of(self.alloc, line.name)?) else {
+        let (Some(key), Some(name)) = (
+            text_of(self.alloc, line.key)?,
+            text_of(self.alloc, line.name)?,
+        ) else {
             return Ok(Taken::Damaged);
         };
         self.keys.note(&key, &name, line.version)?;

@@ -93,11 +93,7 @@ fn replay_some(
 }
 
 /// The array of the commits' scripts; with `decimals`, encoded.
-fn array_of(
-    alloc: Global,
-    decimals: bool,
-    commits: &[Commit<'_>],
-) -> Result<Vec<u8>, JournalFault>
+fn array_of(alloc: Global, decimals: bool, commits: &[Commit<'_>]) -> Result<Vec<u8>, JournalFault>
     ensures { IfOk result (λ text. IsArrayOf decimals (scripts_of commits.now) text.items) }
 {
     let text = plain_array_of(alloc, commits)?;

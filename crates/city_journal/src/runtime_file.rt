@@ -82,7 +82,11 @@ impl<'a, R: Files<File = File> + AllocGlobal + Clock> RuntimeFile<'a, R> {
 }
 
 /// Keeps the journal of a path under a name with this number too: the first that no other file has.
-fn keep_old<R: Files<File = File> + AllocGlobal>(rt: &R, path: &str, number: u64) -> io::Result<()> {
+fn keep_old<R: Files<File = File> + AllocGlobal>(
+    rt: &R,
+    path: &str,
+    number: u64,
+) -> io::Result<()> {
     let real = match fs::canonicalize(rt, path) {
         Ok(real) => real,
         Err(error) if error.kind() == ErrorKind::NotFound => return Ok(()),

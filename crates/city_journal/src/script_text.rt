@@ -2,9 +2,9 @@
 ghost use Rattle.std.specs.Prelude.{◌≡◌, ◌∷◌, [], IfOk};
 ghost use Rattle.city_writer.specs.script.Canonical.{scripts_text};
 
-use city_live::{Commands, Entry, Unwritten};
 use crate::steps::script_of_steps;
 use city_decimals::{DecimalsFault, decode};
+use city_live::{Commands, Entry, Unwritten};
 use city_model::OutOfMemory;
 use city_model::script::Script;
 use city_scripts::write_scripts;

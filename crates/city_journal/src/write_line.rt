@@ -1,9 +1,9 @@
 //! The lines of a journal, written.
 use crate::keys::Keys;
 use crate::line_sum::sum_digits;
-use city_live::{Entry, Unwritten};
 use crate::model_sum::ModelSum;
 use crate::script_text::script_text;
+use city_live::{Entry, Unwritten};
 use city_members::text::Text;
 use city_model::OutOfMemory;
 use json::Writer;
@@ -36,7 +36,9 @@ fn base_line(
     let mut out = bytes;
     out.extend_from_slice(b"{\"base\":\"")?;
     out.extend_from_slice(&sum.digits())?;
-    let rest = format!(in alloc; "\",\"cityed\":1,\"decimals\":{decimals},\"version\":{version}}}\n")?;
+    let rest = format!(in alloc;
+        "\",\"cityed\":1,\"decimals\":{decimals},\"version\":{version}}}\n"
+    )?;
     out.extend_from_slice(rest.as_bytes())?;
     Ok(out)
 }

@@ -16,7 +16,7 @@ loop-at-preserved c =
       c.in_ok-next.ensures.lawful,
       search rules,
       λ ns m h. l.invariant.3 (n ∷ ns) m
-      (one_slice_more c.args.decimals l.at n c.args.commits.now _ _ c.in_ok-next.ensures.leads ns m h),
+          (one_slice_more c.args.decimals l.at n c.args.commits.now _ _ c.in_ok-next.ensures.leads ns m h),
     )
 
 pub returns-clause-replayed : goal.returns-clause-replayed
