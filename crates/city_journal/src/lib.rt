@@ -25,8 +25,6 @@ mod replaying;
 mod runtime_file;
 mod script_text;
 mod steps;
-#[cfg(test)]
-mod tests;
 mod write_line;
 
 pub use fault::JournalFault;
