@@ -1152,6 +1152,15 @@ class _City:
         self._link = _Link(self._source, self._program, self._options)
         return self
 
+    def attempts(self, hand=None, *, name=None, timeout=None, most=10):
+        """for t in city.attempts("ann"): with t: .., or async with t: .., runs its block again where the model changed under it."""
+        for left in range(most, 0, -1):
+            t = self.transaction(hand, name=name, timeout=timeout)
+            t.again = left > 1
+            yield t
+            if not t.again or t.end is None or t.end.outcome == "committed":
+                return
+
     async def _request(self, members, timeout=None):
         answer = await self._answer({"hand": self.hand + " looks", **members}, timeout)
         if "error" in answer:
@@ -1319,15 +1328,6 @@ class City(_City, _Verbs):
     def transaction(self, hand=None, *, name=None, timeout=None):
         """Locks what it touches until it ends.  `timeout`: for how many seconds a command may wait for a lock."""
         return Transaction(self, hand or self.hand, name or hand or self.hand, timeout)
-
-    def attempts(self, hand=None, *, name=None, timeout=None, most=10):
-        """for t in city.attempts("ann"): with t: .. runs its block again where the model changed under it."""
-        for left in range(most, 0, -1):
-            t = self.transaction(hand, name=name, timeout=timeout)
-            t.again = left > 1
-            yield t
-            if not t.again or t.end is None or t.end.outcome == "committed":
-                return
 
     def run(self, function, hand=None, *, name=None, timeout=None, most=10):
         """What `function(t)` gives, which is called again where the model changed under it."""
@@ -1529,15 +1529,16 @@ MODEL is a file, for which a program is started, or unix:PATH of a gateway. Each
   extract ID FILE            take-out ID FILE           into a file of its own; take-out deletes it here
   flag NAME=VALUE where ..   of all objects with type=TYPE, NAME=VALUE, NAME!=VALUE, NAME<VALUE, NAME>VALUE, NAME?
   look ID ..                 ids                        prints objects, or ids with types
-  save                       save-as FILE               the model is written; without it nothing is
+  save                       save FILE                  the model is written; without it nothing is
 
 A word that begins with : is taken without it, so :set is an id. NAME? means that there is one. --whole: numbers are
 whole alone. --in-parts: a merge or a flag of many objects is several transactions. If a verb can't be done a sentence
 says why, nothing is saved, and the status is 1."""
 
 LEAST = {"set": 2, "unset": 2, "delete": 1, "rename": 2, "retype": 2, "move": 4, "raise": 3, "split": 3, "copy": 2,
-         "copy-as": 3, "merge": 1, "extract": 2, "take-out": 2, "flag": 3, "look": 1, "ids": 0, "save": 0, "save-as": 1}
+         "copy-as": 3, "merge": 1, "extract": 2, "take-out": 2, "flag": 3, "look": 1, "ids": 0, "save": 0}
 MOST = {verb: least for verb, least in LEAST.items() if verb not in ("set", "unset", "delete", "split", "flag", "look")}
+MOST["save"] = 1
 
 
 class _BadLine(Exception):
@@ -1636,7 +1637,7 @@ def _do_verb(city, verb, given, in_parts):
     elif verb == "ids":
         for id, kind in city.ids().items():
             print(dumps([id, kind]))
-    elif verb in ("save", "save-as"):
+    elif verb == "save":
         city.save()
     elif verb == "merge":
         notes = city.merge(*given, in_parts=in_parts)
@@ -1655,12 +1656,12 @@ def _check_chain(chain, is_file):
             _pairs(given[1:])
         elif verb == "flag":
             _flagged(given)
-    saves = [given for verb, *given in chain if verb in ("save", "save-as")]
+    saves = [given for verb, *given in chain if verb == "save"]
     if len({tuple(given) for given in saves}) > 1:
         raise _BadLine("the chain saves to more than one file")
     if saves and saves[0] and not is_file:
         raise _BadLine("a gateway's city is saved where its engine saves it")
-    changes = [verb for verb, *_ in chain if verb not in ("look", "ids", "extract", "save", "save-as")]
+    changes = [verb for verb, *_ in chain if verb not in ("look", "ids", "extract", "save")]
     if is_file and changes and not saves:
         raise _BadLine("the chain changes the model, and doesn't save it")
     return saves[0][0] if saves and saves[0] else None
@@ -1689,7 +1690,7 @@ def main(words=None):
         return 2
     verb = "start"
     try:
-        saves = any(verb in ("save", "save-as") for verb, *_ in chain)
+        saves = any(verb == "save" for verb, *_ in chain)
         options = {"program": given.program, "decimals": not given.whole, "hand": given.hand}
         with City(model, output=output, save=saves, **options) as city:
             for verb, *rest in chain:

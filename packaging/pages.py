@@ -29,19 +29,26 @@ def is_installed(page, target, names):
     return place in names or any(it.startswith(place + "/") for it in names)
 
 
+def installed(commands):
+    """Commands, for the installed program and the installed client."""
+    for built, there in ((BUILT, "cityed"), ("python3 live/cityed.py", "python3 -m cityed"), ("PYTHONPATH=live ", "")):
+        commands = commands.replace(built, there)
+    return commands
+
+
 def page(name, text, names):
     """A page: its commands call the installed program, and a link to what isn't installed is its words."""
     linked = lambda it: it[0] if is_installed(name, it[2], names) else it[1]
     parts, at = [], 0
     for fence in FENCE.finditer(text):
-        parts += [LINK.sub(linked, text[at : fence.start()]), fence[0].replace(BUILT, "cityed")]
+        parts += [LINK.sub(linked, text[at : fence.start()]), installed(fence[0])]
         at = fence.end()
     return "".join(parts) + LINK.sub(linked, text[at:])
 
 
 def example(text):
     """An example: the program that it calls is the installed one."""
-    return text.replace(f'Path(__file__).resolve().parents[2] / "{BUILT}"', '"/usr/bin/cityed"')
+    return re.sub(rf'Path\(__file__\)\.resolve\(\)\.parents\[\d\] / "{BUILT}"', '"/usr/bin/cityed"', text)
 
 
 def pages():

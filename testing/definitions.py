@@ -59,7 +59,7 @@ class File:
     def words(self, name):
         """The names in a definition's text."""
         code = re.sub(r"--.*", "", "\n".join(self.lines[name]))
-        found = set(re.findall(r"[A-Za-z_][\w'-]*", code))
+        found = set(re.findall(r"[A-Za-z_][\w'-]*", code)) | set(re.findall(r"[A-Za-z_]\w*\.[A-Za-z_][\w'-]*", code))
         signs = [it for it in [*self.imports, *self.lines] if it.startswith("◌")]
         found |= {it for it in signs if all(part in code for part in it.split("◌") if part)}
         return found | ({BIND} if re.search(r"\bdo\b", code) else set())
@@ -100,7 +100,9 @@ class Reached:
 
     def outside(self, file, word):
         """What an imported word names, as a list."""
-        module, name = file.imports.get(word, ("", None))
+        head, _, inner = word.partition(".")
+        module, name = file.imports.get(head, ("", None))
+        name = name or inner  # of a module that is imported under a word
         declared = re.fullmatch(r"Rattle\.(\w+)\.specs\.declared\.([\w.]+?)(?:\.TheVariants)?", module)
         if declared and (CRATES / declared[1]).is_dir():
             self.types.add((declared[1], *declared[2].rsplit(".", 1)))

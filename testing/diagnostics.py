@@ -96,6 +96,8 @@ def form_of_text(text):
         return "empty"
     if text.startswith(b"\xef\xbb\xbf"):
         return "byte order mark"
+    if text.startswith(b"\x1f\x8b"):
+        return "gzip"
     if text[:2] in (b"\xfe\xff", b"\xff\xfe") or 0 in text[:2]:
         return "UTF-16"
     return None

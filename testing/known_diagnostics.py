@@ -248,7 +248,7 @@ SCRIPTS = [
             of_scripts(7, "BadCommand", script=0, command=10, rule="geometry", part="geometry"),
             of_scripts(7, "BadCommand", script=0, command=11, rule="geometry", geometry=0, part="lod"),
             of_scripts(7, "BadCommand", script=0, command=12, rule="unsupported", name="MultiPoint", geometry=1),
-            of_scripts(7, "BadCommand", script=0, command=14, rule="no command", given="attributes"),
+            of_scripts(7, "BadCommand", script=0, command=14, rule="no command", given="reset", nearest="set"),
             of_scripts(
                 8, "BadVertex", script=0, command=13, geometry=0, lod="1", surface=0, ring=1, item=2, position=-1, vertices=3
             ),

@@ -223,6 +223,11 @@ class Async(Base, unittest.IsolatedAsyncioTestCase):
                 await e.look("garden")
                 e.set("garden", use="orchard")
 
+            for t in city.attempts("cid"):
+                async with t:
+                    await t.set("lime", crown=(await t.read("lime"))["crown"] + 1)
+            self.assertEqual((await city.look("lime"))["crown"], 5.5)
+
             async def more(t):
                 n = (await t.read("mill-lane-3"))["storeys"]
                 await asyncio.sleep(0)

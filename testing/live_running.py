@@ -33,6 +33,11 @@ DIRECT = build_opener(ProxyHandler({}))
 GIVEN = argparse.Namespace(live="cityed --live")
 
 
+def patience(seconds):
+    """So many seconds, and as many times more as the machine has more to do than it has processors."""
+    return seconds * max(1, os.getloadavg()[0] / os.cpu_count())
+
+
 def free_port():
     with socket.socket() as it:
         it.bind(("127.0.0.1", 0))
@@ -60,7 +65,7 @@ class Running:
         self.words = [sys.executable, gateway, *doors, *options, "--", *engine, self.model]
         self.log = open(self.path / "log", "wb")
         self.start()
-        until = time.monotonic() + wait
+        until = time.monotonic() + patience(wait)
         while self.health().get("engine") != "up":
             if time.monotonic() > until or self.process.poll() is not None:
                 raise AssertionError("it didn't start: " + self.close()[-2000:])
@@ -70,14 +75,15 @@ class Running:
         self.process = subprocess.Popen([str(it) for it in self.words], stderr=self.log)
 
     def get(self, path):
-        with DIRECT.open("http://127.0.0.1:%d%s" % (self.port, path), timeout=5) as answer:
+        with DIRECT.open("http://127.0.0.1:%d%s" % (self.port, path), timeout=patience(5)) as answer:
             return answer.read().decode()
 
     def health(self):
         try:
-            return json.loads(self.get("/health"))
-        except HTTPError as error:  # the engine is down
-            return json.load(error)
+            try:
+                return json.loads(self.get("/health"))
+            except HTTPError as error:  # the engine is down
+                return json.load(error)
         except OSError:
             return {}
 
@@ -93,7 +99,7 @@ class Running:
         """What it logged."""
         self.process.send_signal(signal.SIGTERM)
         try:
-            self.process.wait(60)
+            self.process.wait(patience(60))
         except subprocess.TimeoutExpired:
             self.process.kill()
             self.process.wait()
@@ -138,7 +144,7 @@ class Page:
                 if message.type != aiohttp.WSMsgType.TEXT:
                     raise EOFError(str(message))
                 self.inbox += [json.loads(x, parse_float=str) for x in message.data.split("\n")]
-        return await asyncio.wait_for(find(), seconds)
+        return await asyncio.wait_for(find(), patience(seconds))
 
     async def send(self, **members):
         self.number += 1

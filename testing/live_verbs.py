@@ -167,7 +167,7 @@ class Verbs(Base):
             return ran.returncode, ran.stdout, ran.stderr
         before = self.path.read_bytes()
         chain = ["set", "mill-lane-3", "storeys=3", "roof=steep", "delete", "lime", "rename", "mill-lane-1", "set",
-                 "flag", "old=true", "where", "type=Building", "built<1950", "save-as", out]
+                 "flag", "old=true", "where", "type=Building", "built<1950", "save", out]
         self.assertEqual(line(self.path, *chain)[0], 0)
         self.assertEqual(self.path.read_bytes(), before)
         objects = loads(out.read_text())["CityObjects"]

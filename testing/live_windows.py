@@ -3,7 +3,7 @@ import os
 import sys
 import time
 
-from live_running import GIVEN
+from live_running import GIVEN, patience
 
 try:
     from selenium import webdriver
@@ -25,15 +25,16 @@ WORDS = ("--headless=new", "--no-sandbox", "--hide-scrollbars", "--force-device-
 AXE = "/usr/share/javascript/axe-core/axe.min.js"
 
 
-def browser(size="1360,820", dark=False):
+def browser(size="1360,820", dark=False, insecure=False):
     options = webdriver.ChromeOptions()
     options.binary_location = CHROMIUM
     for word in (*WORDS, "--window-size=" + size):
         options.add_argument(word)
     options.set_capability("goog:loggingPrefs", {"browser": "ALL"})
+    options.set_capability("acceptInsecureCerts", insecure)
     driver = webdriver.Chrome(service=Service(DRIVER), options=options)
-    driver.set_page_load_timeout(60)
-    driver.set_script_timeout(60)
+    driver.set_page_load_timeout(patience(60))
+    driver.set_script_timeout(patience(60))
     features = [{"name": "prefers-color-scheme", "value": "dark" if dark else "light"}]
     driver.execute_cdp_cmd("Emulation.setEmulatedMedia", {"features": features})
     return driver
@@ -41,13 +42,13 @@ def browser(size="1360,820", dark=False):
 
 def until(what, seconds=15.0):
     """How long it took until `what()` is true."""
-    started = time.monotonic()
+    started, most = time.monotonic(), patience(seconds)
     while True:
         found = what()
         if found:
             return time.monotonic() - started
-        if time.monotonic() - started > seconds:
-            raise AssertionError("it didn't come true in %s seconds" % seconds)
+        if time.monotonic() - started > most:
+            raise AssertionError("it didn't come true in %.0f seconds" % most)
         time.sleep(0.02)
 
 
@@ -149,10 +150,12 @@ const ground = (it) => {
   }
   return getComputedStyle(document.body).backgroundColor;
 };
-const hasText = (it) => it.offsetParent && [...it.childNodes].some((n) => n.nodeType === 3 && n.data.trim());
+const hasText = (it) => it.offsetParent
+  && (it.placeholder || [...it.childNodes].some((n) => n.nodeType === 3 && n.data.trim()));
 return [...document.querySelectorAll('header *, aside *')].filter(hasText).map((it) => {
-  const [a, b] = [light(getComputedStyle(it).color), light(ground(it))].sort((x, y) => y - x);
-  return [it.textContent.slice(0, 40), (a + 0.05) / (b + 0.05), it.disabled ? 3 : 4.5];
+  const ink = getComputedStyle(it, it.placeholder ? '::placeholder' : null).color;
+  const [a, b] = [light(ink), light(ground(it))].sort((x, y) => y - x);
+  return [it.placeholder ?? it.textContent.slice(0, 40), (a + 0.05) / (b + 0.05), it.disabled ? 3 : 4.5];
 }).filter(([, is, least]) => is < least);
 """
 # The controls that a screen reader has no name for.
@@ -161,22 +164,24 @@ const controls = [...document.querySelectorAll('button, input, [role=application
 const named = (it) => it.getAttribute('aria-label') || it.textContent.trim() || it.labels?.length;
 return controls.filter((it) => it.type !== 'file' && it.offsetParent && !named(it)).map((it) => it.outerHTML);
 """
-# 120 frames of panning over a share of the city's width, once what is in view is drawn; the script time of each.
-PANS = """
+# A share of the city's width is in view, and drawn.
+SHOWN = """
 const [share, done] = arguments, plan = cityed.app.plan, b = cityed.app.city.box();
 const [x, y] = [(b[0] + b[3]) / 2, (b[1] + b[4]) / 2];
 const half = [(b[3] - b[0]) * share / 2, (b[4] - b[1]) * share / 2];
 plan.fit([x - half[0], y - half[1], 0, x + half[0], y + half[1], 0], 1);
-const still = () => plan.jobs.size || plan.drawing ? setTimeout(still, 50) : begin();
-const begin = () => {
-  let n = 0;
-  plan.times.length = 0;
-  const step = () => {
-    if (++n > 120) return done(plan.times.slice());
-    plan.pan(n <= 60 ? 6 : -6, n % 2 ? 3 : -3);
-    requestAnimationFrame(step);
-  };
-  step();
-};
+const still = () => plan.jobs.size || plan.drawing ? setTimeout(still, 50) : done();
 setTimeout(still, 300);
+"""
+# 120 frames of panning; the script time of each.
+PANS = """
+const [done] = arguments, plan = cityed.app.plan;
+let n = 0;
+plan.times.length = 0;
+const step = () => {
+  if (++n > 120) return done(plan.times.slice());
+  plan.pan(n <= 60 ? 6 : -6, n % 2 ? 3 : -3);
+  requestAnimationFrame(step);
+};
+step();
 """

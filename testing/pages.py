@@ -48,6 +48,7 @@ SKIPPED = [
     (r"\bout/city_tests_tests\b|city_scenarios-unproved", "it wants another program", False),
     (r"\brt (try|fmt|seed|expand)\b", "minutes", True),
     (r"\btesting/pages\.py", "it is this script", False),
+    (r"^sudo |\bgateway\.py ", "it installs, or runs until it is ended", False),
     (r"\btesting/(hostile_texts|refused_calls|decimals)\.py", "minutes", True),
     (r"\bgrowth\.py|\bside_by_side\.py", "minutes", True),
     (r"\bmake_(city|scripts)\.py\b|/tmp/[\w-]+\.(input|output|json)", "texts of up to 60 MB", True),

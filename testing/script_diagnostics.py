@@ -21,6 +21,8 @@ MEMBERS = {
     "back": ["back"],
 }
 NAMES = sorted([*MEMBERS, *ENDS])
+# how many members of a command are compared with the names
+MOST_MEMBERS = 16
 RULES = {5: "type", 6: "unsupported", 7: "geometry"}
 
 
@@ -96,7 +98,7 @@ def bad_command(command):
         return {"rule": "no command"}
     name = next((name for name in MEMBERS if name in command), None)
     if name is None:
-        return no_command(min(command, default=None))
+        return nameless(command)
     for member in MEMBERS[name]:
         if member not in command:
             return {"rule": "missing", "member": member}
@@ -111,6 +113,12 @@ def bad_command(command):
 
 def no_command(given):
     return {"rule": "no command", "given": given, "nearest": None if given is None else nearest(given)}
+
+
+def nameless(command):
+    """What is told of an object that names no command: its member nearest to a name, or else its first one."""
+    near = [(found[0], member) for member in sorted(command)[:MOST_MEMBERS] if (found := near_name(member))]
+    return no_command(min(near)[1] if near else min(command, default=None))
 
 
 def shaped_in(command):
@@ -149,10 +157,16 @@ GIVEN = {"object": bad_object, "attributes": bad_attributes, "geometry": bad_geo
 
 def nearest(given):
     """The name of a command that this may be meant for, or None."""
+    found = near_name(given)
+    return found and found[1]
+
+
+def near_name(given):
+    """How far a word is from the nearest name of a command, and that name; or None."""
     if len(given) > max(map(len, NAMES)) + 2:
         return None
     distance, name = min((edits(given, name), name) for name in NAMES)
-    return name if distance <= 2 and distance < len(given) else None
+    return (distance, name) if distance <= 2 and distance < len(given) else None
 
 
 def edits(one, other):

@@ -1,5 +1,6 @@
 """Common mistakes, and what has to be told of each: what mistakes.py plays."""
 
+import gzip
 from dataclasses import dataclass, field
 
 MODEL = b"""{
@@ -185,6 +186,44 @@ CASES = [
     of_model(
         "a text in UTF-16", "2 NotJson", [], texts={NAMES[0]: MODEL.decode("utf-8").encode("utf-16")},
         what=["UTF-16"], members={"fault": "NotJson", "form": "UTF-16"},
+    ),
+    of_model(
+        "a model that gzip compressed", "2 NotJson", [], texts={NAMES[0]: gzip.compress(MODEL)}, what=["gzip"],
+        cure=["Decompress"], members={"fault": "NotJson", "form": "gzip"},
+    ),
+    of_model(
+        "NaN as a number", "2 NotJson", [(b'"height": 9', b'"height": NaN')],
+        where=[r"line 8\b"], what=["NaN"], members={"fault": "NotJson", "line": 8, "reason": "NaN is no number of JSON"},
+    ),
+    of_model(
+        "two models in one file", "2 NotJson", [], texts={NAMES[0]: MODEL + MODEL},
+        where=[r"line 20\b"], what=["second line"], members={"fault": "NotJson", "line": 20},
+    ),
+    of_model(
+        "a comma too many in the model", "2 NotJson", [(b'"height": 9', b'"height": 9,')],
+        where=[r"line 8\b"], what=["a name in quotes"], members={"fault": "NotJson", "line": 8},
+    ),
+    of_model(
+        "an older version", '4 NotCityJson "version"', [(b'"2.0"', b'"1.1"')],
+        where=["version"], what=[r"1\.1"], cure=["Upgrade"],
+        members={"fault": "NotCityJson", "member": "version", "given": "1.1"},
+    ),
+    of_scripts(
+        "a misspelt set, whose attributes come first", "7 BadCommand 0 0",
+        [(READ, b'{"sett": "b12", "attributes": {"height": 9}}')],
+        where=["script 0\\b.*command 0\\b"], what=['"sett"', '"set"'], cure=["name"],
+        members={"fault": "BadCommand", "command": 0, "rule": "no command", "given": "sett", "nearest": "set"},
+    ),
+    of_scripts(
+        "a put with parents", "7 BadCommand 0 0",
+        [(READ, b'{"put": "b13", "object": {"type": "BuildingPart", "parents": ["b12"]}}')],
+        where=["script 0\\b.*command 0\\b", 'object "b13"'], what=["parents"], cure=["attach"],
+        members={"fault": "BadCommand", "command": 0, "rule": "relations", "member": "parents"},
+    ),
+    of_scripts(
+        "a script without an end", "5 BadScript 0", [(b'}},\n      "commit"', b"}}")],
+        where=["script 0\\b"], what=["commit", "abort"], cure=["last command"],
+        members={"fault": "BadScript", "script": 0, "rule": "no end"},
     ),
     of_scripts(
         "a misspelt command", "7 BadCommand 0 0", [(b'{"read": "b12"}', b'{"raed": "b12"}')],

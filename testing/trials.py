@@ -44,6 +44,8 @@ TRIALS = {
     "live_client": ["live_client.py", CITYED],
     "live_gateway": ["live_gateway.py", CITYED],
     "live_page": ["live_page.py", CITYED],
+    "live_proxy": ["live_proxy.py", CITYED],
+    "mended_models": ["mended_models.py", CITYED],
     "counted_calls": ["counted_calls.py", CITYED, SCENARIOS],
     "refused_calls": ["refused_calls.py", CITYED],
     "decimals": ["decimals.py", CITYED],

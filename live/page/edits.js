@@ -6,6 +6,9 @@ import { openEdges } from "./shapes.js";
 
 export const key = (id, name) => `${id}\n${name}`;
 
+// Why something was refused: as the engine tells it, or its cause.
+const because = (it) => it.why?.message ?? [it.cause, it.id].filter(Boolean).join(" ");
+
 // By its key a commit is known to the engine, should the answer be lost.
 const hex = (n) => n.toString(16).padStart(2, "0");
 const newKey = () => [...crypto.getRandomValues(new Uint8Array(16))].map(hex).join("");
@@ -47,9 +50,9 @@ export class Edits {
       const changed = end.cause === "Unexpected";
       if (changed && what === "edit") this.conflicts.set(at, { mine: value });
       else if (changed) toast(`Not undone: ${name} of ${id} has been changed since.`, true);
-      else toast(`Refused: ${end.cause} ${end.id ?? ""}`, true);
+      else toast(`Refused: ${because(end)}`, true);
       app.history.add({ by: app.hand, own: true, told: [{ id, name, old: seen, now: value }],
-        refused: changed ? "refused: it has another value by now" : `refused: ${end.cause}` });
+        refused: changed ? "refused: it has another value by now" : `refused: ${because(end)}` });
     } catch (error) {
       toast(error.message, true);
     } finally {
@@ -74,21 +77,26 @@ export class Edits {
         toast(`${id} has its new shape.`);
         return true;
       }
-      app.history.add({ by: app.hand, own: true, told: [{ id, text: "new shape" }], refused: `refused: ${end.cause}` });
+      app.history.add({ by: app.hand, own: true, told: [{ id, text: "new shape" }],
+        refused: `refused: ${because(end)}` });
       if (end.cause === "OpenShell") this.tellOpen(id, geometry, vertices, end.why);
-      else toast(`Refused: ${end.cause}`, true);
+      else toast(`Refused: ${because(end)}`, true);
     } catch (error) {
       toast(error.message, true);
     }
     return false;
   }
 
+  // Shows where a shell is open: at the edges of the answer, which says how many `more` there are, or where it has none
+  // at those that are found here.
   tellOpen(id, geometry, vertices, why) {
     const place = (n) => this.app.city.place(vertices[n]);
     const ends = (it) => [this.app.city.place(it.from), this.app.city.place(it.to)];
     const told = why?.edges?.filter((it) => it.from && it.to).map(ends);
     const edges = told?.length ? told : openEdges(geometry, place);
-    toast(`Refused: a shell is open at ${edges.length} edges, shown in red. ${id} is as it was.`, true);
+    const some = told?.length && why.more ? `${edges.length + Number(why.more)} edges, the first ${edges.length}`
+      : `${edges.length} edges,`;
+    toast(`Refused: a shell is open at ${some} shown in red. ${id} is as it was.`, true);
     this.app.showOpen(edges);
   }
 
@@ -104,7 +112,8 @@ export class Edits {
   async undoShape({ id, old, now }) {
     const ask = async (members) => {
       const answer = await this.app.live.ask({ hand: "undo", ...members }, this.waits);
-      const fault = answer.error?.message ?? answer.refused?.cause ?? (answer.died && "Others are at it; try again.");
+      const fault = answer.error?.message ?? (answer.refused && because(answer.refused))
+        ?? (answer.died && "Others are at it; try again.");
       if (fault) throw new Error(fault);
       return answer;
     };

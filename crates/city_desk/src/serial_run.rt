@@ -51,6 +51,7 @@ pub fn run_serial_to_city(
     ensures city { IfOk result (λ r. r.0.bytes.items ≡ report_text r.0.ends ++ city_text r.1 ++ 10 ∷ []) }
     ensures report { IfOk result (λ r. r.0.report ≡ length (report_text r.0.ends)) }
     ensures lines { IfOk result (λ r. IsJsonOutput r.0.report r.0.bytes.items) }
+    ensures canonical { IfOk result (λ r. IsCanonicalText (city_text r.1) r.1) }
     ensures fault { IfErr result (λ f. IsSerialFault document.now scripts.now f) }
 {
     let (city, list) = read_texts(alloc, document, scripts)?;

@@ -1,2 +1,3 @@
 pub mod Prelude
 pub mod Floats
+pub mod Words

@@ -1,7 +1,15 @@
 //! The diagnostic of one fault.
+ghost use Rattle.std.specs.Prelude.{◌≡◌, IfOk, string_bytes};
+ghost use Rattle.city_details.specs.Why.{words_or, worded};
+
 use crate::details::Details;
 use city_model::OutOfMemory;
 use std::alloc::Global;
+
+/// Told of a fault without a message, and without a cure.
+const FAULT: &str = "It isn't as it should be.";
+
+const CURE: &str = "Correct it, or leave it out.";
 
 /// The place of a fault, a message, a cure, and further details.
 #[derive(Drop)]
@@ -26,6 +34,22 @@ impl Diagnostic {
         }
     }
 
+    /// The details, with the message and the cure over them. Neither is empty.
+    pub fn into_details(self) -> Result<Details, OutOfMemory>
+        ensures { IfOk result (λ details. details
+            ≡ worded (string_bytes self.message) self.cure.now self.details) }
+    {
+        let Diagnostic {
+            place: _,
+            message,
+            cure,
+            mut details,
+        } = self;
+        details.text("message", words_or(FAULT, message.as_str()))?;
+        details.text("cure", words_or(CURE, cure))?;
+        Ok(details)
+    }
+
     /// Returns the place, ready for narrower words: earlier words now end with a comma.
     pub(crate) fn narrowed(&mut self) -> Result<&mut String, OutOfMemory> {
         if !self.place.is_empty() {
@@ -45,4 +69,11 @@ impl Diagnostic {
         self.cure = cure;
         &mut self.message
     }
+}
+
+/// These words, or others if there are none.
+fn words_or<'w>(others: &'w str, words: &'w str) -> &'w str
+    ensures { result.now ≡ words_or others.now words.now }
+{
+    if words.is_empty() { others } else { words }
 }

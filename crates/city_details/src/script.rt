@@ -20,6 +20,7 @@ use crate::script::command::tell_bad_command;
 use crate::script::given::{narrow_to_object, shaped_tree};
 use crate::script::item::tell_bad_script;
 use crate::script::limits::tell_too_many;
+pub use crate::script::place::narrow_to_named;
 use crate::script::place::{command_at, narrow_to_command, narrow_to_script};
 use crate::shape::tell_bad_vertex;
 use city_model::OutOfMemory;

@@ -2,10 +2,12 @@
 //!
 //! - `nesting`: the nesting of boundaries; `walk`: their lists of surfaces and their rings; `place`: their places
 //! - `geometry`: unreadable geometries; `position`: positions without a vertex
+//! - `point_rings`: rings by their points, in a tree or in a model
 //! - `ring`: short rings, and rings with equal neighbours; `shell`: open shells
 mod geometry;
 mod nesting;
 mod place;
+mod point_rings;
 mod points;
 mod position;
 pub mod ring;

@@ -1,10 +1,12 @@
 //! Diagnostics of texts in general.
+mod expected;
 mod form;
 mod fraction;
 mod numeral;
 
 use crate::diagnostic::Diagnostic;
 use crate::path::path_text;
+use crate::text::expected::expected_in;
 use crate::text::form::TextForm;
 use crate::text::fraction::path_to_fraction;
 use crate::text::numeral::numeral_at;
@@ -22,6 +24,8 @@ const RESTORE: &str =
     "Restore it, and name the output by --output: a redirect onto the model empties it first.";
 
 const WITHOUT_MARK: &str = "Save it in UTF-8 without a byte order mark.";
+
+const DECOMPRESS: &str = "Decompress it first, as gunzip does.";
 
 const AS_UTF8: &str = "Save it in UTF-8.";
 
@@ -70,6 +74,7 @@ fn tell_form(form: TextForm, diagnostic: &mut Diagnostic) -> Result<(), OutOfMem
             "The text begins with a byte order mark, which isn't JSON.",
             WITHOUT_MARK,
         ),
+        TextForm::Gzip => ("The text is compressed by gzip.", DECOMPRESS),
         TextForm::Utf16 => ("The text is in UTF-16, and JSON is read in UTF-8.", AS_UTF8),
     };
     diagnostic.tell(message, cure)
@@ -85,33 +90,55 @@ fn tell_not_json(
     match Value::from_slice(alloc, text) {
         Ok(_tree) => diagnostic.tell("The text isn't JSON.", REPAIR),
         Err(error) if error.is_memory() => Err(OutOfMemory),
-        Err(error) => tell_error(alloc, &error, is_given, diagnostic),
+        Err(error) => tell_error(alloc, text, &error, is_given, diagnostic),
     }
 }
 
 /// Tells an error of the reader of JSON.
 fn tell_error(
     alloc: Global,
+    text: &[u8],
     error: &Error,
     is_given: bool,
     diagnostic: &mut Diagnostic,
 ) -> Result<(), OutOfMemory> {
+    if is_given {
+        narrow_to_error(error, diagnostic)?;
+    }
     let shown = error.to_string(alloc)?;
     let (reason, _) = shown
         .as_str()
         .split_once(" at line ")
         .unwrap_or((shown.as_str(), ""));
-    diagnostic.details.text("reason", reason)?;
-    if is_given {
-        narrow_to_error(error, diagnostic)?;
+    if reason == "number out of range" {
+        let message = "The text can't be read: a number in it is too large.";
+        return tell_reason(reason, message, diagnostic);
     }
-    let message = if error.is_eof() {
-        "The text isn't JSON: it ends too early."
-    } else if reason == "number out of range" {
-        "The text can't be read: a number in it is too large."
-    } else {
-        "The text isn't JSON."
-    };
+    if error.is_eof() {
+        return tell_reason(
+            reason,
+            "The text isn't JSON: it ends too early.",
+            diagnostic,
+        );
+    }
+    match expected_in(alloc, text)? {
+        None => tell_reason(reason, "The text isn't JSON.", diagnostic),
+        Some(expected) => {
+            let words = expected.words();
+            diagnostic.details.text("reason", words)?;
+            write!(diagnostic.told(REPAIR), "The text isn't JSON: {words}.")?;
+            Ok(())
+        }
+    }
+}
+
+/// Tells an error in these words, with the reader's reason.
+fn tell_reason(
+    reason: &str,
+    message: &str,
+    diagnostic: &mut Diagnostic,
+) -> Result<(), OutOfMemory> {
+    diagnostic.details.text("reason", reason)?;
     diagnostic.tell(message, REPAIR)
 }
 

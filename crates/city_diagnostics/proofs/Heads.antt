@@ -8,7 +8,9 @@ use Rattle.city_diagnostics.proofs.Prelude.{OutOfMemory, Relations, TooLong, Unk
 use Rattle.city_scripts.specs.declared.fault.ScriptFault.{ScriptFault}
 use Rattle.city_scripts.specs.AllFaults.{rank_of as script_rank_of}
 use Rattle.city_diagnostics.specs.ScriptLines.{TellsScript, script_name_of}
-use Rattle.city_diagnostics.specs.internal.Heads.{with_words, with_head, with_named, with_script_named}
+use Rattle.city_diagnostics.specs.internal.Heads.{with_head, with_named, with_script_named}
+use Rattle.city_details.specs.Why.{worded, told_message, told_cure}
+use Rattle.city_details.proofs.Words.{message_there, cure_there}
 
 -- a name in no fault's head
 record IsOther (k : List ℕ) : Type 0 where
@@ -40,35 +42,39 @@ still_told kind name n k d ms other told = record {
   text = get_member-put_apart (codes "text") k d ms other.no_text ∙ told.text;
   number = get_member-put_apart (codes "number") k d ms other.no_number ∙ told.number;
   fault = get_member-put_apart (codes "fault") k d ms other.no_fault ∙ told.fault;
-  message = (told.message.0, get_member-put_apart (codes "message") k d ms other.no_message ∙ told.message.1);
-  cure = (told.cure.0, get_member-put_apart (codes "cure") k d ms other.no_cure ∙ told.cure.1);
+  message = (
+    told.message.0,
+    told.message.1,
+    get_member-put_apart (codes "message") k d ms other.no_message ∙ told.message.2,
+  );
+  cure = (told.cure.0, told.cure.1, get_member-put_apart (codes "cure") k d ms other.no_cure ∙ told.cure.2);
 }
 
 headed : (kind name : List ℕ) (n : ℕ) (message cure : List ℕ) (ms : Members)
-    → TellsFault kind n name (object (with_head kind n name (with_words message cure ms)))
+    → TellsFault kind n name (object (with_head kind n name (worded message cure ms)))
 headed kind name n message cure ms = record {
   text = simp (get_member-put, get_member-put_apart);
   number = simp (get_member-put, get_member-put_apart);
   fault = simp get_member-put;
-  message = (message, simp (get_member-put, get_member-put_apart));
-  cure = (cure, simp (get_member-put, get_member-put_apart));
+  message = (told_message message, message_there message, simp (get_member-put, get_member-put_apart));
+  cure = (told_cure cure, cure_there cure, simp (get_member-put, get_member-put_apart));
 }
 
 -- a fault with one detail
 one_named : (kind name : List ℕ) (n : ℕ) (message cure : List ℕ) (ms : Members) (k : List ℕ) (d : Data) → IsOther k
-    → let head = with_head kind n name (with_words message cure ms) in
+    → let head = with_head kind n name (worded message cure ms) in
     TellsFault kind n name (object (put k d head)) × (get k (object (put k d head)) ≡ Some d)
 one_named kind name n message cure ms k d other =
-    let head = with_head kind n name (with_words message cure ms) in
+    let head = with_head kind n name (worded message cure ms) in
     (still_told kind name n k d head other (headed kind name n message cure ms), get_member-put k d head)
 
 -- a fault with two details
 two_named : (kind name : List ℕ) (n : ℕ) (message cure : List ℕ) (ms : Members) (k : List ℕ) (d : Data)
     (l : List ℕ) (e : Data) → IsOther k → IsOther l → same_id k l ≡ false
-    → let all = put l e (put k d (with_head kind n name (with_words message cure ms))) in
+    → let all = put l e (put k d (with_head kind n name (worded message cure ms))) in
     TellsFault kind n name (object all) × (get k (object all) ≡ Some d) × (get l (object all) ≡ Some e)
 two_named kind name n message cure ms k d l e other another apart =
-    let one = put k d (with_head kind n name (with_words message cure ms)) in
+    let one = put k d (with_head kind n name (worded message cure ms)) in
     let first = one_named kind name n message cure ms k d other in (
       still_told kind name n l e one another first.0,
       get_member-put_apart k l e one apart ∙ first.1,
@@ -77,7 +83,7 @@ two_named kind name n message cure ms k d l e other another apart =
 
 -- a fault of a document is told by its head and its details
 pub told : (f : ReadFault) (message cure : List ℕ) (ms : Members)
-    → Tells f (object (with_named f (with_head (codes "model") (rank_of f) (name_of f) (with_words message cure ms))))
+    → Tells f (object (with_named f (with_head (codes "model") (rank_of f) (name_of f) (worded message cure ms))))
 told OutOfMemory message cure ms =
     record { fault = headed (codes "model") (codes "OutOfMemory") 0 message cure ms; named = tt }
 told TooLong message cure ms =
@@ -123,7 +129,7 @@ told (OpenShell id) message cure ms =
 -- so is a fault of scripts
 pub script_told : (f : ScriptFault) (message cure : List ℕ) (ms : Members)
     → TellsScript f (object (with_script_named f
-    (with_head (codes "scripts") (script_rank_of f) (script_name_of f) (with_words message cure ms))))
+    (with_head (codes "scripts") (script_rank_of f) (script_name_of f) (worded message cure ms))))
 script_told ScriptFault.OutOfMemory message cure ms =
     record { fault = headed (codes "scripts") (codes "OutOfMemory") 0 message cure ms; named = tt }
 script_told ScriptFault.TooLong message cure ms =

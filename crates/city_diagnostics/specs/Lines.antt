@@ -1,5 +1,5 @@
 -- Lines for faults: each the compact text of a JSON object, and a newline.
-use Rattle.std.specs.Prelude.{◌≡◌, ◌==◌, ℕ, List, [], ◌∷◌, ◌++◌, Bool, true, false, not, Some, codes}
+use Rattle.std.specs.Prelude.{◌≡◌, ◌≢◌, ◌==◌, ℕ, List, [], ◌∷◌, ◌++◌, Bool, true, false, not, Some, codes}
 use Rattle.std.specs.List.{list_all}
 use Rattle.serde_json.specs.Data.{Data, Members, object, string, number, unsigned}
 use Rattle.serde_json.specs.Find.{get}
@@ -33,17 +33,17 @@ HasText name text d = get name d ≡ Some (string text)
 abbrev pub HasNumber : List ℕ → ℕ → Data → Type 0
 HasNumber name n d = get name d ≡ Some (number (unsigned n))
 
--- the member of this name is some text
-abbrev pub HasSomeText : List ℕ → Data → Type 0
-HasSomeText name d = (text : List ℕ) × HasText name text d
+-- the member of this name is some text, and not an empty one
+abbrev pub HasWords : List ℕ → Data → Type 0
+HasWords name d = (text : List ℕ) × (text ≢ []) × HasText name text d
 
 -- a fault of this number and name, in a text of this kind, with a message and a cure
 pub record TellsFault (kind : List ℕ) (n : ℕ) (name : List ℕ) (d : Data) : Type 0 where
   pub text : HasText (codes "text") kind d
   pub number : HasNumber (codes "number") n d
   pub fault : HasText (codes "fault") name d
-  pub message : HasSomeText (codes "message") d
-  pub cure : HasSomeText (codes "cure") d
+  pub message : HasWords (codes "message") d
+  pub cure : HasWords (codes "cure") d
 
 -- ---- all lines
 

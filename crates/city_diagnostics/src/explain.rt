@@ -4,10 +4,13 @@ mod shown;
 use crate::check::scripts::{script_text_fault_of, scripts_diagnostic};
 use crate::check::{document_diagnostic, document_faults, text_fault_of, tree_for};
 use crate::explain::shown::add_shown;
-use city_details::{Diagnostic, Document};
+use city_details::{
+    Diagnostic, Document, Refusal, RefusedAt, Sight, cause_name, refusal_diagnostic,
+};
 use city_doc::ReadFault;
 use city_model::OutOfMemory;
 use city_scripts::ScriptFault;
+pub use shown::shown_name;
 use std::alloc::Global;
 use std::slice;
 
@@ -38,6 +41,21 @@ pub fn explain_scripts(
     let tree = tree_for(alloc, text, script_text_fault_of(fault))?;
     let diagnostic = scripts_diagnostic(alloc, text, is_given, &tree, fault)?;
     explained(alloc, &diagnostic)
+}
+
+/// Explains a refused script: a line with its number and the cause, and then the same lines as of a fault.
+pub fn explain_refusal<S: Sight>(
+    alloc: Global,
+    at: RefusedAt<'_>,
+    refusal: Refusal<'_>,
+    sight: &S,
+) -> Result<String, OutOfMemory> {
+    let diagnostic = refusal_diagnostic(alloc, Some(at), refusal, sight)?;
+    let (script, cause) = (at.script, cause_name(refusal.cause));
+    let mut lines = format!(in alloc; "script {script} refused: {cause}\n")?;
+    let told = explained(alloc, &diagnostic)?;
+    lines.push_str(told.as_str())?;
+    Ok(lines)
 }
 
 /// The lines of a diagnostic, without empty ones.

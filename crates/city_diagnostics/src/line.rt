@@ -6,7 +6,7 @@ ghost use Rattle.city_scripts.specs.AllFaults.{rank_of as script_rank_of};
 ghost use Rattle.city_diagnostics.specs.Lines.{IsLineOf, IsLineOfMembers};
 ghost use Rattle.city_diagnostics.specs.ModelLines.{Tells, name_of};
 ghost use Rattle.city_diagnostics.specs.ScriptLines.{TellsScript, script_name_of};
-ghost use Rattle.city_diagnostics.specs.internal.Heads.{with_named, with_head, with_words};
+ghost use Rattle.city_diagnostics.specs.internal.Heads.{with_named, with_head};
 ghost use Rattle.city_diagnostics.specs.internal.Heads.{with_script_named, with_place};
 
 use city_details::{Details, Diagnostic};
@@ -24,7 +24,7 @@ pub fn document_line(
 ) -> Result<String, OutOfMemory>
     ensures { IfOk result (λ line. IsLineOf (Tells fault.now) (string_bytes line)) }
 {
-    let mut details = with_words(diagnostic)?;
+    let mut details = diagnostic.into_details()?;
     add_head(&mut details, "model", number_of(fault), name_of(fault))?;
     add_named(&mut details, fault)?;
     line_of(alloc, details)
@@ -38,7 +38,7 @@ pub fn script_line(
 ) -> Result<String, OutOfMemory>
     ensures { IfOk result (λ line. IsLineOf (TellsScript fault.now) (string_bytes line)) }
 {
-    let mut details = with_words(diagnostic)?;
+    let mut details = diagnostic.into_details()?;
     add_head(
         &mut details,
         "scripts",
@@ -110,22 +110,6 @@ fn add_named(details: &mut Details, fault: &ReadFault) -> Result<(), OutOfMemory
         ReadFault::Relations(id) => details.text("id", id.as_str()),
         ReadFault::OpenShell(id) => details.text("id", id.as_str()),
     }
-}
-
-/// The details of a fault, with its message and cure.
-fn with_words(diagnostic: Diagnostic) -> Result<Details, OutOfMemory>
-    ensures { IfOk result (λ details. details
-        ≡ with_words (string_bytes diagnostic.message) diagnostic.cure.now diagnostic.details) }
-{
-    let Diagnostic {
-        place: _,
-        message,
-        cure,
-        mut details,
-    } = diagnostic;
-    details.text("message", message.as_str())?;
-    details.text("cure", cure)?;
-    Ok(details)
 }
 
 /// Adds the kind of the faulty text, and the fault's number and name.

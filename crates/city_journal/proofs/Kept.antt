@@ -1,6 +1,6 @@
 -- What a crash leaves of lines.
-use Rattle.std.proofs.Common.{◌≡◌, ◌+◌, ◌<◌, ◌≤◌, ◌∙◌, ◌∷◌, ◌++◌, ◌⊎◌, inl, inr, ℕ, List, [], refl, sym, ap, length, take}
-use Rattle.std.proofs.Common.{Option, Some, None, append-nil, arith, IfSome, ap₂, ◌-◌, take-add}
+use Rattle.std.proofs.Common.{◌≡◌, ◌+◌, ◌<◌, ◌≤◌, ◌∙◌, ◌∷◌, ◌++◌, ◌⊎◌, inl, inr, ℕ, List, [], refl, sym, ap, subst, length, take}
+use Rattle.std.proofs.Common.{Option, Some, None, append-nil, arith, IfSome, is_some, true, ap₂, ◌-◌, take-add, OnOk, Result, Ok, Err}
 use Rattle.std.proofs.lemmas.Bool.{cases_lt}
 use Rattle.std.proofs.lemmas.List.{length-append, take_all, take-append-le, take_at, drop_at}
 use Rattle.std.specs.Io.KnownBytes.{Appends, Keeps}
@@ -111,9 +111,10 @@ grown_left synced bytes more new grown c left =
 module _ {F : Type 0} (seen : F → Option (List ℕ)) (may_leave : F → List ℕ → Type 0) (old new : F) where
   pub gains : (line : List ℕ) → IsLine line → Appends (seen old) (seen new) (line ++ 10 ∷ [])
       → IfSome (seen old) (λ s. LeavesMore (may_leave old) (may_leave new) s (line ++ 10 ∷ []))
-      → Gains seen may_leave old new
+      → Gains (λ l. l ≡ line) seen may_leave old new
   gains line is bytes left lines told h = (
     line,
+    refl,
     record {
       has = appended (seen new) (lines_text lines) (line ++ 10 ∷ []) (rw h.has at bytes)
           ∙ ap Some (sym (more_lines lines line));
@@ -187,3 +188,27 @@ pub may_tell_all : {F : Type 0} (seen : F → Option (List ℕ)) (may_leave : F 
     → IfSome file (λ f. IsKept (seen f) (may_leave f)) → GoesBy (MayTell seen may_leave) file file
 may_tell_all seen may_leave None h = refl
 may_tell_all seen may_leave (Some f) h = may_tell_synced seen may_leave f h
+
+-- what is gained is of another kind too
+pub gains_also : {F : Type 0} (seen : F → Option (List ℕ)) (may_leave : F → List ℕ → Type 0) (P Q : List ℕ → Type 0)
+    (old new : Option F) → (is_some old ≡ true → (l : List ℕ) → P l → Q l) → GoesBy (Gains P seen may_leave) old new
+    → GoesBy (Gains Q seen may_leave) old new
+gains_also seen may_leave P Q None new kinds h = h
+gains_also seen may_leave P Q (Some f) None kinds h = absurd h
+gains_also seen may_leave P Q (Some f) (Some g) kinds h =
+    λ lines told holds. let x = h lines told holds in (x.0, kinds refl x.0 x.1, x.2)
+
+-- the same of what is told at Ok
+pub noted_as : {F T E : Type 0} (seen : F → Option (List ℕ)) (may_leave : F → List ℕ → Type 0) (Q : List ℕ → Type 0)
+    (r : Result T E) (line : List ℕ) (old new : Option F) → (is_some old ≡ true → Q line)
+    → OnOk r (GoesBy (Gains (λ l. l ≡ line) seen may_leave) old new) → OnOk r (GoesBy (Gains Q seen may_leave) old new)
+noted_as seen may_leave Q (Ok x) line old new kind h =
+    gains_also seen may_leave (λ l. l ≡ line) Q old new (λ some l e. subst Q (sym e) (kind some)) h
+noted_as seen may_leave Q (Err x) line old new kind h = h
+
+pub saved_as : {F T E : Type 0} (seen : F → Option (List ℕ)) (may_leave : F → List ℕ → Type 0) (r : Result T E)
+    (x y : List ℕ) (o p new : Option F) → x ≡ y → o ≡ p → OnOk r (GoesBy (Gains (λ l. l ≡ x) seen may_leave) o new)
+    → OnOk r (GoesBy (Gains (λ l. l ≡ y) seen may_leave) p new)
+saved_as seen may_leave r x y o p new e f h =
+    subst (λ q. OnOk r (GoesBy (Gains (λ l. l ≡ y) seen may_leave) q new)) f
+    (subst (λ z. OnOk r (GoesBy (Gains (λ l. l ≡ z) seen may_leave) o new)) e h)

@@ -12,10 +12,10 @@ pub record Holds {F : Type 0} (seen : F → Option (List ℕ)) (may_leave : F �
   pub left : (c : List ℕ) → may_leave file c
       → (n : ℕ) × (told ≤ n) × (n ≤ length lines) × (whole_lines c ≡ take n lines)
 
--- the file gains one line, which nobody was told of
-abbrev pub Gains : {F : Type 0} → (F → Option (List ℕ)) → (F → List ℕ → Type 0) → F → F → Type 0
-Gains seen may_leave old new = (lines : List (List ℕ)) (told : ℕ) → Holds seen may_leave old lines told
-    → (line : List ℕ) × Holds seen may_leave new (lines ++ line ∷ []) told
+-- the file gains one line of this kind, which nobody was told of
+abbrev pub Gains : {F : Type 0} → (List ℕ → Type 0) → (F → Option (List ℕ)) → (F → List ℕ → Type 0) → F → F → Type 0
+Gains P seen may_leave old new = (lines : List (List ℕ)) (told : ℕ) → Holds seen may_leave old lines told
+    → (line : List ℕ) × P line × Holds seen may_leave new (lines ++ line ∷ []) told
 
 -- the file has the lines that it had
 abbrev pub Stays : {F : Type 0} → (F → Option (List ℕ)) → (F → List ℕ → Type 0) → F → F → Type 0

@@ -1,5 +1,12 @@
+pub mod Entries
 pub mod Files
+pub mod Journaled
+pub mod Followed
 pub mod Kept
+pub mod LineTexts
 pub mod Lines
 pub mod Replays
 pub mod Steps
+pub mod Strings
+pub mod Sums
+pub mod internal

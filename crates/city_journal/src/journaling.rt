@@ -1,9 +1,14 @@
 //! What a live city notes its commits by.
-ghost use Rattle.std.specs.Prelude.{◌≡◌, IfSome, None, OnOk, OnErr};
+ghost use Rattle.std.specs.Prelude.{◌≡◌, ◌++◌, ◌∷◌, [], true, is_some, IfOk, IfSome, None, OnOk, OnErr};
+ghost use Rattle.city_live.specs.Entering.{noted_by};
+ghost use Rattle.city_journal.specs.Entries.{IsCommitLine};
 ghost use Rattle.city_journal.specs.Files.{IsKept};
+ghost use Rattle.city_journal.specs.Followed.{AddsCommits};
+ghost use Rattle.city_journal.specs.LineTexts.{saved_text};
 ghost use Rattle.city_journal.specs.Kept.{Gains, GoesBy, MayTell, Stays};
 
 use crate::file::JournalFile;
+use crate::ghosts::noted_commits::NotedCommits;
 use crate::keys::{Keys, Made};
 use crate::model_sum::ModelSum;
 use crate::noting::{note, sync};
@@ -18,7 +23,7 @@ use std::marker::Model;
 
 /// Notes commits in a file, if there is one, and the keys of those that have one.
 ///
-/// A commit is told to nobody before `sync` has succeeded after it. Contracts see the file.
+/// A commit is told to nobody before `sync` has succeeded after it. Contracts see the file, and which commits are noted.
 #[derive(Drop)]
 pub struct Journaling<F: JournalFile> {
     alloc: Global,
@@ -27,6 +32,7 @@ pub struct Journaling<F: JournalFile> {
     /// Whether numbers are of any form.
     decimals: bool,
     file: Option<F>,
+    noted: NotedCommits,
     /// Whether all that the file has is synced.
     synced: bool,
     /// The time: so many seconds since 1970.
@@ -37,12 +43,16 @@ pub struct Journaling<F: JournalFile> {
 }
 
 impl<F: JournalFile> Model for Journaling<F> {
-    ghost use Rattle.std.specs.Prelude.{◌≡◌, true, Option, IfSome};
+    ghost use Rattle.std.specs.Prelude.{◌≡◌, true, IfSome};
     ghost use Rattle.city_journal.specs.Files.{IsKept};
+    ghost use Rattle.city_journal.specs.Journaled.{Journaled};
+    ghost use Rattle.city_journal.specs.internal.Journaled.{journaled_code};
 
-    ghost Value = { Option F };
+    ghost Value = { Journaled F };
 
-    ghost view = { λ j. j.file };
+    ghost coded = { journaled_code F.code };
+
+    ghost view = { λ j. record { decimals = j.decimals; file = j.file; noted = j.noted } };
 
     ghost invariant = { λ j. j.synced ≡ true → IfSome j.file (λ f. IsKept (F.seen f) (F.may_leave f)) };
 }
@@ -57,13 +67,16 @@ impl<F: JournalFile> Journaling<F> {
         keys: Keys,
     ) -> Journaling<F>
         requires { IfSome file (λ f. IsKept (F.seen f) (F.may_leave f)) }
-        ensures { result ≡ file }
+        ensures decimals { result.decimals ≡ decimals }
+        ensures file { result.file ≡ file }
+        ensures noted { result.noted ≡ [] }
     {
         Journaling {
             alloc,
             seed,
             decimals,
             file,
+            noted: NotedCommits::none(),
             synced: true,
             time: 0,
             keys,
@@ -78,15 +91,17 @@ impl<F: JournalFile> Journaling<F> {
 
     /// The file, if there is one.
     pub fn into_file(self) -> Option<F>
-        ensures { result ≡ self }
+        ensures { result ≡ self.file }
     {
         self.file
     }
 
     /// Takes the file out, if there is one: no more is noted. Doesn't allocate.
     pub fn take_file(&mut self) -> Option<F>
-        ensures file { result ≡ self.old }
-        ensures left { self.new ≡ None }
+        ensures file { result ≡ self.old.file }
+        ensures left { self.new.file ≡ None }
+        ensures noted { self.new.noted ≡ self.old.noted }
+        ensures decimals { self.new.decimals ≡ self.old.decimals }
     {
         self.file.take()
     }
@@ -132,8 +147,10 @@ impl<F: JournalFile> Journaling<F> {
 
     /// Brings what was appended to the disk. If it can't, nobody may be told of it.
     pub fn sync(&mut self) -> Result<(), Unwritten>
-        ensures ok { OnOk result (GoesBy (MayTell F.seen F.may_leave) self.old self.new) }
-        ensures err { OnErr result (GoesBy (Stays F.seen F.may_leave) self.old self.new) }
+        ensures ok { OnOk result (GoesBy (MayTell F.seen F.may_leave) self.old.file self.new.file) }
+        ensures err { OnErr result (GoesBy (Stays F.seen F.may_leave) self.old.file self.new.file) }
+        ensures noted { self.new.noted ≡ self.old.noted }
+        ensures decimals { self.new.decimals ≡ self.old.decimals }
     {
         if self.synced {
             return Ok(());
@@ -145,8 +162,13 @@ impl<F: JournalFile> Journaling<F> {
 
     /// Notes that the model with this sum is about to be put into place. It has to be synced before that is done.
     pub fn begin_save(&mut self, sum: &ModelSum) -> Result<(), Unwritten>
-        ensures ok { OnOk result (GoesBy (Gains F.seen F.may_leave) self.old self.new) }
-        ensures err { OnErr result (GoesBy (Stays F.seen F.may_leave) self.old self.new) }
+        ensures ok { OnOk result (GoesBy (Gains (λ l. l ≡ saved_text sum.now.bytes) F.seen F.may_leave)
+            self.old.file self.new.file) }
+        ensures follows { OnOk result (GoesBy (AddsCommits self.old.decimals [] F.seen F.may_leave)
+            self.old.file self.new.file) }
+        ensures err { OnErr result (GoesBy (Stays F.seen F.may_leave) self.old.file self.new.file) }
+        ensures noted { self.new.noted ≡ self.old.noted }
+        ensures decimals { self.new.decimals ≡ self.old.decimals }
     {
         self.synced = false;
         match saved_line(self.alloc, sum) {
@@ -156,7 +178,10 @@ impl<F: JournalFile> Journaling<F> {
     }
 
     /// Begins the journal anew over the model with this sum, at this version, which was put into place.
-    pub fn end_save(&mut self, sum: &ModelSum, version: u64) -> Result<(), Unwritten> {
+    pub fn end_save(&mut self, sum: &ModelSum, version: u64) -> Result<(), Unwritten>
+        ensures noted { self.new.noted ≡ self.old.noted }
+        ensures decimals { self.new.decimals ≡ self.old.decimals }
+    {
         self.synced = false;
         let Some(file) = &mut self.file else {
             return Ok(());
@@ -174,39 +199,50 @@ impl<F: JournalFile> Journaling<F> {
 
     /// Notes a commit that is about to be made, with the key that its hand asked for. If it can't, its key isn't known.
     pub fn note_commit(&mut self, entry: &Entry<'_>) -> Result<(), Unwritten>
-        ensures ok { OnOk result (GoesBy (Gains F.seen F.may_leave) self.old self.new) }
-        ensures err { OnErr result (GoesBy (Stays F.seen F.may_leave) self.old self.new) }
+        ensures ok { OnOk result (GoesBy (Gains (IsCommitLine self.old.decimals entry.now) F.seen F.may_leave)
+            self.old.file self.new.file) }
+        ensures follows { OnOk result (GoesBy (AddsCommits self.old.decimals (noted_by entry.now ∷ []) F.seen F.may_leave)
+            self.old.file self.new.file) }
+        ensures err { OnErr result (GoesBy (Stays F.seen F.may_leave) self.old.file self.new.file) }
+        ensures decimals { self.new.decimals ≡ self.old.decimals }
+        ensures noted { OnOk result (self.new.noted ≡ self.old.noted ++ noted_by entry.now ∷ []) }
+        ensures same { OnErr result (self.new.noted ≡ self.old.noted) }
     {
         let key = self.asked.remove(entry.by);
-        let line = self.line_of(entry, key.as_ref())?;
+        let line = line_for(
+            &self.file,
+            self.alloc,
+            self.seed,
+            self.decimals,
+            entry,
+            key.as_ref(),
+            self.time,
+        )?;
         if let Some(key) = &key {
             if self.keys.note(key, entry.name, entry.version).is_err() {
                 return Err(Unwritten::OutOfMemory);
             }
         }
         self.synced = false;
-        let noted = note(&mut self.file, line);
-        if noted.is_err() {
-            if let Some(key) = &key {
-                self.keys.forget(key);
+        match note_entry(&mut self.file, self.decimals, entry, line) {
+            Ok(()) => {
+                self.noted = self.noted.and(entry);
+                Ok(())
+            }
+            Err(unwritten) => {
+                if let Some(key) = &key {
+                    self.keys.forget(key);
+                }
+                Err(unwritten)
             }
         }
-        noted
-    }
-
-    /// The line of a commit, if there is a file.
-    fn line_of(&self, entry: &Entry<'_>, key: Option<&Text>) -> Result<Vec<u8>, Unwritten> {
-        if self.file.is_none() {
-            return Ok(Vec::new(self.alloc));
-        }
-        commit_line(self.alloc, self.seed, self.decimals, entry, key, self.time)
     }
 }
 
 impl<F: JournalFile + Drop> Journal for Journaling<F> {
-    ghost use Rattle.std.specs.Prelude.{None};
+    ghost use Rattle.std.specs.Prelude.{Some};
 
-    ghost noted = { λ _. None };
+    ghost noted = { λ j. Some j.noted };
 
     // (keys are noted without a file too)
     fn is_kept(&self) -> bool {
@@ -216,4 +252,38 @@ impl<F: JournalFile + Drop> Journal for Journaling<F> {
     fn append(&mut self, entry: &Entry<'_>) -> Result<(), Unwritten> {
         self.note_commit(entry)
     }
+}
+
+/// The line of a commit, if there is a file.
+fn line_for<F: JournalFile>(
+    file: &Option<F>,
+    alloc: Global,
+    seed: u64,
+    decimals: bool,
+    entry: &Entry<'_>,
+    key: Option<&Text>,
+    time: u64,
+) -> Result<Vec<u8>, Unwritten>
+    ensures { IfOk result (λ line. is_some file.now ≡ true → IsCommitLine decimals entry.now line.items) }
+{
+    if file.is_none() {
+        return Ok(Vec::new(alloc));
+    }
+    commit_line(alloc, seed, decimals, entry, key, time)
+}
+
+/// Notes the line of a commit in the file, if there is one.
+fn note_entry<F: JournalFile>(
+    file: &mut Option<F>,
+    decimals: bool,
+    entry: &Entry<'_>,
+    line: Vec<u8>,
+) -> Result<(), Unwritten>
+    requires { is_some file.old ≡ true → IsCommitLine decimals entry.now line.items }
+    ensures ok { OnOk result (GoesBy (Gains (IsCommitLine decimals entry.now) F.seen F.may_leave) file.old file.new) }
+    ensures follows { OnOk result (GoesBy (AddsCommits decimals (noted_by entry.now ∷ []) F.seen F.may_leave)
+        file.old file.new) }
+    ensures err { OnErr result (GoesBy (Stays F.seen F.may_leave) file.old file.new) }
+{
+    note(file, line)
 }

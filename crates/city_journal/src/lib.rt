@@ -7,10 +7,12 @@
 //! - `replaying`: its commits, made again on a city
 //! - `file`: a file that grows; `memory_file`: one in memory; `runtime_file`: one of a runtime
 //! - `journaling`: what a live city notes its commits by; `noting`: lines in a file
+//! - `ghosts`: what contracts alone see
 #![tactic(auto)]
 
 mod fault;
 mod file;
+mod ghosts;
 mod journaling;
 mod keys;
 mod line;

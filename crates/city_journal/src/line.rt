@@ -2,7 +2,7 @@
 ghost use Rattle.std.specs.Prelude.{◌+◌, ◌≤◌, length, IfSome};
 
 use crate::line_parts::{number_at_end, string_at_start};
-use crate::line_sum::{self, sum_digits};
+use crate::line_sum::{self, push_sum};
 use crate::model_sum::{self, ModelSum};
 use city_model::OutOfMemory;
 use std::alloc::Global;
@@ -104,9 +104,9 @@ fn sum_at_start(bytes: &[u8]) -> Option<(ModelSum, &[u8])> {
 fn key_of(line: &[u8]) -> Option<KeyLine<'_>> {
     let (key, rest) = string_at_start(line.strip_prefix(b"{\"key\":".as_slice())?)?;
     let (name, rest) = string_at_start(rest.strip_prefix(b",\"name\":".as_slice())?)?;
-    let rest = rest.strip_prefix(b",\"version\":".as_slice())?;
+    let rest = rest.strip_prefix(b",\"version\"".as_slice())?;
     match number_at_end(rest.strip_suffix(b"}".as_slice())?)? {
-        ([], version) => Some(KeyLine { key, name, version }),
+        ([b':'], version) => Some(KeyLine { key, name, version }),
         _ => None,
     }
 }
@@ -117,8 +117,9 @@ fn commit_of(alloc: Global, line: &[u8]) -> Result<Option<CommitLine<'_>>, OutOf
         return Ok(None);
     };
     let behind = &line[at + line_sum::DIGITS..];
-    let digits = sum_digits(alloc, &line[..at], behind)?;
-    if digits.as_bytes() != &line[at..at + line_sum::DIGITS] {
+    let mut digits = Vec::new(alloc);
+    push_sum(&mut digits, &line[..at], behind)?;
+    if digits.as_slice() != &line[at..at + line_sum::DIGITS] {
         return Ok(None);
     }
     Ok(commit_before(&line[..at], version))

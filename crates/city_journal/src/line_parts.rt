@@ -1,35 +1,59 @@
 //! Parts at the begin or at the end of a line.
-ghost use Rattle.std.specs.Prelude.{◌≤◌, length, IfSome};
+ghost use Rattle.std.specs.Prelude.{◌≡◌, ◌≤◌, ◌<◌, ◌^◌, ◌++◌, ◌∷◌, [], ℕ, List, length, decimal, IfSome, IsSomeAnd};
+ghost use Rattle.json.specs.Print.{quoted};
+ghost use Rattle.city_journal.specs.Strings.{is_plain};
 
 use city_members::text::Text;
 use city_model::OutOfMemory;
 use json::{Reader, Scratch, Token};
+use memchr::memrchr;
 use simdutf8::compat::from_utf8;
 use std::alloc::Global;
 
-/// How many digits a number of a line may have.
-const MOST_DIGITS: usize = 20;
-
-/// How many digits stand at the end, at most 20.
-fn digits_at_end(bytes: &[u8]) -> usize {
-    let mut count: usize = 0;
-    for byte in bytes.iter().rev().take(MOST_DIGITS) {
-        if !byte.is_ascii_digit() {
-            return count;
-        }
-        count = count.saturating_add(1);
-    }
-    count
+/// What is behind this prefix, if it stands at the begin.
+pub(crate) fn behind<'a>(bytes: &'a [u8], prefix: &[u8]) -> Option<&'a [u8]>
+    ensures found { IfSome result (λ rest. bytes.now ≡ prefix.now ++ rest.now) }
+    ensures written { (rest : List ℕ) → bytes.now ≡ prefix.now ++ rest → IsSomeAnd result (λ r. r.now ≡ rest) }
+{
+    bytes.strip_prefix(prefix)
 }
 
-/// What is before the number at the end, and that number.
-pub(crate) fn number_at_end(bytes: &[u8]) -> Option<(&[u8], u64)>
-    ensures { IfSome result (λ parts. length parts.0.now ≤ length bytes.now) }
+/// What is before this suffix, if it stands at the end.
+pub(crate) fn before<'a>(bytes: &'a [u8], suffix: &[u8]) -> Option<&'a [u8]>
+    ensures found { IfSome result (λ front. bytes.now ≡ front.now ++ suffix.now) }
+    ensures written { (front : List ℕ) → bytes.now ≡ front ++ suffix.now → IsSomeAnd result (λ r. r.now ≡ front) }
 {
-    let at = bytes.len().saturating_sub(digits_at_end(bytes));
+    bytes.strip_suffix(suffix)
+}
+
+/// Whether digits that are a number are so in the form in which numbers are written: without a sign or a further zero.
+fn is_plain(digits: &[u8]) -> bool
+    ensures { result ≡ is_plain digits.now }
+{
+    match digits {
+        [b'0'] => true,
+        [first, ..] => *first >= b'1' && *first <= b'9',
+        [] => false,
+    }
+}
+
+/// What is before the number at the end, behind a colon, and that number.
+pub(crate) fn number_at_end(bytes: &[u8]) -> Option<(&[u8], u64)>
+    ensures shorter { IfSome result (λ parts. length parts.0.now ≤ length bytes.now) }
+    ensures found { IfSome result (λ parts. bytes.now ≡ parts.0.now ++ decimal parts.1) }
+    ensures written { (front : List ℕ) (n : ℕ) → n < 2 ^ 64 → bytes.now ≡ front ++ 58 ∷ decimal n
+        → IsSomeAnd result (λ parts. (parts.0.now ≡ front ++ 58 ∷ []) × (parts.1 ≡ n)) }
+{
+    let Some(colon) = memrchr(b':', bytes) else {
+        return None;
+    };
+    let at = colon + 1;
     let Ok(digits) = from_utf8(&bytes[at..]) else {
         return None;
     };
+    if !is_plain(digits.as_bytes()) {
+        return None;
+    }
     match digits.parse::<u64>() {
         Ok(number) => Some((&bytes[..at], number)),
         Err(_) => None,
@@ -37,7 +61,11 @@ pub(crate) fn number_at_end(bytes: &[u8]) -> Option<(&[u8], u64)>
 }
 
 /// The JSON text of the string at the begin, with its quotes, and what is behind it.
-pub(crate) fn string_at_start(bytes: &[u8]) -> Option<(&[u8], &[u8])> {
+pub(crate) fn string_at_start(bytes: &[u8]) -> Option<(&[u8], &[u8])>
+    ensures found { IfSome result (λ parts. bytes.now ≡ parts.0.now ++ parts.1.now) }
+    ensures written { (s rest : List ℕ) → bytes.now ≡ quoted s ++ rest
+        → IsSomeAnd result (λ parts. (parts.0.now ≡ quoted s) × (parts.1.now ≡ rest)) }
+{
     if bytes.first() != Some(&b'"') {
         return None;
     }

@@ -1,7 +1,10 @@
 //! The sum of a model's text.
-ghost use Rattle.std.specs.Prelude.{◌≡◌, ◌<◌, IfSome};
+ghost use Rattle.std.specs.Prelude.{◌≡◌, ◌<◌, ◌++◌, IfSome, OnOk};
 ghost use Rattle.sha2.specs.Sha256.{sha256};
+ghost use Rattle.city_journal.specs.Sums.{hex_text};
 
+use crate::line_sum::push_hex;
+use city_model::OutOfMemory;
 use sha2::{Digest, Sha256};
 use std::fmt::{self, Display, Formatter, Write};
 
@@ -24,6 +27,13 @@ impl ModelSum {
         }
     }
 
+    /// Appends the sum's digits, in lower case.
+    pub(crate) fn push_to(&self, out: &mut Vec<u8>) -> Result<(), OutOfMemory>
+        ensures { OnOk result (out.new.items ≡ out.old.items ++ hex_text self.now.bytes) }
+    {
+        push_hex(out, &self.bytes)
+    }
+
     /// The sum of these digits, in lower case, if they are 64. Doesn't allocate.
     pub fn from_digits(digits: &[u8]) -> Option<ModelSum> {
         if digits.len() != DIGITS {
@@ -37,17 +47,6 @@ impl ModelSum {
         }
         Some(ModelSum { bytes })
     }
-
-    /// The sum's digits, in lower case. Doesn't allocate.
-    pub fn digits(&self) -> [u8; 64] {
-        let mut digits = [b'0'; 64];
-        for i in 0..32_usize {
-            let byte = self.bytes[i];
-            digits[2 * i] = digit_of(byte / 16);
-            digits[2 * i + 1] = digit_of(byte % 16);
-        }
-        digits
-    }
 }
 
 impl Display for ModelSum {
@@ -57,13 +56,6 @@ impl Display for ModelSum {
         }
         Ok(())
     }
-}
-
-/// The hexadecimal digit of a number below 16.
-fn digit_of(n: u8) -> u8
-    requires { n < 16 }
-{
-    if n < 10 { b'0' + n } else { b'a' + (n - 10) }
 }
 
 /// What a hexadecimal digit in lower case stands for.

@@ -17,7 +17,7 @@ fn has_newline(bytes: &[u8]) -> bool
 
 /// Appends a line, and a newline behind it.
 pub(crate) fn append_line<F: JournalFile>(file: &mut F, line: Vec<u8>) -> Result<(), Unwritten>
-    ensures ok { OnOk result (Gains F.seen F.may_leave file.old file.new) }
+    ensures ok { OnOk result (Gains (λ l. l ≡ line.items) F.seen F.may_leave file.old file.new) }
     ensures err { OnErr result (Stays F.seen F.may_leave file.old file.new) }
 {
     if has_newline(line.as_slice()) {
@@ -35,7 +35,7 @@ pub(crate) fn append_line<F: JournalFile>(file: &mut F, line: Vec<u8>) -> Result
 
 /// Appends a line to the file, if there is one.
 pub(crate) fn note<F: JournalFile>(file: &mut Option<F>, line: Vec<u8>) -> Result<(), Unwritten>
-    ensures ok { OnOk result (GoesBy (Gains F.seen F.may_leave) file.old file.new) }
+    ensures ok { OnOk result (GoesBy (Gains (λ l. l ≡ line.items) F.seen F.may_leave) file.old file.new) }
     ensures err { OnErr result (GoesBy (Stays F.seen F.may_leave) file.old file.new) }
 {
     match file {

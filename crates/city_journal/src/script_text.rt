@@ -1,10 +1,15 @@
 //! The script of a commit, as it stands in a line.
-ghost use Rattle.std.specs.Prelude.{◌≡◌, ◌∷◌, [], IfOk};
+ghost use Rattle.std.specs.Prelude.{◌≡◌, ◌++◌, ◌∷◌, [], IfOk, IfSome};
+ghost use Rattle.city_decimals.specs.Texts.{IsDecoded};
+ghost use Rattle.city_journal.specs.Entries.{IsScriptOf, script_by};
+ghost use Rattle.city_journal.specs.Steps.{commands_of_steps};
 ghost use Rattle.city_writer.specs.script.Canonical.{scripts_text};
 
+use crate::line_parts::{before, behind};
 use crate::steps::script_of_steps;
 use city_decimals::{DecimalsFault, decode};
 use city_live::{Commands, Entry, Unwritten};
+use city_members::text::Text;
 use city_model::OutOfMemory;
 use city_model::script::Script;
 use city_scripts::write_scripts;
@@ -23,28 +28,64 @@ pub(crate) fn script_text(
     seed: u64,
     decimals: bool,
     entry: &Entry<'_>,
-) -> Result<Vec<u8>, Unwritten> {
+) -> Result<Vec<u8>, Unwritten>
+    ensures { IfOk result (λ text. IsScriptOf decimals
+        (script_by entry.now.name.now entry.now.commands) text.items) }
+{
     if has_many(&entry.commands) {
         return Err(Unwritten::CannotWrite);
     }
-    let array = match &entry.commands {
-        Commands::Script(script) => array_of(alloc, seed, script)?,
-        Commands::Each(steps) => match script_of_steps(alloc, entry.name, steps) {
-            Ok(Some(script)) => array_of(alloc, seed, &script)?,
-            Ok(None) => return Err(Unwritten::CannotWrite),
-            Err(OutOfMemory) => return Err(Unwritten::OutOfMemory),
-        },
-    };
+    let array = array_by(alloc, seed, entry.name, &entry.commands)?;
     if array.len() > MAX_TEXT || is_deep(array.as_slice()) {
         return Err(Unwritten::CannotWrite);
     }
-    let [b'[', script @ .., b']'] = array.as_slice() else {
+    let Some(script) = inside(array.as_slice()) else {
         return Err(Unwritten::CannotWrite);
     };
     if decimals {
         decoded(alloc, script)
     } else {
         copied(alloc, script)
+    }
+}
+
+/// What stands between the brackets of an array.
+fn inside(array: &[u8]) -> Option<&[u8]>
+    ensures { IfSome result (λ text. array.now ≡ 91 ∷ (text.now ++ 93 ∷ [])) }
+{
+    let rest = behind(array, b"[")?;
+    before(rest, b"]")
+}
+
+/// The text of an array of the script that these commands make, its numbers whole.
+fn array_by(
+    alloc: Global,
+    seed: u64,
+    name: &Text,
+    commands: &Commands<'_>,
+) -> Result<Vec<u8>, Unwritten>
+    ensures { IfOk result (λ text. text.items ≡ scripts_text (script_by name.now commands.now ∷ [])) }
+{
+    match commands {
+        Commands::Script(script) => array_of(alloc, seed, script),
+        Commands::Each(steps) => array_of_steps(alloc, seed, name, steps),
+    }
+}
+
+/// The text of an array of the script that the first commands of these and a commit make.
+fn array_of_steps(
+    alloc: Global,
+    seed: u64,
+    name: &Text,
+    steps: &[Script],
+) -> Result<Vec<u8>, Unwritten>
+    ensures { IfOk result (λ text. text.items
+        ≡ scripts_text ((name.now, commands_of_steps steps.now) ∷ [])) }
+{
+    match script_of_steps(alloc, name, steps) {
+        Ok(Some(script)) => array_of(alloc, seed, &script),
+        Ok(None) => Err(Unwritten::CannotWrite),
+        Err(OutOfMemory) => Err(Unwritten::OutOfMemory),
     }
 }
 
@@ -59,7 +100,9 @@ fn array_of(alloc: Global, seed: u64, script: &Script) -> Result<Vec<u8>, Unwrit
 }
 
 /// The text with its numbers as they were written.
-fn decoded(alloc: Global, text: &[u8]) -> Result<Vec<u8>, Unwritten> {
+fn decoded(alloc: Global, text: &[u8]) -> Result<Vec<u8>, Unwritten>
+    ensures { IfOk result (λ out. IsDecoded text.now out.items) }
+{
     match decode(alloc, text) {
         Ok(text) => Ok(text),
         Err(DecimalsFault::OutOfMemory) => Err(Unwritten::OutOfMemory),
@@ -68,7 +111,9 @@ fn decoded(alloc: Global, text: &[u8]) -> Result<Vec<u8>, Unwritten> {
 }
 
 /// A copy of the text.
-fn copied(alloc: Global, text: &[u8]) -> Result<Vec<u8>, Unwritten> {
+fn copied(alloc: Global, text: &[u8]) -> Result<Vec<u8>, Unwritten>
+    ensures { IfOk result (λ out. out.items ≡ text.now) }
+{
     match text.to_vec(alloc) {
         Ok(text) => Ok(text),
         Err(OutOfMemory) => Err(Unwritten::OutOfMemory),

@@ -1,6 +1,12 @@
 //! The lines of a journal, written.
+ghost use Rattle.std.specs.Prelude.{◌≡◌, ◌++◌, ◌∷◌, [], codes, option_copied, IfOk, OnOk};
+ghost use Rattle.json.specs.Print.{quoted};
+ghost use Rattle.city_journal.specs.Entries.{IsCommitLine};
+ghost use Rattle.city_journal.specs.LineTexts.{base_text, bool_text, commit_text, key_member, key_text, saved_text};
+ghost use Rattle.city_journal.specs.LineTexts.{version_end};
+
 use crate::keys::Keys;
-use crate::line_sum::sum_digits;
+use crate::line_sum::push_sum;
 use crate::model_sum::ModelSum;
 use crate::script_text::script_text;
 use city_live::{Entry, Unwritten};
@@ -20,7 +26,7 @@ pub fn append_beginning(
 ) -> Result<Vec<u8>, OutOfMemory> {
     let mut out = base_line(alloc, bytes, sum, decimals, version)?;
     for (key, made) in keys.each()? {
-        out = key_line(out, key, &made.name, made.version)?;
+        out = key_line(alloc, out, key, &made.name, made.version)?;
     }
     Ok(out)
 }
@@ -32,38 +38,78 @@ fn base_line(
     sum: &ModelSum,
     decimals: bool,
     version: u64,
-) -> Result<Vec<u8>, OutOfMemory> {
+) -> Result<Vec<u8>, OutOfMemory>
+    ensures { IfOk result (λ out. out.items
+        ≡ bytes.items ++ (base_text sum.now.bytes decimals version ++ 10 ∷ [])) }
+{
     let mut out = bytes;
     out.extend_from_slice(b"{\"base\":\"")?;
-    out.extend_from_slice(&sum.digits())?;
-    let rest = format!(in alloc;
-        "\",\"cityed\":1,\"decimals\":{decimals},\"version\":{version}}}\n"
-    )?;
-    out.extend_from_slice(rest.as_bytes())?;
+    sum.push_to(&mut out)?;
+    out.extend_from_slice(b"\",\"cityed\":1,\"decimals\":")?;
+    push_bool(&mut out, decimals)?;
+    push_version(alloc, &mut out, version)?;
+    out.push(b'\n')?;
     Ok(out)
 }
 
-/// The bytes, and behind them the line of a key.
-fn key_line(bytes: Vec<u8>, key: &Text, name: &Text, version: u64) -> Result<Vec<u8>, OutOfMemory> {
+/// Appends a truth value.
+fn push_bool(out: &mut Vec<u8>, value: bool) -> Result<(), OutOfMemory>
+    ensures { OnOk result (out.new.items ≡ out.old.items ++ bool_text value) }
+{
+    if value {
+        out.extend_from_slice(b"true")?;
+    } else {
+        out.extend_from_slice(b"false")?;
+    }
+    Ok(())
+}
+
+/// Appends a version, and the end of an object.
+fn push_version(alloc: Global, out: &mut Vec<u8>, version: u64) -> Result<(), OutOfMemory>
+    ensures { OnOk result (out.new.items ≡ out.old.items ++ version_end version) }
+{
+    let rest = format!(in alloc; ",\"version\":{version}}}")?;
+    out.extend_from_slice(rest.as_bytes())?;
+    Ok(())
+}
+
+/// The bytes, and behind them a text as a JSON string.
+#[tactic(auto, using(crate::proofs::Written::print_string))]
+fn with_string(bytes: Vec<u8>, text: &Text) -> Result<Vec<u8>, OutOfMemory>
+    ensures { IfOk result (λ out. out.items ≡ bytes.items ++ quoted text.now) }
+{
     let mut out = Writer::new(bytes);
-    out.begin_object()?;
-    out.key("key")?;
-    out.string(key.as_str())?;
-    out.key("name")?;
-    out.string(name.as_str())?;
-    out.key("version")?;
-    out.u64(version)?;
-    out.end_object()?;
-    let mut bytes = out.into_inner();
-    bytes.push(b'\n')?;
-    Ok(bytes)
+    out.string(text.as_str())?;
+    Ok(out.into_inner())
+}
+
+/// The bytes, and behind them the line of a key.
+fn key_line(
+    alloc: Global,
+    bytes: Vec<u8>,
+    key: &Text,
+    name: &Text,
+    version: u64,
+) -> Result<Vec<u8>, OutOfMemory>
+    ensures { IfOk result (λ out. out.items ≡ bytes.items ++ (key_text key.now name.now version ++ 10 ∷ [])) }
+{
+    let mut out = bytes;
+    out.extend_from_slice(b"{\"key\":")?;
+    let mut named = with_string(out, key)?;
+    named.extend_from_slice(b",\"name\":")?;
+    let mut whole = with_string(named, name)?;
+    push_version(alloc, &mut whole, version)?;
+    whole.push(b'\n')?;
+    Ok(whole)
 }
 
 /// The line that says that the model with this sum is about to be put into place, without its newline.
-pub(crate) fn saved_line(alloc: Global, sum: &ModelSum) -> Result<Vec<u8>, OutOfMemory> {
+pub(crate) fn saved_line(alloc: Global, sum: &ModelSum) -> Result<Vec<u8>, OutOfMemory>
+    ensures { IfOk result (λ line. line.items ≡ saved_text sum.now.bytes) }
+{
     let mut out = Vec::new(alloc);
     out.extend_from_slice(b"{\"saved\":\"")?;
-    out.extend_from_slice(&sum.digits())?;
+    sum.push_to(&mut out)?;
     out.extend_from_slice(b"\"}")?;
     Ok(out)
 }
@@ -76,7 +122,9 @@ pub(crate) fn commit_line(
     entry: &Entry<'_>,
     key: Option<&Text>,
     time: u64,
-) -> Result<Vec<u8>, Unwritten> {
+) -> Result<Vec<u8>, Unwritten>
+    ensures { IfOk result (λ line. IsCommitLine decimals entry.now line.items) }
+{
     let script = script_text(alloc, seed, decimals, entry)?;
     match line_around(alloc, entry, key, script.as_slice(), time) {
         Ok(line) => Ok(line),
@@ -91,28 +139,42 @@ fn line_around(
     key: Option<&Text>,
     script: &[u8],
     time: u64,
-) -> Result<Vec<u8>, OutOfMemory> {
+) -> Result<Vec<u8>, OutOfMemory>
+    ensures { IfOk result (λ line. line.items
+        ≡ commit_text entry.now.by.now (option_copied key.entry) script.now time entry.now.version) }
+{
     let mut line = before_script(alloc, entry.by, key)?;
     line.extend_from_slice(b",\"script\":")?;
     line.extend_from_slice(script)?;
     line.extend_from_slice(b",\"sum\":\"")?;
     let version = entry.version;
     let behind = format!(in alloc; "\",\"time\":{time},\"version\":{version}}}")?;
-    let digits = sum_digits(alloc, line.as_slice(), behind.as_bytes())?;
-    line.extend_from_slice(digits.as_bytes())?;
+    let mut digits = Vec::new(alloc);
+    push_sum(&mut digits, line.as_slice(), behind.as_bytes())?;
+    line.extend_from_slice(digits.as_slice())?;
     line.extend_from_slice(behind.as_bytes())?;
     Ok(line)
 }
 
 /// What stands in a commit's line before its script: its hand, and its key if it has one.
-fn before_script(alloc: Global, by: &Text, key: Option<&Text>) -> Result<Vec<u8>, OutOfMemory> {
-    let mut out = Writer::new(Vec::new(alloc));
-    out.begin_object()?;
-    out.key("by")?;
-    out.string(by.as_str())?;
-    if let Some(key) = key {
-        out.key("key")?;
-        out.string(key.as_str())?;
+fn before_script(alloc: Global, by: &Text, key: Option<&Text>) -> Result<Vec<u8>, OutOfMemory>
+    ensures { IfOk result (λ out. out.items
+        ≡ codes "{\"by\":" ++ (quoted by.now ++ key_member (option_copied key.entry))) }
+{
+    let mut out = Vec::new(alloc);
+    out.extend_from_slice(b"{\"by\":")?;
+    let begun = with_string(out, by)?;
+    match key {
+        Some(key) => with_key(begun, key),
+        None => Ok(begun),
     }
-    Ok(out.into_inner())
+}
+
+/// The bytes, and behind them the member of a commit's key.
+fn with_key(bytes: Vec<u8>, key: &Text) -> Result<Vec<u8>, OutOfMemory>
+    ensures { IfOk result (λ out. out.items ≡ bytes.items ++ key_member (Some key.now)) }
+{
+    let mut out = bytes;
+    out.extend_from_slice(b",\"key\":")?;
+    with_string(out, key)
 }

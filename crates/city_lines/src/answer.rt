@@ -55,8 +55,8 @@ pub fn append_answer(
     }
 }
 
-/// The model that an answer has whole, and its version.
-fn whole_model(form: Form, what: &What) -> Option<(&City, u64)>
+/// The model that an answer has whole, and its version. Doesn't allocate.
+pub fn whole_model(form: Form, what: &What) -> Option<(&City, u64)>
     ensures { option_map (λ m. (m.0.now, m.1)) result ≡ whole_model form what.now }
 {
     match (form, what) {

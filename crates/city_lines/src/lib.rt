@@ -24,10 +24,10 @@ mod told;
 mod values;
 mod words;
 
-pub use answer::{Form, append_answer};
+pub use answer::{Form, append_answer, whole_model};
 pub use error::append_error;
 pub use fault::{LineError, LineFault, Wrong};
 pub use line::{Ask, Line};
 pub use models::append_model;
-pub use read::{MAX_LINE, MAX_NAME, read_line};
+pub use read::{LineScratch, MAX_LINE, MAX_NAME, read_line};
 pub use told::{append_ended, append_made, append_ready, append_saved};

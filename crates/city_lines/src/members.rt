@@ -92,11 +92,12 @@ impl<'t> Members<'t> {
     }
 }
 
-/// The members of a line.
+/// The members of a line. Each value is read beside the line with the other memory.
 pub fn members_of<'t>(
     alloc: Global,
     text: &'t str,
     scratch: &mut Scratch,
+    other: &mut Scratch,
 ) -> Result<Members<'t>, OutOfMemory>
     ensures { IfOk result (λ ms. ms.fault ≡ None → IsObjectOf text.now ms.list.items) }
 {
@@ -104,7 +105,7 @@ pub fn members_of<'t>(
     if members.fault.is_some() {
         return Ok(members);
     }
-    if is_object_of(alloc, text, members.list.as_slice(), scratch)? {
+    if is_object_of(text, members.list.as_slice(), scratch, other)? {
         return Ok(members);
     }
     let members = members.broken(text.len());
@@ -175,20 +176,19 @@ fn is_outside(byte: u8) -> bool {
 
 /// Whether the text is an object of these members, token by token. So nothing depends on places.
 fn is_object_of(
-    alloc: Global,
     text: &str,
     members: &[Member<'_>],
     scratch: &mut Scratch,
+    other: &mut Scratch,
 ) -> Result<bool, OutOfMemory>
     ensures { IfOk result (λ is. IsTrue is → IsObjectOf text.now members.now) }
 {
-    let mut other = Scratch::new(alloc);
     let mut reader = Reader::new(text, scratch)?;
     let Some(Token::BeginObject) = reader.next() else {
         return Ok(false);
     };
     for member in members {
-        let mut value = Reader::new(member.text, &mut other)?;
+        let mut value = Reader::new(member.text, other)?;
         if !passes_key(&mut reader, member.name.as_str()) || !passes(&mut reader, &mut value) {
             return Ok(false);
         }

@@ -23,8 +23,30 @@ pub const MAX_LINE: usize = 67_108_864;
 /// The most bytes of a hand's name, and of a key.
 pub const MAX_NAME: usize = 256;
 
+/// The longest line whose memory is kept for the next one.
+const MOST_KEPT: usize = 65_536;
+
+/// The memory that reading a line needs. One is kept, and lent to each line: making one clears it.
+#[derive(Drop)]
+pub struct LineScratch {
+    /// For the line, and for its values.
+    line: Scratch,
+    /// For a value that is read beside its line.
+    value: Scratch,
+}
+
+impl LineScratch {
+    /// Memory for lines. Doesn't allocate.
+    pub fn new(alloc: Global) -> LineScratch {
+        LineScratch {
+            line: Scratch::new(alloc),
+            value: Scratch::new(alloc),
+        }
+    }
+}
+
 /// The request of a line, without its newline. It allocates a few times the line's length at most.
-pub fn read_line(alloc: Global, bytes: &[u8]) -> Result<Line, LineError>
+pub fn read_line(alloc: Global, bytes: &[u8], scratch: &mut LineScratch) -> Result<Line, LineError>
     ensures { IfOk result (λ line. IsRequest bytes.now line) }
 {
     if bytes.len() > MAX_LINE {
@@ -34,10 +56,20 @@ pub fn read_line(alloc: Global, bytes: &[u8]) -> Result<Line, LineError>
         Ok(text) => text,
         Err(error) => return Err(LineError::unnamed(LineFault::NotJson(error.valid_up_to()))),
     };
-    let mut scratch = Scratch::new(alloc);
-    match members_of(alloc, text, &mut scratch) {
+    if bytes.len() > MOST_KEPT {
+        let mut own = LineScratch::new(alloc);
+        return read_text(alloc, text, &mut own);
+    }
+    read_text(alloc, text, scratch)
+}
+
+/// The request of a line's text.
+fn read_text(alloc: Global, text: &str, scratch: &mut LineScratch) -> Result<Line, LineError>
+    ensures { IfOk result (λ line. IsRequest text.now line) }
+{
+    match members_of(alloc, text, &mut scratch.line, &mut scratch.value) {
         Ok(members) => {
-            let line = line_of(alloc, members, &mut scratch)?;
+            let line = line_of(alloc, members, &mut scratch.line)?;
             Ok(line)
         }
         Err(_) => Err(LineError::unnamed(LineFault::NoMemory)),

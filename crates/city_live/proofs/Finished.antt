@@ -2,7 +2,7 @@
 use Rattle.std.specs.Prelude.{◌≡◌, ◌==◌, ◌<◌, ◌≤◌, ◌++◌, ◌∷◌, ℕ, List, [], Bool, true, false, Option, None, Some}
 use Rattle.std.specs.Prelude.{All}
 use Rattle.std.specs.Prelude.{Result, Ok, Err, OnOk, is_err, suc, option_map, is_some, refl, if◌then◌else◌, slice_get}
-use Rattle.std.specs.Prelude.{length}
+use Rattle.std.specs.Prelude.{length, get_or}
 use Rattle.std.proofs.Common.{sym, ◌∙◌, ap, subst, arith, inl, inr}
 use Rattle.std.proofs.lemmas.Bool.{false≢true, cases_eq, ne_eqb, eq-eqb}
 use Rattle.std.proofs.lemmas.List.{append-nil, append_assoc}
@@ -36,6 +36,8 @@ use Rattle.city_live.specs.declared.ghosts.event.Event.TheVariants as events
 use Rattle.city_live.specs.declared.task.Task.{Task}
 use Rattle.city_live.specs.declared.task.Task.TheVariants as task
 use Rattle.city_model.specs.CityMap.{CityValue}
+use Rattle.city_live.specs.Coming.{Came, OfCame, IsBegunFor, IsAnswerFor}
+use Rattle.city_live.specs.Coming.{answered_by as left_by_answer}
 use Rattle.city_live.specs.Continuing.{Continues, GoesOn}
 use Rattle.city_live.specs.Ending.{EndsAs, IsTelling, IsTellingOf, AreTold, Leads, told_replies}
 use Rattle.city_live.specs.Heard.{talk_of, begun_talk, AreSoFar, IsSoFar, AreHeard, IsKept, ArePlain}
@@ -43,15 +45,15 @@ use Rattle.city_live.specs.Heard.{script_told, Talk, after_fault}
 use Rattle.city_live.specs.Heard.{answered_by, refused_at, is_committed, closed_of, IsEndOf, IsStep, model_of}
 use Rattle.city_live.specs.Heard.{script_in}
 use Rattle.city_live.specs.Heard.{since_so_far, told_so_far, IsFitWhat, after_what, closed_by_what, or_none, cause_of}
-use Rattle.city_live.specs.Heard.{IsOutcome, IsSeenAt, IsSeenIn, what_said, stamp_of}
+use Rattle.city_live.specs.Heard.{IsOutcome, IsSeenAt, IsSeenIn, what_said, stamp_of, IsFor, came_after, heard}
 use Rattle.city_live.specs.Running.{Begins, RunsTo}
-use Rattle.city_live.specs.Serving.{Logged, IsSaid, told_in}
+use Rattle.city_live.specs.Serving.{Logged, IsSaid, told_in, is_coming}
 use Rattle.city_live.specs.Works.{Working, work_at, WorksTo, SameWorks, is_whole, is_whole_at, IsScriptAt}
 use Rattle.city_live.specs.Works.{without_script, with_script, IsAtCommit, MayCommit, first_of, IsFresh, none_kept}
 use Rattle.city_live.proofs.Continued.{begun, acted, goes_then}
 use Rattle.city_live.proofs.Worked.{one_reply, some_same, told_plainly}
 use Rattle.city_live.proofs.Followed.{told_both}
-use Rattle.city_live.proofs.Hearing.{work_own, work_other, heard_event, heard_silently, heard_unlabelled}
+use Rattle.city_live.proofs.Hearing.{work_own, work_other, heard_event, heard_silently, heard_unlabelled, came_more}
 
 -- the same works, with the one of the stamp named
 pub works_same : (stamp : ℕ) (w : Working) (works others : List (ℕ × Working)) → work_at works stamp ≡ Some w
@@ -77,7 +79,7 @@ heard_waits {s} {works} {others} {log} r stamp w there a b hand tag what same sa
     (subst (λ o. AreSoFar o og) there (r.so_far stamp))
     (Some k) (ap (option_map (talk_of og)) there)
     (events.Says (Some stamp) a said.is_told) refl
-    (record { hand = hand; tag = tag; what = subst (λ x. IsFitWhat x k) (sym what) tt })
+    (record { hand = hand; tag = tag; what = subst (λ x. IsFitWhat x k) (sym what) tt }) tt
     (sym (append-nil s.closed) ∙ ap (λ x. s.closed ++ closed_by_what x k) (sym what))
     (ap (λ x. after_what x k) what))
 
@@ -133,8 +135,9 @@ pub heard_begins : {s u : SessionState} {works others : List (ℕ × Working)} {
     → AreHeard s works es → (stamp : ℕ) (kept : Option ℕ) → Begins stamp kept s u
     → ((t : ℕ) → kept ≡ Some t → work_at works t ≡ None) → (new : Working) → IsFresh new.task
     → (is_kept : Bool) → new.kept ≡ none_kept is_kept
-    → WorksTo stamp (Some new) works others → next ≡ es ++ events.Begins stamp new ∷ [] → AreHeard u others next
-heard_begins {s} {u} {works} {others} {es} r stamp kept b free new fresh is_kept keeps to noted =
+    → WorksTo stamp (Some new) works others → OfCame (IsBegunFor new) (heard es).came
+    → next ≡ es ++ events.Begins stamp new ∷ [] → AreHeard u others next
+heard_begins {s} {u} {works} {others} {es} r stamp kept b free new fresh is_kept keeps to is_for noted =
     let g : Grown = record { since = length s.closed; told = [] } in
     let none = free_at r stamp b.taken b.stamp_is (λ t e. free t (b.kept_is t e).0) in
     let given = below_given stamp s.stamps b.taken b.stamp_is (λ t e. (b.kept_is t e).1) in
@@ -145,7 +148,7 @@ heard_begins {s} {u} {works} {others} {es} r stamp kept b free new fresh is_kept
       subst (λ ks. IsKept new.task ks (Some g)) (sym keeps) (fresh_kept new.task is_kept (length s.closed)),
     )
     None (ap (option_map (talk_of (grown_at s.growing stamp))) none)
-    (events.Begins stamp new) refl (refl, fresh) (b.begun.closed ∙ sym (append-nil s.closed))
+    (events.Begins stamp new) refl refl is_for (b.begun.closed ∙ sym (append-nil s.closed))
     (ap Some (fresh_talk new.by new.name new.task new.tag new.kept (length s.closed) fresh)))
 
 -- ---- a script is tried again
@@ -295,7 +298,7 @@ module _ {s u : SessionState} {works others : List (ℕ × Working)} {log logged
       h.growing tt
       (Some k) (ap (option_map (talk_of og)) there ∙ ap (λ o. Some (talk_of o w)) h.is_there)
       (events.Says (Some stamp) a said.is_told) refl
-      (record { hand = hand; tag = tag; what = subst (λ x. IsFitWhat x k) (sym is) fit })
+      (record { hand = hand; tag = tag; what = subst (λ x. IsFitWhat x k) (sym is) fit }) tt
       (h.closed ∙ ap (λ l. s.closed ++ l) (sym closed) ∙ ap (λ x. s.closed ++ closed_by_what x k) (sym is))
       (ap (λ x. after_what x k) is ∙ gone))
 
@@ -327,7 +330,7 @@ heard_undone {s} {u} {works} {others} {log} r stamp w there left h a hand tag sa
     h.growing tt
     (Some k) (ap (option_map (talk_of og)) there)
     (events.Says (Some stamp) a said.is_told) refl
-    (record { hand = hand; tag = tag; what = subst (λ x. IsFitWhat x k) (sym what) tt })
+    (record { hand = hand; tag = tag; what = subst (λ x. IsFitWhat x k) (sym what) tt }) tt
     (h.closed ∙ (sym (append-nil s.closed) ∙ ap (λ x. s.closed ++ closed_by_what x k) (sym what)))
     (ap (λ x. after_what x k) what ∙ gone_whole w.task k (subst (λ o. is_whole_at o ≡ true) there whole)))
   where
@@ -349,12 +352,46 @@ committing o w may e = at_commit w.task (subst MayCommit e may)
 telling_seen : (start : CityValue) (ended : List Closed) (c : Changed) (e : Event) → IsTelling c e
     → IsStep start ended c
     → (stamp_of e ≡ None) × IsSeenIn start ended (what_said e)
+telling_seen start ended c (events.Comes hand tag r) t step = absurd t
 telling_seen start ended c (events.Says None a is_told) t step =
-    (refl, subst (IsSeenAt start ended) (sym t.what) (subst (IsStep start ended) (sym t.same) step))
+    (refl, subst (IsSeenAt start ended) (sym t.0.what) (subst (IsStep start ended) (sym t.0.same) step))
 telling_seen start ended c (events.Says (Some n) a is_told) t step = absurd t
 telling_seen start ended c (events.Begins n w) t step = absurd t
 telling_seen start ended c (events.Asks n hand tag s) t step = absurd t
 telling_seen start ended c (events.Requests n hand tag) t step = absurd t
+
+-- it is no request, nor an answer to one
+is_change : (hand : List ℕ) (tag : Option (List ℕ)) (what : What) (c : Arc Changed Global) → what ≡ told.Changed c
+    → tag ≡ None → (o : Option Came) → IsAnswerFor hand tag what o × (left_by_answer what o ≡ o)
+is_change hand tag what c is none o =
+    (subst (λ w. IsAnswerFor hand tag w o) (sym is) none, ap (λ w. left_by_answer w o) is)
+
+telling_for : (c : Changed) (e : Event) → IsTelling c e
+    → ((o : Option Came) → IsFor e o × (came_after e o ≡ o)) × (is_coming e ≡ false)
+telling_for c (events.Comes hand tag r) t = absurd t
+telling_for c (events.Says None a is_told) t =
+    (is_change (arc_value a.hand) a.tag a.what t.0.shared t.0.what t.1, refl)
+telling_for c (events.Says (Some n) a is_told) t = absurd t
+telling_for c (events.Begins n w) t = absurd t
+telling_for c (events.Asks n hand tag s) t = absurd t
+telling_for c (events.Requests n hand tag) t = absurd t
+
+tellings_for : (o : Option (Arc Changed Global)) (e : Event) → IsTellingOf o e
+    → ((p : Option Came) → IsFor e p × (came_after e p ≡ p)) × (is_coming e ≡ false)
+tellings_for None e t = absurd t
+tellings_for (Some c) e t = telling_for (arc_value c) e t
+
+pub came_tellings : (es : List Event) (o : Option (Arc Changed Global)) (more : List Event) → All (IsTellingOf o) more
+    → (heard (es ++ more)).came ≡ (heard es).came
+came_tellings es o [] all = ap (λ l. (heard l).came) (append-nil es)
+came_tellings es o (e ∷ more) all =
+    ap (λ l. (heard l).came) (sym (append_assoc es (e ∷ []) more))
+    ∙ (came_tellings (es ++ e ∷ []) o more (λ k d l. all (suc k) d (omega (arith, l)))
+    ∙ (came_more es e ∙ ((tellings_for o e (all 0 e (omega arith))).0 (heard es).came).1))
+
+pub alone_tellings : (o : Option (Arc Changed Global)) (more : List Event) → All (IsTellingOf o) more
+    → All (λ e. is_coming e ≡ false) more
+alone_tellings o more all k d l = (tellings_for o (get_or more k d) (all k d l)).1
 
 abbrev pub IsStepIf : CityValue → List Closed → Option (Arc Changed Global) → Type 0
 IsStepIf start ended None = Unit {0}
@@ -372,7 +409,8 @@ heard_tellings {s} {works} es r o step [] all = subst (AreHeard s works) (sym (a
 heard_tellings {s} {works} es r o step (e ∷ more) all =
     let seen = tellings_seen s.start s.closed o step e (all 0 e (omega arith)) in
     subst (AreHeard s works) (append_assoc es (e ∷ []) more)
-    (heard_tellings (es ++ e ∷ []) (heard_unlabelled r e seen.0 seen.1) o step more
+    (heard_tellings (es ++ e ∷ [])
+    (heard_unlabelled r e seen.0 seen.1 ((tellings_for o e (all 0 e (omega arith))).0 (heard es).came).0) o step more
     (λ k d l. all (suc k) d (omega (arith, l))))
 
 steps : {s u : SessionState} (stamp : ℕ) (c : Changed) → IsLive s → IsLive u

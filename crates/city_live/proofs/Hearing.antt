@@ -11,7 +11,8 @@ use Rattle.city_session.proofs.Recorded.{at_own, at_other}
 use Rattle.city_live.specs.declared.ghosts.event.Event.{Event}
 use Rattle.city_live.specs.Heard.{Talk, Heard, nothing, stamp_of, after_event, closed_by, IsFitAt, after_at, after}
 use Rattle.city_live.specs.Heard.{IsFitIn, heard_from, AreFitFrom, heard, AreFit, talk_of, AreSoFar, AreHeard, IsSeenIn}
-use Rattle.city_live.specs.Heard.{what_said}
+use Rattle.city_live.specs.Heard.{what_said, came_after, IsFor}
+use Rattle.city_live.specs.Coming.{Came}
 use Rattle.city_live.specs.Works.{Working, work_at, WorksTo, SameWorks}
 
 -- ---- one event more
@@ -24,6 +25,13 @@ pub fit_more : (start : CityValue) (h : Heard) (es : List Event) (e : Event) →
     → IsFitIn start (stamp_of e) e (heard_from h es) → AreFitFrom start h (es ++ e ∷ [])
 fit_more start h [] e f i = (i, tt)
 fit_more start h (x ∷ es) e f i = (f.0, fit_more start (after x h) es e f.1 i)
+
+after_came : (o : Option ℕ) (e : Event) (h : Heard) → (after_at o e h).came ≡ came_after e h.came
+after_came None e h = refl
+after_came (Some t) e h = refl
+
+pub came_more : (es : List Event) (e : Event) → (heard (es ++ e ∷ [])).came ≡ came_after e (heard es).came
+came_more es e = ap (λ (h : Heard). h.came) (heard_more nothing es e) ∙ after_came (stamp_of e) e (heard es)
 
 -- ---- the works after a change of one
 
@@ -97,16 +105,17 @@ module _ {s : SessionState} {works : List (ℕ × Working)} {es : List Event} (r
   -- An event of the stamp, whose talk was so before.
   pub heard_event : (before : Option Talk)
       → option_map (talk_of (grown_at s.growing stamp)) (work_at works stamp) ≡ before
-      → (e : Event) → stamp_of e ≡ Some stamp → IsFitAt e before → u.closed ≡ s.closed ++ closed_by e before
+      → (e : Event) → stamp_of e ≡ Some stamp → IsFitAt e before → IsFor e (heard es).came
+      → u.closed ≡ s.closed ++ closed_by e before
       → after_event e before (length s.closed) ≡ option_map (talk_of og) ow → AreHeard u others (es ++ e ∷ [])
-  heard_event before is e label fit closed talk =
+  heard_event before is e label fit is_for closed talk =
       let now : heard (es ++ e ∷ []) ≡ after_at (Some stamp) e (heard es) =
       heard_more nothing es e ∙ ap (λ o. after_at o e (heard es)) label in
       let was : (heard es).talks stamp ≡ before = r.talks stamp ∙ is in
       record {
         fit = subst (λ st. AreFit st (es ++ e ∷ [])) (sym start)
             (fit_more s.start nothing es e r.fit
-            (subst (λ o. IsFitIn s.start o e (heard es)) (sym label) (subst (IsFitAt e) (sym was) fit)));
+            (subst (λ o. IsFitIn s.start o e (heard es)) (sym label) (subst (IsFitAt e) (sym was) fit, is_for)));
         ended = ap (λ (h : Heard). h.ended) now
             ∙ (ap (λ o. (heard es).ended ++ closed_by e o) was
             ∙ (ap (λ cs. cs ++ closed_by e before) r.ended ∙ sym closed));
@@ -130,13 +139,15 @@ module _ {s : SessionState} {works : List (ℕ × Working)} {es : List Event} (r
 -- ---- an event of no stamp
 
 pub heard_unlabelled : {s : SessionState} {works : List (ℕ × Working)} {es : List Event} → AreHeard s works es
-    → (e : Event) → stamp_of e ≡ None → IsSeenIn s.start s.closed (what_said e) → AreHeard s works (es ++ e ∷ [])
-heard_unlabelled {s} {works} {es} r e label seen =
-    let now : heard (es ++ e ∷ []) ≡ heard es = heard_more nothing es e ∙ ap (λ o. after_at o e (heard es)) label in
+    → (e : Event) → stamp_of e ≡ None → IsSeenIn s.start s.closed (what_said e) → IsFor e (heard es).came
+    → AreHeard s works (es ++ e ∷ [])
+heard_unlabelled {s} {works} {es} r e label seen is_for =
+    let now : heard (es ++ e ∷ []) ≡ after_at None e (heard es) =
+    heard_more nothing es e ∙ ap (λ o. after_at o e (heard es)) label in
     record {
       fit = fit_more s.start nothing es e r.fit
           (subst (λ o. IsFitIn s.start o e (heard es)) (sym label)
-          (subst (λ cs. IsSeenIn s.start cs (what_said e)) (sym r.ended) seen));
+          (subst (λ cs. IsSeenIn s.start cs (what_said e)) (sym r.ended) seen, is_for));
       ended = ap (λ (h : Heard). h.ended) now ∙ r.ended;
       talks = λ t. ap (λ (h : Heard). h.talks t) now ∙ r.talks t;
       so_far = r.so_far;

@@ -1,4 +1,5 @@
 pub mod Continued
+pub mod ExampleRequests
 pub mod Finished
 pub mod Followed
 pub mod Handled

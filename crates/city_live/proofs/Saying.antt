@@ -33,9 +33,10 @@ use Rattle.city_live.specs.declared.task.Task.{Task}
 use Rattle.city_live.specs.declared.task.Task.TheVariants as task
 use Rattle.city_live.specs.Heard.{Talk, IsFitWhat, after_what, closed_by_what, answered_talk, talk_of, AreSoFar}
 use Rattle.city_live.specs.Heard.{IsSoFar, IsKept, after_fault, IsFitFault}
+use Rattle.city_live.specs.Coming.{OfCame, IsAskedFor, IsTakenFor}
 use Rattle.city_live.specs.Noting.{firsts, or_no_command}
 use Rattle.city_live.specs.Heard.{AreHeard, with_one, asked_in, script_in, since_so_far, since_of, told_so_far}
-use Rattle.city_live.specs.Heard.{told_of, asked_talk}
+use Rattle.city_live.specs.Heard.{told_of, asked_talk, heard}
 use Rattle.city_live.specs.Running.{IsWhatOf, IsWhatBehind}
 use Rattle.city_live.specs.Serving.{Logged, IsSaid}
 use Rattle.city_live.specs.Works.{Working, work_at, WorksTo, IsWorkOf, IsAskedAt, answered, with_asked, tag_at, tag_of}
@@ -99,7 +100,7 @@ module _ {s : SessionState} {works others : List (ℕ × Working)} {es : List Ev
       (grows_same stamp og s.growing refl) (so_far_answered w og far)
       (Some (talk_of og w)) (ap (option_map (talk_of og)) there)
       (events.Says (Some stamp) a is_told) refl
-      (record { hand = hand; tag = tag ∙ ap tag_of there; what = fit })
+      (record { hand = hand; tag = tag ∙ ap tag_of there; what = fit }) tt
       (sym (append-nil s.closed) ∙ ap (λ l. s.closed ++ l) (sym none)) effect
 
 -- ---- a reply to a command
@@ -282,6 +283,7 @@ heard_replied {s} {u} {works} {others} {log} {logged} r stamp by command asked p
           (asked_some w.task command asked.single asked.next)
           (at g grown.1 ∙ ap (λ l. length (unrefused l)) (sym (told_single w.task g.told asked.single)));
     })
+    tt
     (acted.closed ∙ (sym (append-nil s.closed) ∙ ap (λ l. s.closed ++ l) (sym (none_is k place reply a.what what))))
     (what_is k place reply a.what what ∙ ap Some (replied_so g w command reply is_done asked.single asked.next)))
 
@@ -360,8 +362,9 @@ module _ {s : SessionState} {works others : List (ℕ × Working)} {es next : Li
     (stamp : ℕ) (by : Arc (List ℕ) Global) (tag : Option (List ℕ)) where
   pub heard_request : IsWorkOf works stamp (arc_value by) (λ t. Unit {0})
       → WorksTo stamp (option_map (requested tag) (work_at works stamp)) works others
+      → OfCame (IsTakenFor stamp (arc_value by) tag) (heard es).came
       → next ≡ es ++ events.Requests stamp by tag ∷ [] → AreHeard s others next
-  heard_request o to noted =
+  heard_request o to is_for noted =
       let og = grown_at s.growing stamp in
       let w = o.work in
       subst (λ l. AreHeard s others l) (sym noted)
@@ -371,13 +374,14 @@ module _ {s : SessionState} {works others : List (ℕ × Working)} {es next : Li
       (grows_same stamp og s.growing refl)
       (subst (λ x. AreSoFar x og) o.there (r.so_far stamp))
       (Some (talk_of og w)) (ap (option_map (talk_of og)) o.there)
-      (events.Requests stamp by tag) refl o.hand (sym (append-nil s.closed)) refl)
+      (events.Requests stamp by tag) refl o.hand is_for (sym (append-nil s.closed)) refl)
 
   pub heard_ask : (script : Scripted) → IsWorkOf works stamp (arc_value by) (λ t. t ≡ task.Single None)
       → ((c : Command) → first_of (Some script) ≡ Some c → is_end c ≡ false)
       → WorksTo stamp (option_map (asking script tag) (work_at works stamp)) works others
+      → OfCame (IsAskedFor (arc_value by) tag script) (heard es).came
       → next ≡ es ++ events.Asks stamp by tag script ∷ [] → AreHeard s others next
-  heard_ask script o goes to noted =
+  heard_ask script o goes to is_for noted =
       let og = grown_at s.growing stamp in
       let w = o.work in
       let all : AreSoFar (Some w) og = subst (λ x. AreSoFar x og) o.there (r.so_far stamp) in
@@ -400,6 +404,7 @@ module _ {s : SessionState} {works others : List (ℕ × Working)} {es next : Li
         idle = subst (λ t. asked_in t ≡ None) (sym o.so) refl;
         first = goes;
       })
+      is_for
       (sym (append-nil s.closed))
       (subst (λ t. Some (asked_talk tag script (talk_of og
       (record { by = w.by; name = w.name; task = t; tag = w.tag; kept = w.kept })))

@@ -80,8 +80,9 @@ pub record IsChanged (c : Changed) (w : What) : Type 0 where
 
 -- an answer of no hand's work that tells of the change
 abbrev pub IsTelling : Changed → Event → Type 0
-IsTelling c (events.Says None a is_told) = IsChanged c a.what
+IsTelling c (events.Says None a is_told) = IsChanged c a.what × (a.tag ≡ None)
 IsTelling c (events.Says (Some t) a is_told) = ⊥
+IsTelling c (events.Comes hand tag r) = ⊥
 IsTelling c (events.Begins t w) = ⊥
 IsTelling c (events.Asks t hand tag s) = ⊥
 IsTelling c (events.Requests t hand tag) = ⊥

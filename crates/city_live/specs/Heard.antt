@@ -27,8 +27,11 @@ use Rattle.city_live.specs.declared.ghosts.event.Event.{Event}
 use Rattle.city_live.specs.declared.ghosts.event.Event.TheVariants as events
 use Rattle.city_live.specs.declared.task.Task.{Task}
 use Rattle.city_live.specs.declared.task.Task.TheVariants as task
+use Rattle.city_live.specs.Coming.{Came, just_came, with_stamp, taken, OfCame, IsBegunFor, IsAskedFor, IsTakenFor}
+use Rattle.city_live.specs.Coming.{IsAnswerFor}
+use Rattle.city_live.specs.Coming.{answered_by as left_by_answer}
 use Rattle.city_live.specs.Noting.{firsts}
-use Rattle.city_live.specs.Works.{Working, first_of, work_at, IsFresh}
+use Rattle.city_live.specs.Works.{Working, first_of, work_at}
 
 -- ---- what a hand heard of its script or transaction
 
@@ -44,14 +47,15 @@ pub record Talk : Type 0 where
   pub told : List Answered
   pub asked : Option Command
 
--- the talks by their stamps, and what was told of those that are over, as transactions of a session, in the order of
--- their ends
+-- the talks by their stamps; what was told of those that are over, as transactions of a session, in the order of their
+-- ends; and the request that came last, until it is taken or answered
 pub record Heard : Type 0 where
   pub talks : ℕ → Option Talk
   pub ended : List Closed
+  pub came : Option Came
 
 abbrev pub nothing : Heard
-nothing = record { talks = λ t. None; ended = [] }
+nothing = record { talks = λ t. None; ended = []; came = None }
 
 -- ---- a script
 
@@ -208,12 +212,14 @@ IsFitWhat w k = ⊥
 -- ---- the effect of an event on the talk of its stamp, if so many have ended before
 
 abbrev pub stamp_of : Event → Option ℕ
+stamp_of (events.Comes hand tag r) = None
 stamp_of (events.Begins t w) = Some t
 stamp_of (events.Asks t hand tag s) = Some t
 stamp_of (events.Requests t hand tag) = Some t
 stamp_of (events.Says t a is_told) = t
 
 abbrev pub after_event : Event → Option Talk → ℕ → Option Talk
+after_event (events.Comes hand tag r) o ended = o
 after_event (events.Begins t w) o ended = Some (begun_talk w ended)
 after_event (events.Asks t hand tag s) o ended = option_map (asked_talk tag s) o
 after_event (events.Requests t hand tag) o ended = option_map (requested_talk tag) o
@@ -221,6 +227,7 @@ after_event (events.Says t a is_told) None ended = None
 after_event (events.Says t a is_told) (Some k) ended = after_what a.what k
 
 abbrev pub closed_by : Event → Option Talk → List Closed
+closed_by (events.Comes hand tag r) o = []
 closed_by (events.Begins t w) o = []
 closed_by (events.Asks t hand tag s) o = []
 closed_by (events.Requests t hand tag) o = []
@@ -245,7 +252,8 @@ OfTalk P None = ⊥
 OfTalk P (Some k) = P k
 
 abbrev pub IsFitAt : Event → Option Talk → Type 0
-IsFitAt (events.Begins t w) o = (o ≡ None) × IsFresh w.task
+IsFitAt (events.Comes hand tag r) o = Unit {0}
+IsFitAt (events.Begins t w) o = o ≡ None
 IsFitAt (events.Asks t hand tag s) o = OfTalk (IsIdle (arc_value hand) s) o
 IsFitAt (events.Requests t hand tag) o = OfTalk (λ k. k.by ≡ arc_value hand) o
 IsFitAt (events.Says t a is_told) o = OfTalk (IsSaidTo a) o
@@ -271,30 +279,51 @@ IsSeenAt start ended (told.Fault f) = Unit {0}
 IsSeenAt start ended w = ⊥
 
 abbrev pub what_said : Event → Option What
+what_said (events.Comes hand tag r) = None
 what_said (events.Says t a is_told) = Some a.what
 what_said (events.Begins t w) = None
 what_said (events.Asks t hand tag s) = None
 what_said (events.Requests t hand tag) = None
 
 abbrev pub IsSeenIn : CityValue → List Closed → Option What → Type 0
-IsSeenIn start ended None = ⊥
+IsSeenIn start ended None = Unit {0}
 IsSeenIn start ended (Some w) = IsSeenAt start ended w
+
+-- ---- the request that came last
+
+abbrev pub came_after : Event → Option Came → Option Came
+came_after (events.Comes hand tag r) o = Some (just_came hand tag r)
+came_after (events.Begins t w) o = option_map (with_stamp t) o
+came_after (events.Asks t hand tag s) o = None
+came_after (events.Requests t hand tag) o = taken t o
+came_after (events.Says None a is_told) o = left_by_answer a.what o
+came_after (events.Says (Some t) a is_told) o = o
+
+-- nothing is begun, asked or ended that wasn't asked for, and an answer of no work is its hand's, and the only one
+abbrev pub IsFor : Event → Option Came → Type 0
+IsFor (events.Comes hand tag r) o = Unit {0}
+IsFor (events.Begins t w) o = OfCame (IsBegunFor w) o
+IsFor (events.Asks t hand tag s) o = OfCame (IsAskedFor (arc_value hand) tag s) o
+IsFor (events.Requests t hand tag) o = OfCame (IsTakenFor t (arc_value hand) tag) o
+IsFor (events.Says None a is_told) o = IsAnswerFor (arc_value a.hand) a.tag a.what o
+IsFor (events.Says (Some t) a is_told) o = Unit {0}
 
 -- ---- all events
 
 abbrev pub after_at : Option ℕ → Event → Heard → Heard
-after_at None e h = h
+after_at None e h = record { talks = h.talks; ended = h.ended; came = came_after e h.came }
 after_at (Some t) e h = record {
   talks = λ u. if t == u then after_event e (h.talks t) (length h.ended) else h.talks u;
   ended = h.ended ++ closed_by e (h.talks t);
+  came = came_after e h.came;
 }
 
 abbrev pub after : Event → Heard → Heard
 after e h = after_at (stamp_of e) e h
 
 abbrev pub IsFitIn : CityValue → Option ℕ → Event → Heard → Type 0
-IsFitIn start None e h = IsSeenIn start h.ended (what_said e)
-IsFitIn start (Some t) e h = IsFitAt e (h.talks t)
+IsFitIn start None e h = IsSeenIn start h.ended (what_said e) × IsFor e h.came
+IsFitIn start (Some t) e h = IsFitAt e (h.talks t) × IsFor e h.came
 
 abbrev pub heard_from : Heard → List Event → Heard
 heard_from h [] = h

@@ -1,3 +1,4 @@
+pub mod Coming
 pub mod Continuing
 pub mod Ending
 pub mod Entering

@@ -1,10 +1,13 @@
 //! The hands of one city.
-ghost use Rattle.std.specs.Prelude.{◌≡◌, [], Some, IfOk, OnErr};
+ghost use Rattle.std.specs.Prelude.{◌≡◌, ◌++◌, [], Some, true, false, IfOk, OnOk, OnErr};
+ghost use Rattle.std.specs.Arc.{arc_value};
 ghost use Rattle.city_model.specs.CityMap.{object_at};
 ghost use Rattle.city_model.specs.Relations.{IsLawful};
 ghost use Rattle.city_txn.specs.CoreState.{committed};
-ghost use Rattle.city_live.specs.Works.{IsFresh};
-ghost use Rattle.city_live.specs.Serving.{Follows, IsHandled, IsServed};
+ghost use Rattle.city_live.specs.declared.request.Request.TheVariants as requests;
+ghost use Rattle.city_live.specs.Coming.{end_asked};
+ghost use Rattle.city_live.specs.Serving.{Follows, Proceeds, IsHandled, IsServed};
+ghost use Rattle.city_live.specs.Serving.{HasCome, HasAsked, IsLeaving, AreHandled};
 
 use crate::answer::{Answer, Fault, Name};
 use crate::hand::{At, Hand};
@@ -15,17 +18,18 @@ use crate::talks::Talks;
 use crate::task::Task;
 use crate::waiting::Waiting;
 use city_members::copied::Copied;
-use city_members::sequence::Sequence;
 use city_members::text::Text;
 use city_model::OutOfMemory;
 use city_model::city::City;
 use city_model::command::Command;
+use city_model::id_list::is_same_id;
 use city_model::script::Script;
 use std::alloc::Global;
 use std::collections::{BTreeMap, BTreeSet};
 use std::marker::Model;
 use std::sync::Arc;
 
+mod begins;
 mod endings;
 mod looks;
 mod steps;
@@ -111,7 +115,9 @@ impl<J: Journal> Hands<J> {
     }
 
     /// The journal. Doesn't allocate.
-    pub fn journal(&self) -> &J {
+    pub fn journal(&self) -> &J
+        ensures { J.noted result.now ≡ self.now.noted }
+    {
         self.talks.journal()
     }
 
@@ -123,26 +129,60 @@ impl<J: Journal> Hands<J> {
     /// Does a request of a hand, and goes on with all works it was in the way of. The answers stand in their order.
     ///
     /// If memory runs out before anything is done, nothing changes. If it runs out later, the hand is told so.
-    #[tactic(auto, using(crate::proofs::Handled::handled, crate::proofs::Followed::same))]
+    #[tactic(auto, using(crate::proofs::Handled::handled, crate::proofs::Handled::arrived_asked))]
     pub fn handle(
         &mut self,
         hand: Text,
         tag: Tag,
         request: Request,
     ) -> Result<Vec<Answer>, OutOfMemory>
-        ensures ok { IfOk result (λ answers. IsHandled answers.items self.old self.new) }
+        ensures ok { IfOk result (λ answers. IsHandled hand tag request answers.items self.old self.new) }
         ensures err { OnErr result (self.new ≡ self.old) }
     {
         self.talks.reserve(STEP_ANSWERS)?;
         let sender = self.sender(hand)?;
+        self.talks.come(&sender.name, &tag, &request);
         self.serve(&sender, tag, request);
         Ok(self.talks.take_answers())
     }
 
+    /// Handles requests, one after another, and gives all answers out in their order. What has ended by then is a serial
+    /// history, what each hand was told of it is what it would have been told there, and each change that was told leads
+    /// from the model before it to the model after it.
+    ///
+    /// If memory runs out, the first of them are done, and their answers are lost.
+    pub fn handle_each(
+        &mut self,
+        requests: Vec<(Text, Tag, Request)>,
+    ) -> Result<Vec<Answer>, OutOfMemory>
+        ensures handled { IfOk result (λ answers. AreHandled requests.items answers.items self.old self.new) }
+        ensures served { IsServed self.new }
+    {
+        let answers = self.handle_all(requests);
+        self.are_served();
+        answers
+    }
+
+    /// Handles requests, one after another.
+    fn handle_all(
+        &mut self,
+        requests: Vec<(Text, Tag, Request)>,
+    ) -> Result<Vec<Answer>, OutOfMemory>
+        ensures { IfOk result (λ answers. AreHandled requests.items answers.items self.old self.new) }
+    {
+        let mut all = self.talks.take_answers();
+        for (hand, tag, request) in requests {
+            let answers = self.handle(hand, tag, request)?;
+            add_all(&mut all, answers)?;
+        }
+        Ok(all)
+    }
+
     /// Does a request of a hand, and goes on with all works it was in the way of.
-    #[tactic(auto, using(crate::proofs::Followed::then, crate::proofs::Followed::same))]
+    #[tactic(auto, using(crate::proofs::Followed::goes_behind, crate::proofs::Followed::goes_before, crate::proofs::Followed::still_asked))]
     fn serve(&mut self, sender: &Sender, tag: Tag, request: Request)
-        ensures { Follows self.old self.new }
+        requires { HasAsked (arc_value sender.now.name) tag request self.old }
+        ensures { Proceeds self.old self.new }
     {
         self.wake();
         self.answer(sender, tag, request);
@@ -150,13 +190,27 @@ impl<J: Journal> Hands<J> {
     }
 
     /// The sender of this name.
-    fn sender(&self, hand: Text) -> Result<Sender, OutOfMemory> {
+    fn sender(&self, hand: Text) -> Result<Sender, OutOfMemory>
+        ensures { IfOk result (λ sender. arc_value sender.name ≡ hand) }
+    {
         let seat = self.roster.find(&hand);
-        let name = match self.hand_at(seat) {
-            Some(known) => Arc::try_clone(&known.name)?,
-            None => Arc::new(self.alloc, hand)?,
-        };
+        let name = self.name_at(seat, hand)?;
         Ok(Sender { name, seat })
+    }
+
+    /// The name of a hand, shared with the known one at a seat.
+    #[tactic(auto, using(city_members::proofs::Ids::same_id_true))]
+    fn name_at(&self, seat: Option<usize>, hand: Text) -> Result<Name, OutOfMemory>
+        ensures { IfOk result (λ name. arc_value name ≡ hand) }
+    {
+        if let Some(known) = self.hand_at(seat) {
+            if is_same_id(&known.name, &hand) {
+                let name = Arc::try_clone(&known.name)?;
+                return Ok(name);
+            }
+        }
+        let name = Arc::new(self.alloc, hand)?;
+        Ok(name)
     }
 
     /// The hand at a seat, if there is one. Doesn't allocate.
@@ -165,23 +219,25 @@ impl<J: Journal> Hands<J> {
     }
 
     fn refuse(&mut self, sender: &Sender, tag: Tag, fault: Fault)
-        ensures { Follows self.old self.new }
+        requires { HasCome (arc_value sender.now.name) tag self.old }
+        ensures { Proceeds self.old self.new }
     {
         self.talks.refuse(&sender.name, tag, fault);
     }
 
     /// Does a request of a hand.
-    #[tactic(auto, using(crate::proofs::Followed::then, crate::proofs::Followed::same))]
+    #[tactic(auto, using(crate::proofs::Followed::asks_end))]
     fn answer(&mut self, sender: &Sender, tag: Tag, request: Request)
-        ensures { Follows self.old self.new }
+        requires { HasAsked (arc_value sender.now.name) tag request self.old }
+        ensures { Proceeds self.old self.new }
     {
         match request {
             Request::Script(script) => self.begin_script(sender, tag, script),
             Request::Begin(name) => self.begin(sender, tag, name, Task::Single(None)),
-            Request::Do(script) => match script.commands().first() {
-                Some(Command::Commit) => self.commit_by(sender, tag),
-                Some(Command::Abort) => self.abort_by(sender, tag),
-                _ => self.act_by(sender, tag, script),
+            Request::Do(script) => match asked_end(&script) {
+                Some(true) => self.commit_by(sender, tag),
+                Some(false) => self.abort_by(sender, tag),
+                None => self.act_by(sender, tag, script),
             },
             Request::Commit => self.commit_by(sender, tag),
             Request::Abort => self.abort_by(sender, tag),
@@ -221,126 +277,11 @@ impl<J: Journal> Hands<J> {
         }
     }
 
-    /// Begins a whole script.
-    #[tactic(auto, using(crate::proofs::Followed::then, crate::proofs::Followed::same))]
-    fn begin_script(&mut self, sender: &Sender, tag: Tag, script: Script)
-        ensures { Follows self.old self.new }
-    {
-        match script.name().copy(self.alloc) {
-            Ok(name) => {
-                let replies = Sequence::new(self.alloc);
-                self.begin(sender, tag, name, Task::Script(script, replies, None));
-            }
-            Err(OutOfMemory) => self.refuse(sender, tag, Fault::NoMemory),
-        }
-    }
-
-    /// Begins a script or a transaction.
-    #[tactic(auto, using(crate::proofs::Followed::then, crate::proofs::Followed::same))]
-    fn begin(&mut self, sender: &Sender, tag: Tag, name: Text, task: Task)
-        requires { IsFresh task }
-        ensures { Follows self.old self.new }
-    {
-        if let Some(stamp) = self.stamp_of(sender) {
-            let fault = if self.is_busy(stamp) {
-                Fault::Busy
-            } else {
-                Fault::AlreadyOpen
-            };
-            return self.refuse(sender, tag, fault);
-        }
-        match self.seat_of(sender) {
-            Ok(seat) => self.begin_at(sender, seat, tag, name, task),
-            Err(fault) => self.refuse(sender, tag, fault),
-        }
-    }
-
-    /// Begins a script or a transaction of a hand without one.
-    #[tactic(auto, using(crate::proofs::Followed::then, crate::proofs::Followed::same))]
-    fn begin_at(&mut self, sender: &Sender, seat: usize, tag: Tag, name: Text, task: Task)
-        requires { IsFresh task }
-        ensures { Follows self.old self.new }
-    {
-        let is_script = matches!(task, Task::Script(_, _, _));
-        match self.open(sender, seat, name, task) {
-            Ok(stamp) => self.begun(sender, tag, stamp, is_script),
-            Err(OutOfMemory) => self.refuse(sender, tag, Fault::NoMemory),
-        }
-    }
-
-    /// Opens a work of a hand without one, under its kept age if it has one. If memory runs out, nothing changes.
-    #[tactic(auto, using(crate::proofs::Followed::then, crate::proofs::Followed::same))]
-    fn open(
-        &mut self,
-        sender: &Sender,
-        seat: usize,
-        name: Text,
-        task: Task,
-    ) -> Result<u64, OutOfMemory>
-        requires { IsFresh task }
-        ensures { Follows self.old self.new }
-    {
-        let by = Arc::try_clone(&sender.name)?;
-        let kept = self.kept_by(seat);
-        let stamp = self.talks.begin(by, seat, name, task, kept)?;
-        self.take_age(seat, stamp);
-        Ok(stamp)
-    }
-
-    /// The stamp kept for the next transaction of the hand at a seat, if there is one. Doesn't allocate.
-    fn kept_by(&self, seat: usize) -> Option<u64> {
-        self.roster.get(seat)?.kept()
-    }
-
-    /// Moves the lock in the way of the hand's last transaction to its new work. Doesn't allocate.
-    fn take_age(&mut self, seat: usize, stamp: u64)
-        ensures { self.new ≡ self.old }
-    {
-        if let At::Kept(_, way) = self.roster.put_at(seat, At::Works(stamp)) {
-            self.talks.hold(stamp, Some(way));
-        }
-    }
-
-    /// Tells of a transaction's beginning, or runs a script.
-    #[tactic(auto, using(crate::proofs::Followed::then, crate::proofs::Followed::same))]
-    fn begun(&mut self, sender: &Sender, tag: Tag, stamp: u64, is_script: bool)
-        ensures { Follows self.old self.new }
-    {
-        self.talks.request(stamp, &sender.name, tag);
-        if is_script {
-            self.go_on(stamp);
-        } else {
-            self.talks.tell_begun(stamp);
-        }
-    }
-
-    /// Does the first command of a script in the hand's transaction.
-    #[tactic(auto, using(crate::proofs::Followed::then, crate::proofs::Followed::same))]
-    fn act_by(&mut self, sender: &Sender, tag: Tag, script: Script)
-        ensures { Follows self.old self.new }
-    {
-        let Some(stamp) = self.stamp_of(sender) else {
-            return self.refuse(sender, tag, Fault::NotOpen);
-        };
-        match self.talks.ask(stamp, &sender.name, tag, script) {
-            Ok(()) => self.go_on(stamp),
-            Err(tag) => {
-                let fault = if self.is_busy(stamp) {
-                    Fault::Busy
-                } else if self.talks.is_script(stamp) {
-                    Fault::NotOpen
-                } else {
-                    Fault::NoMemory
-                };
-                self.refuse(sender, tag, fault);
-            }
-        }
-    }
-
     /// Aborts the hand's work, and forgets the hand.
-    #[tactic(auto, using(crate::proofs::Followed::then, crate::proofs::Followed::same))]
+    #[tactic(auto, using(crate::proofs::Followed::asked_leaving))]
     fn bye(&mut self, sender: &Sender, tag: Tag)
-        ensures { Follows self.old self.new }
+        requires { HasAsked (arc_value sender.now.name) tag requests.Bye self.old }
+        ensures { Proceeds self.old self.new }
     {
         match self.stamp_of(sender) {
             Some(stamp) => self.bye_open(sender, tag, stamp),
@@ -349,9 +290,10 @@ impl<J: Journal> Hands<J> {
     }
 
     /// Aborts a work of the hand, and forgets the hand.
-    #[tactic(auto, using(crate::proofs::Followed::then, crate::proofs::Followed::same))]
+    #[tactic(auto, using(crate::proofs::Followed::goes, crate::proofs::Followed::goes_then, crate::proofs::Followed::asked_come, crate::proofs::Followed::still_come, crate::proofs::Followed::asks_end, crate::proofs::Followed::asked_leaving))]
     fn bye_open(&mut self, sender: &Sender, tag: Tag, stamp: u64)
-        ensures { Follows self.old self.new }
+        requires { HasAsked (arc_value sender.now.name) tag requests.Bye self.old }
+        ensures { Proceeds self.old self.new }
     {
         let Ok(again) = tag.copy(self.alloc) else {
             return self.refuse(sender, tag, Fault::NoMemory);
@@ -363,9 +305,10 @@ impl<J: Journal> Hands<J> {
     }
 
     /// Forgets a hand without a work.
-    #[tactic(auto, using(crate::proofs::Followed::then, crate::proofs::Followed::same))]
+    #[tactic(auto, using(crate::proofs::Followed::still_leaving))]
     fn forget(&mut self, sender: &Sender, tag: Tag)
-        ensures { Follows self.old self.new }
+        requires { IsLeaving (arc_value sender.now.name) tag self.old }
+        ensures { Proceeds self.old self.new }
     {
         self.stop_watching(sender);
         if let Some(seat) = sender.seat {
@@ -373,4 +316,23 @@ impl<J: Journal> Hands<J> {
         }
         self.say_bye(sender, tag);
     }
+}
+
+/// Whether the first command of a script commits, or aborts. Doesn't allocate.
+fn asked_end(script: &Script) -> Option<bool>
+    ensures { result ≡ end_asked (requests.Do script.now) }
+{
+    match script.commands().first() {
+        Some(Command::Commit) => Some(true),
+        Some(Command::Abort) => Some(false),
+        _ => None,
+    }
+}
+
+/// Adds answers behind others.
+fn add_all(all: &mut Vec<Answer>, mut more: Vec<Answer>) -> Result<(), OutOfMemory>
+    ensures { OnOk result (all.new.items ≡ all.old.items ++ more.items) }
+{
+    all.append(&mut more)?;
+    Ok(())
 }

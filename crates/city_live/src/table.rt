@@ -1,5 +1,5 @@
 //! The works of hands, by their stamps.
-ghost use Rattle.std.specs.Prelude.{◌≡◌, [], None, Some, ℕ, OnOk, OnErr, IfSome, IfNone, MatchOption};
+ghost use Rattle.std.specs.Prelude.{◌≡◌, [], None, Some, ℕ, OnOk, OnErr, IfErr, IfSome, IfNone, MatchOption};
 ghost use Rattle.std.specs.Prelude.{IsTrue, option_map, false};
 ghost use Rattle.std.specs.Arc.{arc_value};
 ghost use Rattle.city_live.specs.declared.task.Task.TheVariants as task;
@@ -154,6 +154,7 @@ impl Table {
         ensures asked { OnOk result (IsWorkOf self.old stamp (arc_value hand.now) (λ t. t ≡ task.Single None)
             × WorksTo stamp (option_map (asking script tag) (work_at self.old stamp)) self.old self.new) }
         ensures err { OnErr result (SameWorks self.old self.new) }
+        ensures back { IfErr result (λ t. t ≡ tag) }
     {
         match self.by_stamp.get_mut(&stamp) {
             Some(work) => {

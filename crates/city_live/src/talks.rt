@@ -1,5 +1,6 @@
 //! The works of hands on a session, and what is said of each.
-ghost use Rattle.std.specs.Prelude.{◌≡◌, [], None, Some, false, IfOk, OnErr, IsTrue};
+ghost use Rattle.std.specs.Prelude.{◌≡◌, List, ℕ, Option, [], None, Some, false, IfOk, IfErr, OnErr, IsTrue};
+ghost use Rattle.std.specs.Arc.{arc_value};
 ghost use Rattle.city_model.specs.CityMap.{object_at};
 ghost use Rattle.city_model.specs.Relations.{IsLawful};
 ghost use Rattle.city_txn.specs.CoreState.{committed};
@@ -9,13 +10,15 @@ ghost use Rattle.city_session.specs.Acting.{IsUnchanged};
 ghost use Rattle.city_live.specs.Works.{first_of};
 ghost use Rattle.city_live.specs.Works.{IsFresh};
 ghost use Rattle.city_live.specs.Running.{Begins};
-ghost use Rattle.city_live.specs.Serving.{Follows, IsServed};
+ghost use Rattle.city_live.specs.Coming.{request_for, IsNamed};
+ghost use Rattle.city_live.specs.declared.request.Request.TheVariants as requests;
+ghost use Rattle.city_live.specs.Serving.{Follows, Proceeds, IsServed, Arrives, HasAsked, HasBegun, MayTake, IsLeaving};
 
 use crate::answer::{Answer, Fault, Name, What};
 use crate::in_the_way::InTheWay;
 use crate::journal::Journal;
 use crate::log::Log;
-use crate::request::Tag;
+use crate::request::{Request, Tag};
 use crate::table::Table;
 use crate::task::Task;
 use crate::work::{Place, Work};
@@ -31,6 +34,7 @@ use std::sync::Arc;
 
 mod ends;
 mod goes;
+mod notes;
 mod tells;
 
 pub use ends::{Ending, Preparing};
@@ -101,7 +105,9 @@ impl<J: Journal> Talks<J> {
     }
 
     /// The journal. Doesn't allocate.
-    pub fn journal(&self) -> &J {
+    pub fn journal(&self) -> &J
+        ensures { J.noted result.now ≡ self.now.noted }
+    {
         &self.journal
     }
 
@@ -158,17 +164,32 @@ impl<J: Journal> Talks<J> {
         self.log.take(self.alloc)
     }
 
-    /// Begins a work without commands done, under a kept stamp or a new one. If memory runs out, nothing changes.
+    /// Notes that a request of a hand comes. All that its hand asks for is done for it. Doesn't allocate.
+    pub fn come(&mut self, hand: &Text, tag: &Tag, request: &Request)
+        ensures { Arrives hand.now tag.now request.now self.old self.new }
+    {
+        let noted = self.log.events().comes(hand, tag, request);
+        self.log.note(noted);
+    }
+
+    /// Begins a work without commands done, as its hand asks, under a kept stamp or a new one. If memory runs out,
+    /// nothing changes.
     pub fn begin(
         &mut self,
         hand: Name,
+        tag: &Tag,
         seat: usize,
         name: Text,
         task: Task,
         kept: Option<u64>,
     ) -> Result<u64, OutOfMemory>
-        requires { IsFresh task }
-        ensures { Follows self.old self.new }
+        requires fresh { IsFresh task }
+        requires named { IsNamed name task }
+        requires asked { HasAsked (arc_value hand) tag.now (request_for name task) self.old }
+        ensures goes { Proceeds self.old self.new }
+        ensures begun { IfOk result
+            (λ t. HasBegun t (arc_value hand) tag.now (request_for name task) self.new) }
+        ensures err { OnErr result (Follows self.old self.new) }
     {
         let kept = self.table.free(kept);
         let stamp = begin_under(&mut self.session, kept)?;
@@ -202,7 +223,10 @@ impl<J: Journal> Talks<J> {
     /// A transaction's hand asks it for the first command of a script. The tag comes back, and nothing is noted, where
     /// it isn't the hand's transaction, or is asked already, or the command is an end, or memory runs out.
     pub fn ask(&mut self, stamp: u64, hand: &Name, tag: Tag, script: Script) -> Result<(), Tag>
-        ensures { Follows self.old self.new }
+        requires { HasAsked (arc_value hand.now) tag (requests.Do script) self.old }
+        ensures goes { Proceeds self.old self.new }
+        ensures err { OnErr result (Follows self.old self.new) }
+        ensures back { IfErr result (λ t. t ≡ tag) }
     {
         if !goes_on(&script) {
             return Err(tag);
@@ -216,7 +240,9 @@ impl<J: Journal> Talks<J> {
     /// A hand has a request for all of its work: to run, begin or end it. False, and nothing is noted, where it isn't
     /// the hand's.
     pub fn request(&mut self, stamp: u64, hand: &Name, tag: Tag) -> bool
-        ensures { Follows self.old self.new }
+        requires { MayTake stamp (arc_value hand.now) tag self.old }
+        ensures goes { Proceeds self.old self.new }
+        ensures leaving { (by : List ℕ) (t : Option (List ℕ)) → IsLeaving by t self.old → IsLeaving by t self.new }
     {
         let noted = self.log.events().requests(stamp, hand, &tag);
         if !self.table.request(stamp, hand, tag) {

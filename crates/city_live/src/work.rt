@@ -1,5 +1,5 @@
 //! The work of a hand: a script, or a transaction with commands one by one.
-ghost use Rattle.std.specs.Prelude.{◌≡◌, None, Some, MatchOption, IfSome, IfNone, IsTrue, OnOk, OnErr, false, option_map};
+ghost use Rattle.std.specs.Prelude.{◌≡◌, None, Some, MatchOption, IfSome, IfNone, IsTrue, OnOk, OnErr, IfErr, false, option_map};
 ghost use Rattle.std.specs.Arc.{arc_value};
 ghost use Rattle.city_live.specs.declared.task.Task.TheVariants as task;
 ghost use Rattle.city_live.specs.Entering.{commands_by};
@@ -233,6 +233,7 @@ impl Work {
         ensures asked { OnOk result ((self.old.by ≡ arc_value hand.now) × (self.old.task ≡ task.Single None)
             × (self.new ≡ asking script tag self.old)) }
         ensures err { OnErr result (self.new ≡ self.old) }
+        ensures back { IfErr result (λ t. t ≡ tag) }
     {
         if !self.is_idle() || !is_same_id(&self.hand, hand) {
             return Err(tag);

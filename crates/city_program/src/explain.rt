@@ -1,6 +1,6 @@
 //! Explains a fault behind its line: the file, the place in it, the mistake, and the repair.
 use city_desk::RunFault;
-use city_diagnostics::{explain_document, explain_scripts};
+use city_diagnostics::{explain_document, explain_scripts, shown_name};
 use city_doc::ReadFault;
 use city_model::OutOfMemory;
 use city_options::command_line::Asked;
@@ -14,6 +14,15 @@ const IN_USE: &str = "another run writes it; --wait SECONDS waits for that one";
 
 /// What a person is told of an output file that isn't what was read.
 const CHANGED: &str = "another program changed it since it was read; it is as that program left it";
+
+/// Where a text comes from, or goes to.
+#[derive(Clone, Copy)]
+enum Named<'a> {
+    /// The file of this name.
+    File(&'a str),
+    /// A stream, in words.
+    Stream(&'static str),
+}
 
 /// The explanation of a fault of a request: indented lines, each with its newline. Empty for a
 /// fault of neither a text nor a file.
@@ -63,13 +72,21 @@ fn scripts(
 
 /// The explanation of a text's fault, between the line with the file and the command to tell all
 /// faults.
-fn around(alloc: Global, asked: &Asked<'_>, name: &str, told: &str) -> Result<String, OutOfMemory> {
+fn around(
+    alloc: Global,
+    asked: &Asked<'_>,
+    name: Named<'_>,
+    told: &str,
+) -> Result<String, OutOfMemory> {
     let mut lines = String::new(alloc);
-    push_line(&mut lines, "file", name)?;
+    push_name(alloc, &mut lines, name)?;
     lines.push_str(told)?;
     match asked {
         Asked::Files(options, _, model, scripts) => {
-            push_command(&mut lines, "", options.decimals, *model, *scripts)?;
+            let model = shown_name(alloc, *model)?;
+            let scripts = shown_name(alloc, *scripts)?;
+            let decimals = options.decimals;
+            push_command(&mut lines, "", decimals, model.as_str(), scripts.as_str())?;
         }
         Asked::Input(options, _) => {
             let words = "put the two texts into files, and run ";
@@ -104,7 +121,7 @@ fn push_command(
 fn told_of(alloc: Global, asked: &Asked<'_>, told: &str) -> Result<String, OutOfMemory> {
     let mut lines = String::new(alloc);
     if let Some(path) = output_file(asked) {
-        push_line(&mut lines, "file", path)?;
+        push_name(alloc, &mut lines, Named::File(path))?;
         push_line(&mut lines, "what", told)?;
     }
     Ok(lines)
@@ -119,7 +136,7 @@ fn unread(
     input_error: Option<io::Error>,
 ) -> Result<String, OutOfMemory> {
     match asked {
-        Asked::Input(..) => device(alloc, "standard input", input_error),
+        Asked::Input(..) => device(alloc, Named::Stream("standard input"), input_error),
         _ if texts.document.is_unread() => device(alloc, model_name(asked), file_error),
         _ => device(alloc, scripts_name(asked), file_error),
     }
@@ -133,20 +150,31 @@ fn unwritten(
     output_error: Option<io::Error>,
 ) -> Result<String, OutOfMemory> {
     match output_file(asked) {
-        Some(path) if output_error.is_none() => device(alloc, path, file_error),
-        _ => device(alloc, "standard output", output_error),
+        Some(path) if output_error.is_none() => device(alloc, Named::File(path), file_error),
+        _ => device(alloc, Named::Stream("standard output"), output_error),
     }
 }
 
 /// The lines for a failed file or stream: its name, and why, if known.
-fn device(alloc: Global, name: &str, error: Option<io::Error>) -> Result<String, OutOfMemory> {
+fn device(alloc: Global, name: Named<'_>, error: Option<io::Error>) -> Result<String, OutOfMemory> {
     let mut lines = String::new(alloc);
-    push_line(&mut lines, "file", name)?;
+    push_name(alloc, &mut lines, name)?;
     if let Some(error) = error {
         let words = error.to_string(alloc)?;
         push_line(&mut lines, "what", words.as_str())?;
     }
     Ok(lines)
+}
+
+/// Adds the line with a name; that of a file is a JSON text unless it is plain.
+fn push_name(alloc: Global, lines: &mut String, name: Named<'_>) -> Result<(), OutOfMemory> {
+    match name {
+        Named::Stream(words) => push_line(lines, "file", words),
+        Named::File(path) => {
+            let shown = shown_name(alloc, path)?;
+            push_line(lines, "file", shown.as_str())
+        }
+    }
 }
 
 /// Adds an indented line: a word, and the text told of it.
@@ -158,20 +186,20 @@ fn push_line(lines: &mut String, word: &str, told: &str) -> Result<(), OutOfMemo
     lines.push_str("\n")
 }
 
-/// The model's name, as it is told.
-fn model_name<'a>(asked: &Asked<'a>) -> &'a str {
+/// Where the model comes from.
+fn model_name<'a>(asked: &Asked<'a>) -> Named<'a> {
     match asked {
-        Asked::Files(_, _, model, _) | Asked::Check(_, model, _) => *model,
-        Asked::Input(..) | Asked::Text(_) => "standard input, its first line",
+        Asked::Files(_, _, model, _) | Asked::Check(_, model, _) => Named::File(*model),
+        Asked::Input(..) | Asked::Text(_) => Named::Stream("standard input, its first line"),
     }
 }
 
-/// The scripts' name, as it is told.
-fn scripts_name<'a>(asked: &Asked<'a>) -> &'a str {
+/// Where the scripts come from.
+fn scripts_name<'a>(asked: &Asked<'a>) -> Named<'a> {
     match asked {
-        Asked::Files(_, _, _, scripts) | Asked::Check(_, _, Some(scripts)) => *scripts,
-        Asked::Check(_, model, None) => *model,
-        Asked::Input(..) | Asked::Text(_) => "standard input, behind its first line",
+        Asked::Files(_, _, _, scripts) | Asked::Check(_, _, Some(scripts)) => Named::File(*scripts),
+        Asked::Check(_, model, None) => Named::File(*model),
+        Asked::Input(..) | Asked::Text(_) => Named::Stream("standard input, behind its first line"),
     }
 }
 

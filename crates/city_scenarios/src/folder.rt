@@ -1,34 +1,37 @@
-//! Texts with names, as files.
-ghost use Rattle.std.specs.Prelude.{◌≡◌, ◌≢◌, true, false};
+//! Texts with names, as files whose texts and steps contracts know.
+ghost use Rattle.std.specs.Prelude.{◌≡◌, ◌≢◌, ◌++◌, true, false, IfOk, IfErr, IfSome};
+ghost use Rattle.city_serve.specs.Served.{IsDeviceFault};
+ghost use Rattle.city_serve.specs.Steps.{steps_if};
+ghost use Rattle.city_scenarios.specs.Files.{known_text, step_of, steps_of};
 
-use crate::named::{Named, text_named};
-use crate::reader::{Giving, Reads, number_after, word_after};
+use crate::known_texts::KnownTexts;
+use crate::named::Named;
+use crate::reader::{Reads, number_after, word_after};
+use crate::taken_steps::{Kind, TakenSteps};
 use crate::writer::{Taking, Writes};
 use crate::written::Written;
 use city_desk::RunFault;
 use city_model::OutOfMemory;
-use city_serve::{Device, OutputFiles, ServeFault, TextFiles, read_text};
+use city_serve::{OutputFiles, ServeFault, TextFiles};
 use std::alloc::Global;
 use std::io;
 
-/// The system's number for a missing file.
-const MISSING: i32 = 2;
-
-/// The named texts of a file of scenarios, each as a file of its name. One of them may be replaced, or a new one made.
+/// The named texts of a file of scenarios, each as a file of its name. Some of them may be replaced, or new ones made.
+///
+/// Contracts know the texts of all files, unless the reader is endless, and all steps.
 ///
 /// Habits: memory is short for the file named behind `without`; new files have room for the number of bytes behind
-/// `room`; another run holds the output file for the number of seconds behind `held`; another program changes it with
-/// `changed`; all names are one file with `linked`; `unlockable`, `uncreated`, `unsynced`, `unseen`, `unrenamed` and
-/// `unlisted` refuse these steps.
+/// `room`; another run holds the output file for the number of seconds behind `held`; with `changed` a look finds that
+/// another program changed it; all names are one file with `linked`; `unlockable`, `uncreated`, `unsynced`, `unseen`,
+/// `unrenamed` and `unlisted` refuse these steps.
 #[derive(Drop)]
 pub struct Folder<'a> {
     alloc: Global,
-    names: &'a [Named<'a>],
+    texts: KnownTexts<'a>,
     habits: &'a str,
-    /// The steps taken, a word for each.
+    taken: TakenSteps,
+    /// A word for each step, but for reads of files that have no named text.
     steps: Written,
-    /// The name of the replaced file in the first line, and its new text.
-    replaced: Written,
     locked: bool,
     failed: bool,
     why: Option<io::Error>,
@@ -39,59 +42,93 @@ impl<'a> Folder<'a> {
     pub fn new(alloc: Global, names: &'a [Named<'a>], habits: &'a str) -> Folder<'a> {
         Folder {
             alloc,
-            names,
+            texts: KnownTexts::new(alloc, names, Reads::told(habits)),
             habits,
+            taken: TakenSteps::none(),
             steps: Written::new(alloc),
-            replaced: Written::new(alloc),
             locked: false,
             failed: false,
             why: None,
         }
     }
 
-    /// The steps taken, each with a space before it, and the name and text of the replaced file.
+    /// The words of the steps, each with a space before it; and of each replaced file its name, in a line, and its text.
     pub fn left(self) -> Result<(Vec<u8>, Vec<u8>), OutOfMemory> {
-        Ok((self.steps.whole()?, self.replaced.whole()?))
+        let mut replaced = Written::new(self.alloc);
+        for placed in self.texts.placed.iter().rev() {
+            replaced.add_line(placed.path());
+            replaced.add_bytes(placed.text());
+        }
+        Ok((self.steps.whole()?, replaced.whole()?))
     }
 
-    /// Takes a step, or refuses it if the habits have the other word.
-    fn step(&mut self, word: &str, refused: &str) -> bool
+    /// Takes a step for a path, or refuses it if the habits have the other word.
+    fn step(&mut self, kind: Kind, path: &str, word: &str, refused: &str) -> bool
+        ensures texts { self.new.texts ≡ self.old.texts }
+        ensures taken { steps_of self.new.taken ≡ steps_of self.old.taken ++ steps_if result (step_of (kind, path.now)) }
         ensures unfailed { result ≡ true → self.new.failed ≡ self.old.failed }
         ensures failed { result ≢ true → self.new.failed ≡ true }
     {
         if self.habits.contains(refused) {
-            self.failed = true;
-            self.why = Some(io::Error::other(refused));
-            self.steps.add(" not");
-            self.steps.add(word);
-            return false;
+            return self.refuse(word, refused);
         }
         self.steps.add(word);
+        self.taken = self.taken.with(kind, path);
         true
+    }
+
+    /// Refuses a step, for the reason that this word names.
+    fn refuse(&mut self, word: &str, refused: &str) -> bool
+        ensures refused { result ≡ false }
+        ensures texts { self.new.texts ≡ self.old.texts }
+        ensures taken { self.new.taken ≡ self.old.taken }
+        ensures failed { self.new.failed ≡ true }
+    {
+        self.failed = true;
+        self.why = Some(io::Error::other(refused));
+        self.steps.add(" not");
+        self.steps.add(word);
+        false
+    }
+
+    /// The text of a file; notes why there is none.
+    fn text(&mut self, path: &str) -> Result<Vec<u8>, ServeFault>
+        ensures read { IfOk result (λ v. IfSome (known_text self.old.texts path.now) (λ all. v.items ≡ all)) }
+        ensures fault { IfErr result (IsDeviceFault true) }
+        ensures texts { self.new.texts ≡ self.old.texts }
+        ensures taken { self.new.taken ≡ self.old.taken }
+    {
+        if word_after(self.habits, "without ") == Some(path) {
+            return Err(ServeFault::Run(RunFault::OutOfMemory));
+        }
+        match self.texts.read(self.alloc, path) {
+            Ok(text) => {
+                self.why = None;
+                Ok(text)
+            }
+            Err((fault, why)) => {
+                self.why = why;
+                Err(fault)
+            }
+        }
     }
 }
 
 impl TextFiles for Folder<'_> {
+    ghost use Rattle.std.specs.Prelude.{Some};
+    ghost use Rattle.city_scenarios.specs.Files.{known_text, steps_of};
+
+    ghost text = { λ files. known_text files.texts };
+
+    ghost steps = { λ files. Some (steps_of files.taken) };
+
     fn read(&mut self, path: &str) -> Result<Vec<u8>, ServeFault> {
-        if word_after(self.habits, "without ") == Some(path) {
-            return Err(ServeFault::Run(RunFault::OutOfMemory));
+        let text = self.text(path)?;
+        if self.locked && self.texts.is_named(path) {
+            self.steps.add(" read");
         }
-        match text_named(self.names, path) {
-            Some(text) => {
-                let reader = Giving::new(Reads::told(self.habits), text);
-                let mut device = Device::new(reader);
-                let read = read_text(self.alloc, &mut device);
-                self.why = device.failure();
-                if self.locked && read.is_ok() {
-                    self.steps.add(" read");
-                }
-                read
-            }
-            None => {
-                self.why = Some(io::Error::from_raw_os_error(MISSING));
-                Err(ServeFault::Read)
-            }
-        }
+        self.taken = self.taken.with(Kind::Read, path);
+        Ok(text)
     }
 
     fn why(&self) -> Option<io::Error> {
@@ -100,11 +137,13 @@ impl TextFiles for Folder<'_> {
 }
 
 impl OutputFiles for Folder<'_> {
+    ghost use Rattle.std.specs.Prelude.{true};
+
     type New = Taking;
 
     ghost is_synced = { λ _. true };
 
-    ghost are_known = { false };
+    ghost are_known = { true };
 
     ghost have_failed = { λ files. files.failed };
 
@@ -112,20 +151,20 @@ impl OutputFiles for Folder<'_> {
         one == other || self.habits.contains("linked")
     }
 
-    fn lock(&mut self, _path: &str, wait: usize) -> Result<(), ServeFault> {
+    fn lock(&mut self, path: &str, wait: usize) -> Result<(), ServeFault> {
         if number_after(self.habits, "held ").is_some_and(|seconds| wait < seconds) {
             self.steps.add(" in use");
             return Err(ServeFault::InUse);
         }
-        if !self.step(" locked", "unlockable") {
+        if !self.step(Kind::Lock, path, " locked", "unlockable") {
             return Err(ServeFault::Write);
         }
         self.locked = true;
         Ok(())
     }
 
-    fn create(&mut self, _path: &str, _seed: u64) -> Option<Taking> {
-        if !self.step(" created", "uncreated") {
+    fn create(&mut self, path: &str, _seed: u64) -> Option<Taking> {
+        if !self.step(Kind::Create, path, " created", "uncreated") {
             return None;
         }
         let room = number_after(self.habits, "room ");
@@ -133,40 +172,51 @@ impl OutputFiles for Folder<'_> {
     }
 
     fn sync(&mut self, _new: &mut Taking) -> bool {
-        self.step(" synced", "unsynced")
+        self.step(Kind::Sync, "", " synced", "unsynced")
     }
 
-    fn look_again(&mut self, _path: &str) -> Result<(), ServeFault> {
+    fn look_again(&mut self, path: &str) -> Result<(), ServeFault> {
         if self.habits.contains("changed") {
             self.steps.add(" changed");
             return Err(ServeFault::Changed);
         }
-        if !self.step(" looked", "unseen") {
+        if !self.step(Kind::LookAgain, path, " looked", "unseen") {
             return Err(ServeFault::Write);
         }
         Ok(())
     }
 
     fn rename(&mut self, new: Taking, path: &str) -> bool {
-        if !self.step(" renamed", "unrenamed") {
-            return false;
+        if self.habits.contains("unrenamed") {
+            return self.refuse(" renamed", "unrenamed");
         }
-        self.replaced.add_line(path);
-        self.replaced.add_bytes(new.into_written().as_slice());
-        true
+        match self.texts.place(self.alloc, path, new.into_whole()) {
+            Ok(()) => {
+                self.steps.add(" renamed");
+                self.taken = self.taken.with(Kind::Rename, path);
+                true
+            }
+            Err(OutOfMemory) => {
+                self.steps.run_out();
+                self.failed = true;
+                false
+            }
+        }
     }
 
-    fn sync_folder(&mut self, _path: &str) -> bool {
-        self.step(" listed", "unlisted")
+    fn sync_folder(&mut self, path: &str) -> bool {
+        self.step(Kind::SyncFolder, path, " listed", "unlisted")
     }
 
     fn give_up(&mut self, _new: Taking) {
         self.failed = true;
         self.steps.add(" given up");
+        self.taken = self.taken.with(Kind::GiveUp, "");
     }
 
     fn unlock(&mut self) {
         self.locked = false;
         self.steps.add(" unlocked");
+        self.taken = self.taken.with(Kind::Unlock, "");
     }
 }

@@ -11,7 +11,7 @@
 //! - `run`, `crew`, `served`, `replay`: whole runs, by one worker, by several, as the program serves them, and their
 //!   scripts one at a time; `canonical`: a model's canonical form
 //! - `serve`, `reader`, `writer`: from a device to a device; `program`, `folder`, `seen`: the program, over files that
-//!   are texts with names, and the line of a viewer
+//!   are texts with names, and the line of a viewer; `known_texts`, `taken_steps`: what contracts know of these files
 //! - `steps`, `turns`: steps, a desk; `core_steps`, `session_steps`, `reply`, `change`: transactions; `locks`: a
 //!   lock table; `board`: viewers; `shelves`: a change made by hand
 //! - `command_line`, `pool`: command lines parsed, and points numbered
@@ -32,6 +32,7 @@ mod faults;
 mod file;
 mod folder;
 mod journals;
+mod known_texts;
 mod live_steps;
 mod locks;
 mod members;
@@ -54,6 +55,7 @@ mod served;
 mod session_steps;
 mod shelves;
 mod steps;
+mod taken_steps;
 mod tokens;
 mod turns;
 mod wanted;

@@ -1,14 +1,43 @@
 //! The named texts of a file, and their pieces.
+ghost use Rattle.std.specs.Prelude.{◌≡◌, nat_eq, None, Some, MatchOption};
+ghost use Rattle.std.specs.Cmp.Lexicographic.{pointwise};
+ghost use Rattle.city_scenarios.specs.NamedTexts.{text_at};
+
 use crate::written::Written;
 use city_model::OutOfMemory;
 use std::alloc::Global;
+use std::marker::Model;
 use std::slice;
 
-/// A text with a name.
+/// A text with a name. Contracts see both.
 #[derive(Drop)]
 pub struct Named<'a> {
     name: &'a str,
     text: Vec<u8>,
+}
+
+impl<'a> Model for Named<'a> {
+    ghost use Rattle.city_scenarios.specs.NamedTexts.{NamedText};
+
+    ghost Value = { NamedText };
+
+    ghost view = { λ n. (n.name.now, n.text.items) };
+}
+
+impl<'a> Named<'a> {
+    /// Whether it has this name.
+    fn is_named(&self, name: &str) -> bool
+        ensures { result ≡ pointwise nat_eq self.now.0 name.now }
+    {
+        self.name == name
+    }
+
+    /// Its text.
+    fn text(&self) -> &[u8]
+        ensures { result.now ≡ self.now.1 }
+    {
+        self.text.as_slice()
+    }
 }
 
 /// The meaning of a line: the text of this name for `$NAME`, else the line itself.
@@ -20,10 +49,12 @@ pub fn meant<'t>(names: &'t [Named], line: &'t str) -> &'t [u8] {
 }
 
 /// The text of this name, if there is one.
-pub fn text_named<'t>(names: &'t [Named], name: &str) -> Option<&'t [u8]> {
+pub fn text_named<'t>(names: &'t [Named], name: &str) -> Option<&'t [u8]>
+    ensures { MatchOption result (text_at names.now name.now ≡ None) (λ t. text_at names.now name.now ≡ Some t.now) }
+{
     for named in names {
-        if named.name == name {
-            return Some(named.text.as_slice());
+        if named.is_named(name) {
+            return Some(named.text());
         }
     }
     None

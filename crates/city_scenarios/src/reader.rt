@@ -1,17 +1,19 @@
 //! Readers with habits.
+ghost use Rattle.std.specs.Prelude.{◌≡◌, ◌≤◌, IfSome, length, take, drop};
+
 use std::io::{self, ErrorKind, Read};
 
 /// The habits of a reader.
 #[derive(Clone, Copy, Drop)]
 pub struct Reads {
-    /// How many at a time, at most.
-    at_a_time: usize,
+    /// Whether it gives a byte at a time.
+    bytewise: bool,
     /// Whether every other call is interrupted.
     interrupted: bool,
-    /// After how many bytes it fails, if it does.
-    breaks: Option<usize>,
-    /// After how many bytes it is out of memory, if it is.
-    starved: Option<usize>,
+    /// After how many more bytes it fails, if it does.
+    stops: Option<usize>,
+    /// Whether it is out of memory then.
+    starves: bool,
     /// Whether it gives spaces without end.
     endless: bool,
 }
@@ -19,15 +21,12 @@ pub struct Reads {
 impl Reads {
     /// The habits described by these words.
     pub fn told(words: &str) -> Reads {
+        let breaks = number_after(words, "breaks ");
         Reads {
-            at_a_time: if words.contains("bytewise") {
-                1
-            } else {
-                usize::MAX
-            },
+            bytewise: words.contains("bytewise"),
             interrupted: words.contains("interrupted"),
-            breaks: number_after(words, "breaks "),
-            starved: number_after(words, "starved "),
+            stops: breaks.or(number_after(words, "starved ")),
+            starves: breaks.is_none(),
             endless: words.contains("endless"),
         }
     }
@@ -44,7 +43,7 @@ pub fn word_after<'t>(words: &'t str, word: &str) -> Option<&'t str> {
     rest.split_whitespace().next()
 }
 
-/// A reader with habits.
+/// A reader with habits. Unless it is endless, what it still has is known.
 #[derive(Drop)]
 pub struct Giving<'a> {
     habits: Reads,
@@ -55,18 +54,64 @@ pub struct Giving<'a> {
 
 impl<'a> Giving<'a> {
     /// A reader of these bytes.
-    pub fn new(habits: Reads, bytes: &'a [u8]) -> Giving<'a> {
-        let most = habits.breaks.or(habits.starved).unwrap_or(usize::MAX);
-        let most = most.min(bytes.len());
+    pub fn new(habits: Reads, bytes: &'a [u8]) -> Giving<'a>
+        ensures left { result.left.now ≡ bytes.now }
+        ensures endless { result.habits.endless ≡ habits.endless }
+    {
         Giving {
             habits,
-            left: &bytes[..most],
+            left: bytes,
             interrupts: habits.interrupted,
+        }
+    }
+
+    /// How many bytes it gives at most at once, none only at the end; `None` if it fails instead.
+    fn most(&self) -> Option<usize>
+        ensures within { IfSome result (λ n. n ≤ length self.now.left.now) }
+        ensures end { IfSome result (λ n. n ≡ 0 → length self.now.left.now ≡ 0) }
+    {
+        let most = if self.habits.bytewise {
+            self.left.len().min(1)
+        } else {
+            self.left.len()
+        };
+        match self.habits.stops {
+            Some(stops) if stops == 0 || self.left.is_empty() => None,
+            Some(stops) => Some(most.min(stops)),
+            None => Some(most),
+        }
+    }
+
+    /// Why it fails.
+    fn failure(&self) -> io::Error {
+        if self.habits.starves {
+            io::Error::from(ErrorKind::OutOfMemory)
+        } else {
+            io::Error::other("broken")
+        }
+    }
+
+    /// Gives so many bytes.
+    fn give(&mut self, given: &mut [u8])
+        requires { length given.old ≤ length self.old.left.now }
+        ensures given { given.new ≡ take (length given.old) self.old.left.now }
+        ensures left { self.new.left.now ≡ drop (length given.old) self.old.left.now }
+        ensures endless { self.new.habits.endless ≡ self.old.habits.endless }
+    {
+        let (now, later) = self.left.split_at(given.len());
+        given.copy_from_slice(now);
+        self.left = later;
+        if let Some(stops) = self.habits.stops {
+            self.habits.stops = Some(stops.saturating_sub(given.len()));
         }
     }
 }
 
 impl Read for Giving<'_> {
+    ghost use Rattle.std.specs.Prelude.{None, Some, if◌then◌else◌};
+
+    ghost remaining = { λ reader. if reader.habits.endless then None else Some reader.left.now };
+
     fn read(&mut self, buf: &mut [u8]) -> io::Result<usize> {
         if self.interrupts {
             self.interrupts = false;
@@ -77,17 +122,11 @@ impl Read for Giving<'_> {
             buf.fill(b' ');
             return Ok(buf.len());
         }
-        if self.left.is_empty() {
-            return match (self.habits.breaks, self.habits.starved) {
-                (Some(_), _) => Err(io::Error::other("broken")),
-                (None, Some(_)) => Err(io::Error::from(ErrorKind::OutOfMemory)),
-                (None, None) => Ok(0),
-            };
-        }
-        let count = buf.len().min(self.habits.at_a_time).min(self.left.len());
-        let (now, later) = self.left.split_at(count);
-        buf[..count].copy_from_slice(now);
-        self.left = later;
+        let Some(most) = self.most() else {
+            return Err(self.failure());
+        };
+        let count = buf.len().min(most);
+        self.give(&mut buf[..count]);
         Ok(count)
     }
 }

@@ -1,4 +1,6 @@
 //! Writers with habits.
+ghost use Rattle.std.specs.Prelude.{◌≡◌, []};
+
 use crate::reader::number_after;
 use std::alloc::Global;
 use std::io::{self, ErrorKind, Write};
@@ -43,34 +45,50 @@ impl Writes {
     }
 }
 
-/// A writer with habits.
+/// A writer with habits. What was written to it is known.
 #[derive(Drop)]
 pub struct Taking {
     habits: Writes,
-    held: Vec<u8>,
     written: Vec<u8>,
+    /// How many bytes it doesn't hold any more.
+    flushed: usize,
     /// Whether the next call is interrupted.
     interrupts: bool,
 }
 
 impl Taking {
     /// A writer without bytes.
-    pub fn new(alloc: Global, habits: Writes) -> Taking {
+    pub fn new(alloc: Global, habits: Writes) -> Taking
+        ensures { result.written.items ≡ [] }
+    {
         Taking {
             habits,
-            held: Vec::new(alloc),
             written: Vec::new(alloc),
+            flushed: 0,
             interrupts: habits.busy,
         }
     }
 
-    /// Its bytes.
+    /// Its bytes, but for those that it holds.
     pub fn into_written(self) -> Vec<u8> {
+        let mut written = self.written;
+        written.truncate(self.flushed);
+        written
+    }
+
+    /// Its bytes, also those that it holds.
+    pub fn into_whole(self) -> Vec<u8>
+        ensures { result.items ≡ self.written.items }
+    {
         self.written
     }
 }
 
 impl Write for Taking {
+    ghost use Rattle.std.specs.Prelude.{Some};
+
+    ghost contents = { λ writer. Some writer.written.items };
+
     fn write(&mut self, buf: &[u8]) -> io::Result<usize> {
         if self.interrupts {
             self.interrupts = false;
@@ -87,10 +105,9 @@ impl Write for Taking {
         }
         let count = buf.len().min(self.habits.at_a_time).min(self.habits.room);
         self.habits.room = self.habits.room.saturating_sub(count);
-        if self.habits.holds {
-            self.held.extend_from_slice(&buf[..count])?;
-        } else {
-            self.written.extend_from_slice(&buf[..count])?;
+        self.written.extend_from_slice(&buf[..count])?;
+        if !self.habits.holds {
+            self.flushed = self.written.len();
         }
         Ok(count)
     }
@@ -103,8 +120,7 @@ impl Write for Taking {
         if self.habits.unflushed {
             return Err(io::Error::other("full"));
         }
-        self.written.extend_from_slice(self.held.as_slice())?;
-        self.held.clear();
+        self.flushed = self.written.len();
         Ok(())
     }
 }

@@ -1,9 +1,10 @@
 //! A live session: the model is held, requests come as lines of JSON, and answers go out as lines.
 //!
 //! - `run`: a session from its start to the end of its input; `start`: the model and the journal at the start
-//! - `server`: the hands, and the lines that are to be written; `requests`: a line handled; `save`: the model saved
-//! - `awaited`: the keys of requests that aren't over
-//! - `input_lines`: whole lines of what is read; `journal_store`: a journal's file
+//! - `serve`: the lines of the input answered; `input_lines`: lines, put together of what is read
+//! - `server`: the hands, and what they are told; `requests`: a line handled; `save`: the model saved
+//! - `telling`: the lines that are to be written; `tell`: they are written, once the journal is synced
+//! - `awaited`: the keys of requests that aren't over; `journal_store`: a journal's file
 //! - `fault`: why a session ends early
 #![tactic(auto)]
 
@@ -14,8 +15,11 @@ mod journal_store;
 mod requests;
 mod run;
 mod save;
+mod serve;
 mod server;
 mod start;
+mod tell;
+mod telling;
 
 pub use fault::LiveFault;
 pub use input_lines::{CHUNK, MAX_LINE};

@@ -1,5 +1,7 @@
 //! Requests handled: a line, and what is answered.
+ghost use Rattle.std.specs.Prelude.{◌≡◌};
 
+use crate::input_lines::Skip;
 use crate::server::Server;
 use city_decimals::{DecimalsFault, encode};
 use city_journal::JournalFile;
@@ -20,41 +22,39 @@ impl<D: JournalFile + Drop> Server<'_, D> {
         files: &mut F,
         line: &[u8],
     ) -> Result<(), OutOfMemory> {
-        self.lines = self.lines.saturating_add(1);
-        if !self.decimals {
-            return self.handle_whole(files, line);
-        }
-        match encode(self.alloc, line) {
-            Ok(encoded) => self.handle_whole(files, encoded.as_slice()),
-            // (it is refused for that, with the place)
-            Err(DecimalsFault::NotJson) => self.handle_whole(files, line),
-            Err(DecimalsFault::OutOfMemory) => {
-                self.tell_error(&LineError::unnamed(LineFault::NoMemory))
-            }
-        }
-    }
-
-    /// Tells that a line was too long.
-    pub(crate) fn handle_too_long(&mut self) -> Result<(), OutOfMemory> {
-        self.lines = self.lines.saturating_add(1);
-        self.tell_error(&LineError::unnamed(LineFault::TooLong))
-    }
-
-    /// Tells that memory ran out for a line.
-    pub(crate) fn handle_unkept(&mut self) -> Result<(), OutOfMemory> {
-        self.lines = self.lines.saturating_add(1);
-        self.tell_error(&LineError::unnamed(LineFault::NoMemory))
-    }
-
-    /// Handles a line whose numbers are whole.
-    fn handle_whole<F: OutputFiles>(
-        &mut self,
-        files: &mut F,
-        line: &[u8],
-    ) -> Result<(), OutOfMemory> {
-        match read_line(self.alloc, line) {
+        self.told.count();
+        match self.line_of(line) {
             Ok(line) => self.answer(files, line),
-            Err(error) => self.tell_error(&error),
+            Err(error) => self.told.tell_error(&error),
+        }
+    }
+
+    /// Tells why a line was skipped.
+    pub(crate) fn handle_skipped(&mut self, why: Skip) -> Result<(), OutOfMemory> {
+        self.told.count();
+        let fault = match why {
+            Skip::TooLong => LineFault::TooLong,
+            Skip::NoMemory => LineFault::NoMemory,
+        };
+        self.told.refuse(None, None, fault)
+    }
+
+    /// The request of a line. With numbers of any form it is that of the encoded line.
+    fn line_of(&mut self, line: &[u8]) -> Result<Line, LineError>
+        ensures told { self.new.told ≡ self.old.told }
+    {
+        let alloc = self.told.alloc;
+        if !self.told.decimals {
+            return read_line(alloc, line, &mut self.scratch);
+        }
+        match encode(alloc, line) {
+            Ok(encoded) => read_line(alloc, encoded.as_slice(), &mut self.scratch),
+            // (it is refused for that, with the place)
+            Err(DecimalsFault::NotJson) => match read_line(alloc, line, &mut self.scratch) {
+                Err(error) => Err(error),
+                Ok(_) => Err(LineError::unnamed(LineFault::NotJson(line.len()))),
+            },
+            Err(DecimalsFault::OutOfMemory) => Err(LineError::unnamed(LineFault::NoMemory)),
         }
     }
 
@@ -80,9 +80,18 @@ impl<D: JournalFile + Drop> Server<'_, D> {
         }
     }
 
+    /// Tells whether a commit with this key was made.
+    fn tell_made(&mut self, hand: &Text, tag: &Tag, key: &Text) -> Result<(), OutOfMemory> {
+        let version = match self.hands.journal().made(key) {
+            Some(made) => Some(made.version),
+            None => None,
+        };
+        self.told.tell_made(hand, tag, version)
+    }
+
     /// Looks at one object.
     fn look_at_one(&mut self, hand: Text, tag: Tag, id: Text) -> Result<(), OutOfMemory> {
-        let mut ids = Sequence::new(self.alloc);
+        let mut ids = Sequence::new(self.told.alloc);
         if ids.push(id).is_err() {
             return self.refuse(Some(hand), tag, LineFault::NoMemory);
         }
@@ -97,10 +106,21 @@ impl<D: JournalFile + Drop> Server<'_, D> {
         request: Request,
         form: Form,
     ) -> Result<(), OutOfMemory> {
+        self.hands.are_served();
         match self.hands.handle(hand, tag, request) {
-            Ok(answers) => self.tell_each(answers, form),
+            Ok(answers) => self.tell_each(answers.as_slice(), form),
             Err(OutOfMemory) => self.refuse(None, None, LineFault::NoMemory),
         }
+    }
+
+    /// Tells a hand, if it is known, why its request isn't done.
+    pub(crate) fn refuse(
+        &mut self,
+        hand: Option<Text>,
+        tag: Tag,
+        fault: LineFault,
+    ) -> Result<(), OutOfMemory> {
+        self.told.refuse(hand, tag, fault)
     }
 
     /// Runs a script or a commit with a key, unless a commit with this key was made or still may be.
@@ -111,8 +131,10 @@ impl<D: JournalFile + Drop> Server<'_, D> {
         key: Text,
         request: Request,
     ) -> Result<(), OutOfMemory> {
-        if self.hands.journal().made(&key).is_some() {
-            return self.tell_known_end(&hand, &tag, &key);
+        if let Some(made) = self.hands.journal().made(&key) {
+            return self
+                .told
+                .tell_known_end(&hand, &tag, &made.name, made.version);
         }
         if self.awaited.has_key(&key) {
             return self.refuse(Some(hand), tag, LineFault::Engine(Fault::Busy));
@@ -121,19 +143,31 @@ impl<D: JournalFile + Drop> Server<'_, D> {
             // (it waits, so the engine refuses this one)
             return self.ask(hand, tag, request, Form::Plain);
         }
-        let Ok(by) = hand.copy(self.alloc) else {
+        let Ok(by) = hand.copy(self.told.alloc) else {
             return self.refuse(Some(hand), tag, LineFault::NoMemory);
         };
         if self.note_key(&by, &key).is_err() {
             self.forget_key(&by);
             return self.refuse(Some(by), tag, LineFault::NoMemory);
         }
+        self.ask_by(by, hand, tag, request)
+    }
+
+    /// Asks the engine for a hand whose key is noted, and tells its answers.
+    fn ask_by(
+        &mut self,
+        by: Text,
+        hand: Text,
+        tag: Tag,
+        request: Request,
+    ) -> Result<(), OutOfMemory> {
+        self.hands.are_served();
         match self.hands.handle(hand, tag, request) {
             Ok(answers) => {
                 if is_refused(&by, answers.as_slice()) {
                     self.forget_key(&by);
                 }
-                self.tell_each(answers, Form::Plain)
+                self.tell_each(answers.as_slice(), Form::Plain)
             }
             Err(OutOfMemory) => {
                 self.forget_key(&by);
@@ -143,24 +177,35 @@ impl<D: JournalFile + Drop> Server<'_, D> {
     }
 
     /// Notes the key of a hand's next commit.
-    fn note_key(&mut self, hand: &Text, key: &Text) -> Result<(), OutOfMemory> {
+    fn note_key(&mut self, hand: &Text, key: &Text) -> Result<(), OutOfMemory>
+        ensures { self.new.told ≡ self.old.told }
+    {
         self.awaited.note(hand, key)?;
         self.hands.journal_mut().ask(hand, key)
     }
 
     /// Tells the answers of the engine, in their order.
-    fn tell_each(&mut self, answers: Vec<Answer>, form: Form) -> Result<(), OutOfMemory> {
+    pub(crate) fn tell_each(&mut self, answers: &[Answer], form: Form) -> Result<(), OutOfMemory> {
         for answer in answers {
-            if is_last(&answer.what) && self.awaited.has_hand(&answer.hand) {
-                self.forget_key(&answer.hand);
-            }
-            self.tell(answer, form)?;
+            self.is_over(answer);
+            self.told.tell(answer, form)?;
         }
         Ok(())
     }
 
+    /// Forgets the key of a hand whose request is over with this answer.
+    fn is_over(&mut self, answer: &Answer)
+        ensures { self.new.told ≡ self.old.told }
+    {
+        if is_last(&answer.what) && self.awaited.has_hand(&answer.hand) {
+            self.forget_key(&answer.hand);
+        }
+    }
+
     /// The hand's request with a key is over.
-    fn forget_key(&mut self, hand: &Text) {
+    fn forget_key(&mut self, hand: &Text)
+        ensures { self.new.told ≡ self.old.told }
+    {
         self.hands.journal_mut().forget(hand);
         self.awaited.forget(hand);
     }

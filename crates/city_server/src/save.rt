@@ -1,4 +1,5 @@
 //! The model saved.
+ghost use Rattle.std.specs.Prelude.{◌≡◌};
 
 use crate::server::Server;
 use city_journal::{JournalFile, ModelSum};
@@ -35,40 +36,61 @@ impl<D: JournalFile + Drop> Server<'_, D> {
         let Some(path) = self.output else {
             return self.refuse(Some(hand), tag, LineFault::NoOutput);
         };
-        let Ok(answers) = self.hands.handle(hand, tag, Request::Model) else {
-            return self.refuse(None, None, LineFault::NoMemory);
-        };
+        self.hands.are_served();
+        match self.hands.handle(hand, tag, Request::Model) {
+            Ok(answers) => self.save_each(files, path, answers.as_slice()),
+            Err(OutOfMemory) => self.refuse(None, None, LineFault::NoMemory),
+        }
+    }
+
+    /// Saves the model that the engine answers with, and tells what came of it; tells all other answers.
+    fn save_each<F: OutputFiles>(
+        &mut self,
+        files: &mut F,
+        path: &str,
+        answers: &[Answer],
+    ) -> Result<(), OutOfMemory> {
         for answer in answers {
-            let Answer { hand, tag, what } = answer;
-            match what {
-                What::Model(city, version) => {
-                    let saved = self.save(files, path, &city, version);
-                    let hand = hand.copy(self.alloc)?;
-                    self.tell_saving(hand, tag, version, saved)?;
-                }
-                what => self.tell(Answer { hand, tag, what }, Form::Plain)?,
-            }
+            self.save_by(files, path, answer)?;
         }
         Ok(())
+    }
+
+    /// Saves the model of an answer, and tells what came of it; tells any other answer.
+    fn save_by<F: OutputFiles>(
+        &mut self,
+        files: &mut F,
+        path: &str,
+        answer: &Answer,
+    ) -> Result<(), OutOfMemory> {
+        match &answer.what {
+            What::Model(city, version) => {
+                let saved = self.save(files, path, city, *version);
+                self.tell_saving(answer, *version, saved)
+            }
+            _ => self.told.tell(answer, Form::Plain),
+        }
     }
 
     /// Tells a hand what came of its save.
     fn tell_saving(
         &mut self,
-        hand: Text,
-        tag: Tag,
+        answer: &Answer,
         version: u64,
         saved: Result<(), Unsaved>,
     ) -> Result<(), OutOfMemory> {
-        match saved {
-            Ok(()) => self.tell_saved(&hand, &tag, version),
-            Err(Unsaved::NoMemory) => self.refuse(Some(hand), tag, LineFault::NoMemory),
-            Err(Unsaved::CannotWrite) => self.refuse(Some(hand), tag, LineFault::CannotWrite),
-        }
+        let fault = match saved {
+            Ok(()) => return self.told.tell_saved(&answer.hand, &answer.tag, version),
+            Err(Unsaved::NoMemory) => LineFault::NoMemory,
+            Err(Unsaved::CannotWrite) => LineFault::CannotWrite,
+        };
+        let hand = answer.hand.copy(self.told.alloc)?;
+        let tag = answer.tag.copy(self.told.alloc)?;
+        self.told.refuse(Some(hand), tag, fault)
     }
 
-    /// Writes a city to the file of this path, replaced whole, and begins the journal anew over it, unless the file had this
-    /// version already.
+    /// Writes a city to the file of this path, replaced whole, and begins the journal anew over it, unless the file had
+    /// this version already.
     pub(crate) fn save<F: OutputFiles>(
         &mut self,
         files: &mut F,
@@ -76,12 +98,12 @@ impl<D: JournalFile + Drop> Server<'_, D> {
         city: &City,
         version: u64,
     ) -> Result<(), Unsaved> {
-        let mut text = self.model_text(city)?;
+        let mut text = self.told.model_text(city)?;
         let sum = ModelSum::of(text.as_slice());
         if text.push(b'\n').is_err() {
             return Err(Unsaved::NoMemory);
         }
-        let Some(new) = filled_new(files, self.seed, path, text.as_slice()) else {
+        let Some(new) = filled_new(files, self.told.seed, path, text.as_slice()) else {
             return Err(Unsaved::CannotWrite);
         };
         let is_new = self.saved != Some(version);
@@ -103,7 +125,9 @@ impl<D: JournalFile + Drop> Server<'_, D> {
     }
 
     /// Notes a save in the journal, and brings that to the disk.
-    fn note_save(&mut self, sum: &ModelSum) -> Result<(), Unwritten> {
+    fn note_save(&mut self, sum: &ModelSum) -> Result<(), Unwritten>
+        ensures { self.new.told ≡ self.old.told }
+    {
         let journal = self.hands.journal_mut();
         journal.begin_save(sum)?;
         journal.sync()
@@ -117,7 +141,7 @@ impl<D: JournalFile + Drop> Server<'_, D> {
         if self.saved == Some(self.hands.version()) {
             return Ok(());
         }
-        let nobody = Text::new(String::new(self.alloc));
+        let nobody = Text::new(String::new(self.told.alloc));
         for answer in self.hands.handle(nobody, None, Request::Model)? {
             if let What::Model(city, version) = &answer.what {
                 return self.save(files, path, city, *version);

@@ -373,12 +373,17 @@ module _ {start : CityValue} {closed : List Closed} {growing : List (ℕ × Grow
   pub seen_open : (stamp : ℕ) → is_open seen.core stamp ≡ true → is_open core stamp ≡ true
   seen_open stamp h = ap (λ (v : SessionState). is_open v.core stamp) run ∙ h
 
+  not_both : {A : Type 0} (b : Bool) → b ≡ false → b ≡ true → A
+  not_both b f t = absurd (false≢true (sym f ∙ t))
+
   pub seen_done : {stamp : ℕ} {command : Command} {step : Step} {reply : Reply} {after : List (ℕ × Grown)}
-      {new : CoreState} → IsAct stamp command (Ok step) core new → step ≡ steps.Done reply
+      {new : CoreState} → is_full_there (grown_at growing stamp) ≡ false → IsAct stamp command (Ok step) core new
+      → step ≡ steps.Done reply
       → GrowsTo stamp (option_map (with_reply command reply) (grown_at growing stamp)) growing after
       → IsActed stamp command (acts.Replied reply) seen (state start closed after stamps new)
-  seen_done {stamp} {command} {step} {reply} {after} {new} k is grows =
+  seen_done {stamp} {command} {step} {reply} {after} {new} room k is grows =
       seen_as (λ v. IsActed stamp command (acts.Replied reply) v (state start closed after stamps new)) (record {
+        room = not_both _ room;
         answered = subst (λ (x : Step). IsAct stamp command (Ok x) core new) is k;
         growing = grows;
         given = refl;
@@ -388,34 +393,42 @@ module _ {start : CityValue} {closed : List Closed} {growing : List (ℕ × Grow
       })
 
   module _ {stamp : ℕ} {command : Command} {new : CoreState} where
-    pub seen_waits : {step : Step} → IsAct stamp command (Ok step) core new → step ≡ steps.Wait
+    pub seen_waits : {step : Step} → is_full_there (grown_at growing stamp) ≡ false
+        → IsAct stamp command (Ok step) core new → step ≡ steps.Wait
         → IsActed stamp command acts.Waits seen (state start closed growing stamps new)
-    seen_waits k is = seen_as (λ v. IsActed stamp command acts.Waits v (state start closed growing stamps new)) (record {
-      answered = subst (λ (x : Step). IsAct stamp command (Ok x) core new) is k;
-      growing = grows_as_told stamp growing;
-      given = refl;
-      start = refl;
-      closed = refl;
-      city = k.city;
-    })
+    seen_waits room k is =
+        seen_as (λ v. IsActed stamp command acts.Waits v (state start closed growing stamps new)) (record {
+          room = not_both _ room;
+          answered = subst (λ (x : Step). IsAct stamp command (Ok x) core new) is k;
+          growing = grows_as_told stamp growing;
+          given = refl;
+          start = refl;
+          closed = refl;
+          city = k.city;
+        })
 
-    pub seen_dies : {step : Step} → IsAct stamp command (Ok step) core new → step ≡ steps.Die
+    pub seen_dies : {step : Step} → is_full_there (grown_at growing stamp) ≡ false
+        → IsAct stamp command (Ok step) core new → step ≡ steps.Die
         → IsActed stamp command acts.Dies seen (state start closed growing stamps new)
-    seen_dies k is = seen_as (λ v. IsActed stamp command acts.Dies v (state start closed growing stamps new)) (record {
-      answered = subst (λ (x : Step). IsAct stamp command (Ok x) core new) is k;
-      growing = grows_as_told stamp growing;
-      given = refl;
-      start = refl;
-      closed = refl;
-      city = k.city;
-    })
+    seen_dies room k is =
+        seen_as (λ v. IsActed stamp command acts.Dies v (state start closed growing stamps new)) (record {
+          room = not_both _ room;
+          answered = subst (λ (x : Step). IsAct stamp command (Ok x) core new) is k;
+          growing = grows_as_told stamp growing;
+          given = refl;
+          start = refl;
+          closed = refl;
+          city = k.city;
+        })
 
-    pub seen_no_memory : {fault : TxnFault} → IsAct stamp command (Err fault) core new → is_open core stamp ≡ true
+    pub seen_no_memory : {fault : TxnFault} → is_full_there (grown_at growing stamp) ≡ false
+        → IsAct stamp command (Err fault) core new → is_open core stamp ≡ true
         → IsActed stamp command acts.NoMemory seen (state start closed growing stamps new)
-    seen_no_memory {fault} k open_then =
+    seen_no_memory {fault} room k open_then =
         let is : fault ≡ faults.OutOfMemory =
         k.fault ∙ ap (λ b. if b then faults.OutOfMemory else faults.NotOpen stamp) open_then in
         seen_as (λ v. IsActed stamp command acts.NoMemory v (state start closed growing stamps new)) (record {
+          room = not_both _ room;
           answered = subst (λ (x : TxnFault). IsAct stamp command (Err x) core new) is k;
           growing = grows_as_told stamp growing;
           given = refl;
@@ -428,6 +441,7 @@ module _ {start : CityValue} {closed : List Closed} {growing : List (ℕ × Grow
       → IsActed stamp command acts.TooMany seen seen
   seen_full {stamp} {command} full =
       seen_as (λ v. IsActed stamp command acts.TooMany v v) (record {
+        room = λ _. refl;
         answered = (full, refl);
         growing = grows_as_told stamp growing;
         given = refl;

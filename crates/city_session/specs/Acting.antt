@@ -67,6 +67,7 @@ IsAnswered stamp command acted.NoMemory s u = IsAct stamp command (Err OutOfMemo
 
 -- What came of the command.
 pub record IsActed (stamp : ℕ) (command : Command) (answer : Acted) (s u : SessionState) : Type 0 where
+  pub room : is_full_there (grown_at s.growing stamp) ≡ true → answer ≡ acted.TooMany
   pub answered : IsAnswered stamp command answer s u
   pub growing : GrowsTo stamp (option_map (told_after command answer) (grown_at s.growing stamp)) s.growing u.growing
   pub given : u.stamps ≡ s.stamps

@@ -228,6 +228,13 @@ impl Session {
         self.core.committed(id)
     }
 
+    /// The object at the id as the transaction of the stamp sees it. Doesn't allocate.
+    pub fn seen(&self, stamp: u64, id: &Id) -> Option<&Object>
+        ensures { option_copied result ≡ view self.now.core stamp id.now }
+    {
+        self.core.seen(stamp, id)
+    }
+
     /// A copy of the committed city. It shares the objects' contents.
     pub fn committed_city(&self) -> Result<City, OutOfMemory>
         ensures { IfOk result (λ city. city ≡ (self.now.core.frame, self.now.core.city)) }

@@ -3,6 +3,8 @@
 //! without memory to begin with says so and ends.
 ghost use Rattle.std.specs.Prelude.{◌≡◌, IfSome};
 
+mod hands;
+
 use crate::board::{commit_next, counted, opened_to_one, shown, turn};
 use crate::core_calls::is_done;
 use crate::replay::is_replayed;

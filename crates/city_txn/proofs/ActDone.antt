@@ -19,7 +19,8 @@ use Rattle.city_txn.proofs.CoreFields.{open_is, sound_view, open_only, to_kept, 
 use Rattle.city_txn.proofs.CoreFields.{written_beside, seen_beside, keeps, consistent}
 use Rattle.city_locks.proofs.LocksAsked.{all_granted, gains_nothing, blocked_weaker}
 use Rattle.city_txn.proofs.PerformDone.{went_back}
-use Rattle.city_txn.proofs.SeenWrites.{seen_same, step_seen, own_same, held_exclusively, covered_next, covered_still}
+use Rattle.city_txn.proofs.SeenWrites.{seen_same, step_seen, written_gains, own_same, held_exclusively, covered_next}
+use Rattle.city_txn.proofs.SeenWrites.{covered_still}
 use Rattle.city_txn.proofs.Touched.{touches_itself, touches_more}
 use Rattle.city_model.proofs.History as history
 use Rattle.city_txn.specs.declared.txn_core.Step.TheVariants as steps
@@ -147,6 +148,7 @@ module _ {s : ℕ} {c : Command} {was_open : Bool} {a : Inside} {u : CoreState} 
           locks = gains;
           granted = granted;
           writes = now;
+          gained = λ q ahead. written_gains v w s c q ahead (is_done result) now;
           unwritten = touches.writes;
           others = written_beside s v w left;
           own = λ done stood. stands_with done stood result now all made;

@@ -1,15 +1,20 @@
 -- A transaction's snapshot, from its current writes and its writes at each mark.
-use Rattle.city_txn.proofs.Prelude.{arith, ◌≡◌, ◌==◌, ℕ, List, [], ◌∷◌, true, false, Option, None, Some, is_some}
+use Rattle.city_txn.proofs.Prelude.{arith, ◌≡◌, ◌==◌, ◌&&◌, ◌||◌, ℕ, List, [], ◌∷◌, Bool, true, false, Option, None}
+use Rattle.city_txn.proofs.Prelude.{Some, is_some}
 use Rattle.city_txn.proofs.Prelude.{refl, ap, sym, ◌∙◌, subst, if◌then◌else◌, unwrap_or, Command, Reply, Exclusive}
 use Rattle.city_txn.proofs.Prelude.{CityMap, Snapshot, has_id, marks_from, locks_of, IsSound, covers}
 use Rattle.city_txn.proofs.Prelude.{locks_id_exclusively}
-use Rattle.city_txn.proofs.Prelude.{action, step, OwnWrites, Written, own_with, written_at_mark, written_by, map_with}
+use Rattle.city_txn.proofs.Prelude.{action, answer, step, WentBack, OwnWrites, Written, own_with, written_at_mark}
+use Rattle.city_txn.proofs.Prelude.{written_by, map_with}
 use Rattle.city_txn.proofs.Prelude.{marks_with, CoreState, committed, view, written, snapshot, view_with, Object}
 use Rattle.city_txn.proofs.Prelude.{same_id, bool_cases, from_mapped, IsWrittenUnder}
+use Rattle.std.proofs.Common.{◌≢◌, not}
 use Rattle.city_txn.specs.internal.Prelude.{Held, Action, Edits, Marks, GoesBack, applied, back, left, Write, own_or}
-use Rattle.city_txn.specs.internal.Prelude.{own_write, is_by, unless_by}
+use Rattle.city_txn.specs.internal.Prelude.{reply_of, is_refusal}
+use Rattle.city_txn.specs.internal.Prelude.{own_write, is_by, unless_by, write_of}
 use Rattle.city_model.specs.declared.mode.Mode.{Mode}
 use Rattle.city_model.specs.TraceLaw.{carried_map, carried_marks, carried}
+use Rattle.city_model.proofs.ActionKinds.{IsKindOf, kind_of}
 use Rattle.city_model.proofs.FrameLaw.{unwritten_stays}
 use Rattle.city_model.proofs.FramedActions.{edits_locked}
 use Rattle.city_txn.specs.internal.Core.{IsCovered, AreCovered}
@@ -68,6 +73,43 @@ step_seen v w s c sound city e =
     ∙ ap (λ (x : Snapshot). view_with m (written_by (action x.map c) (written v s))) (seen_with v s)
     ∙ seen_written m (written v s) c (subst (λ (x : Snapshot). IsSound x.map) (seen_with v s) sound)
     ∙ ap (λ (x : Snapshot). step x c) (sym (seen_with v s))
+
+-- ---- the ids that a command writes
+
+module _ (m : CityMap) (w : Written) (c : Command) (q : List ℕ) where
+  abbrev gains : Snapshot → Reply → Bool
+  gains y reply = is_some (w.0 q) || (not (is_refusal reply) && locks_id_exclusively (locks_of y.map c) q)
+
+  gained_as : (a : Action) → action (map_with m w.0) c ≡ a → IsKindOf c a
+      → reply_of (applied (view_with m w) a) ≢ WentBack
+      → is_some ((written_by a w).0 q) ≡ gains (view_with m w) (reply_of (applied (view_with m w) a))
+  gained_as (Edits r ids n) e k ahead = let locked = edits_locked (map_with m w.0) c r ids n e in grind arith
+  gained_as (GoesBack name) e k ahead = let marks = from_mapped (map_with m) name w.1 in grind arith
+  gained_as a e k ahead = grind arith
+
+  gained : answer (view_with m w) c ≢ WentBack
+      → is_some ((written_by (action (map_with m w.0) c) w).0 q) ≡ gains (view_with m w) (answer (view_with m w) c)
+  gained = gained_as (action (map_with m w.0) c) refl (kind_of (map_with m w.0) c)
+
+-- unless it goes back, the command adds those that it locks exclusively, and none if it is refused or not done
+pub written_gains : (v w : CoreState) (s : ℕ) (c : Command) (q : List ℕ) → answer (snapshot v s) c ≢ WentBack
+    → (done : Bool) → written w s ≡ (if done then written_by (action (view v s) c) (written v s) else written v s)
+    → is_by s (write_of w.writes q)
+    ≡ (is_by s (write_of v.writes q)
+    || (done && not (is_refusal (answer (snapshot v s) c)) && locks_id_exclusively (locks_of (view v s) c) q))
+written_gains v w s c q ahead true now =
+    by_own s (write_of w.writes q) ∙ ap (λ (u : Written). is_some (u.0 q)) now
+    ∙ subst (λ (y : Snapshot). answer y c ≢ WentBack
+    → is_some ((written_by (action y.map c) (written v s)).0 q)
+    ≡ (is_some ((written v s).0 q) || (not (is_refusal (answer y c)) && locks_id_exclusively (locks_of y.map c) q)))
+    (sym (seen_with v s)) (gained (committed v) (written v s) c q) ahead
+    ∙ ap (λ b. b || (not (is_refusal (answer (snapshot v s) c)) && locks_id_exclusively (locks_of (view v s) c) q))
+    (sym (by_own s (write_of v.writes q)))
+written_gains v w s c q ahead false now =
+    let new = by_own s (write_of w.writes q) in
+    let old = by_own s (write_of v.writes q) in
+    let same : is_some ((written w s).0 q) ≡ is_some ((written v s).0 q) = ap (λ (u : Written). is_some (u.0 q)) now in
+    grind arith
 
 -- ---- writes are under exclusive locks
 

@@ -1,5 +1,5 @@
 -- The effect of a command on a core.
-use Rattle.std.specs.Prelude.{◌≡◌, ◌≢◌, ◌==◌, ℕ, Bool, true, false, List, [], ◌∷◌, ◌++◌}
+use Rattle.std.specs.Prelude.{◌≡◌, ◌≢◌, ◌==◌, ◌&&◌, ◌||◌, not, ℕ, Bool, true, false, List, [], ◌∷◌, ◌++◌}
 use Rattle.std.specs.Prelude.{if◌then◌else◌}
 use Rattle.std.specs.Prelude.{Result, Ok, Err, IfOk, IfErr, OnOk, IsOk, Option, Some}
 use Rattle.std.specs.List.{list_all}
@@ -20,9 +20,9 @@ use Rattle.city_txn.specs.declared.txn_core.Step.{Step}
 use Rattle.city_txn.specs.declared.txn_core.Step.TheVariants as steps
 use Rattle.city_txn.specs.declared.txn_core.TxnFault.{TxnFault}
 use Rattle.city_txn.specs.declared.txn_core.TxnFault.TheVariants.{NotOpen, OutOfMemory}
-use Rattle.city_txn.specs.Writes.{write_of, unless_by}
+use Rattle.city_txn.specs.Writes.{write_of, is_by, unless_by}
 use Rattle.city_txn.specs.UndoLog.{written_by}
-use Rattle.city_model.specs.Standing.{Lock, Answered, AllHeld}
+use Rattle.city_model.specs.Standing.{Lock, Answered, AllHeld, locks_id_exclusively}
 use Rattle.city_txn.specs.CoreState.{CoreState, committed, view, written, snapshot, is_open, held}
 use Rattle.city_txn.specs.CoreState.{StandsUnderLocks, KeepsOthers}
 use Rattle.city_locks.specs.Asking.{first_answer, first_ungranted, granted_before, GainsFirst, IsBlocked}
@@ -107,11 +107,16 @@ pub record IsAct (stamp : ℕ) (command : Command) (result : Result Step TxnFaul
   -- out, all of them. It loses none; the others keep theirs
   pub locks : GainsFirst stamp (granted_in old stamp command) old.locks new.locks
   pub granted : OnOk result (AllHeld (held new stamp) (granted_in old stamp command))
-  -- its writes gain just the ids of the command's action, a new mark has the current writes, and going back restores
-  -- the writes of the mark; the others' writes and marks stay
+  -- its writes are as the command's action leaves them: an edit writes its ids, a new mark has the current writes, and
+  -- going back restores the writes of the mark; the others' writes and marks stay
   pub writes : written new stamp
       ≡ (if is_done result then written_by (action (view old stamp) command) (written old stamp)
       else written old stamp)
+  -- unless it goes back, they gain just the ids that the command locks exclusively, none if it is refused or not done
+  pub gained : (id : List ℕ) → reply ≢ WentBack → is_by stamp (write_of new.writes id)
+      ≡ (is_by stamp (write_of old.writes id)
+      || (is_done result && not (is_refusal reply)
+      && locks_id_exclusively (locks_of (view old stamp) command) id))
   pub unwritten : (id : List ℕ) → unless_by stamp (write_of new.writes id) ≡ unless_by stamp (write_of old.writes id)
   pub others : (t : ℕ) → (stamp == t) ≡ false → written new t ≡ written old t
   -- all commands that stood stand, and this one with them; if it is refused, also without it

@@ -230,6 +230,13 @@ impl Core {
         self.store.committed(id)
     }
 
+    /// The object at the id as the transaction of the stamp sees it. Doesn't allocate.
+    pub fn seen(&self, stamp: u64, id: &Id) -> Option<&Object>
+        ensures { option_copied result ≡ view self.now stamp id.now }
+    {
+        self.store.read(stamp, id)
+    }
+
     /// A copy of the committed city, whatever open transactions have written. It shares the objects'
     /// contents.
     pub fn committed_city(&self) -> Result<City, OutOfMemory>

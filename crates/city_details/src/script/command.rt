@@ -3,7 +3,7 @@ use crate::diagnostic::Diagnostic;
 use crate::quoted::Quoted;
 use crate::script::forms::{Form, form_in, form_named, is_word};
 use crate::script::given::tell_bad_given;
-use crate::script::nearest::nearest;
+use crate::script::nearest::{nearest, nearest_member};
 use city_model::OutOfMemory;
 use serde_json::{Map, Value};
 use std::alloc::Global;
@@ -20,8 +20,8 @@ enum BrokenForm<'t> {
     NoMember,
     /// It is a text, but no command.
     Word(&'t str),
-    /// It is an object without the name of a command; this is its first member.
-    FirstMember(&'t str),
+    /// It is an object of these members without the name of a command; this is the first of them.
+    FirstMember(&'t str, &'t Map<String, Value>),
     /// This member is missing.
     Missing(&'static str),
     /// The command of this name has no such member.
@@ -56,7 +56,7 @@ fn broken_members(members: &Map<String, Value>) -> Option<BrokenForm<'_>> {
 /// The fault of an object without the name of a command.
 fn nameless(members: &Map<String, Value>) -> BrokenForm<'_> {
     match members.keys().next() {
-        Some(name) => BrokenForm::FirstMember(name.as_str()),
+        Some(name) => BrokenForm::FirstMember(name.as_str(), members),
         None => BrokenForm::NoMember,
     }
 }
@@ -87,7 +87,9 @@ pub fn tell_bad_command(
             tell_no_command("It is an object without members.", diagnostic)
         }
         Some(BrokenForm::Word(word)) => tell_word(alloc, word, diagnostic),
-        Some(BrokenForm::FirstMember(name)) => tell_first_member(alloc, name, diagnostic),
+        Some(BrokenForm::FirstMember(first, members)) => {
+            tell_nameless(alloc, first, members, diagnostic)
+        }
         Some(BrokenForm::Missing(member)) => tell_missing(member, diagnostic),
         Some(BrokenForm::OtherMember(name, member)) => {
             tell_other_member(name, member, diagnostic)
@@ -170,37 +172,43 @@ fn tell_word(alloc: Global, word: &str, diagnostic: &mut Diagnostic) -> Result<(
     }
 }
 
-/// Says that no member of an object names a command, and tells the one nearest to the first member.
-fn tell_first_member(
+/// Says that no member of an object names a command, and tells the one nearest to a name.
+fn tell_nameless(
     alloc: Global,
-    name: &str,
+    first: &str,
+    members: &Map<String, Value>,
     diagnostic: &mut Diagnostic,
 ) -> Result<(), OutOfMemory> {
-    let nearest = tell_given(alloc, name, diagnostic)?;
-    let given = Quoted(name);
-    if is_word(name) {
+    diagnostic.details.text("rule", "no command")?;
+    let Some(near) = nearest_member(alloc, members)? else {
+        diagnostic.details.text("given", first)?;
+        let given = Quoted(first);
+        write!(
+            diagnostic.told(CORRECT_NAME),
+            "None of its members names a command; the first is {given}."
+        )?;
+        return Ok(());
+    };
+    diagnostic.details.text("given", near.member)?;
+    diagnostic.details.text("nearest", near.name)?;
+    let (given, name) = (Quoted(near.member), near.name);
+    if is_word(near.member) {
         write!(
             diagnostic.told("Write the word alone, as a text."),
             "The command {given} is a text, and no object."
         )?;
         return Ok(());
     }
-    match nearest {
-        None => {
-            write!(
-                diagnostic.told(CORRECT_NAME),
-                "None of its members names a command; the first is {given}."
-            )?;
-            Ok(())
-        }
-        Some(name) => {
-            write!(
-                diagnostic.told(CORRECT_NAME),
-                "None of its members names a command; the first, {given}, is nearest to \"{name}\"."
-            )?;
-            Ok(())
-        }
-    }
+    let (before, behind) = if near.member == first {
+        ("the first, ", ",")
+    } else {
+        ("its member ", "")
+    };
+    write!(
+        diagnostic.told(CORRECT_NAME),
+        "None of its members names a command; {before}{given}{behind} is nearest to \"{name}\"."
+    )?;
+    Ok(())
 }
 
 /// Adds a word in place of a command's name, and the nearest name. Returns the latter.

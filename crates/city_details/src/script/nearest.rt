@@ -1,6 +1,7 @@
 //! The command nearest to a misspelt word.
 use crate::script::forms::{FORMS, WORDS};
 use city_model::OutOfMemory;
+use serde_json::{Map, Value};
 use std::alloc::Global;
 use strsim::osa_distance;
 
@@ -10,6 +11,9 @@ const LONGEST: usize = 32;
 /// Most letters of a word that may be wrong, missing, too many, or swapped with the next.
 const MOST_EDITS: usize = 2;
 
+/// Most members of a command compared with the names of commands. No command has as many.
+const MOST_MEMBERS: usize = 16;
+
 /// The name of a command, and its distance in edits from a word.
 #[derive(Clone, Copy)]
 struct Found {
@@ -17,10 +21,43 @@ struct Found {
     edits: usize,
 }
 
+/// A member, and the name of the command nearest to it.
+#[derive(Clone, Copy)]
+pub struct NearMember<'t> {
+    pub member: &'t str,
+    pub name: &'static str,
+}
+
+/// Returns the member nearest to the name of a command, if one is near: among several the first in byte order.
+pub fn nearest_member<'t>(
+    alloc: Global,
+    members: &'t Map<String, Value>,
+) -> Result<Option<NearMember<'t>>, OutOfMemory> {
+    let mut near = None;
+    let mut fewest = MOST_EDITS + 1;
+    for member in members.keys().take(MOST_MEMBERS) {
+        let member = member.as_str();
+        if let Some(Found { name, edits }) = found_near(alloc, member)? {
+            if edits < fewest {
+                near = Some(NearMember { member, name });
+                fewest = edits;
+            }
+        }
+    }
+    Ok(near)
+}
+
 /// Returns the name of a command nearest to a word, if one is near: among several the first in byte order.
 ///
 /// A near name differs by at most two letters, and by fewer than the word has.
 pub fn nearest(alloc: Global, word: &str) -> Result<Option<&'static str>, OutOfMemory> {
+    match found_near(alloc, word)? {
+        None => Ok(None),
+        Some(found) => Ok(Some(found.name)),
+    }
+}
+
+fn found_near(alloc: Global, word: &str) -> Result<Option<Found>, OutOfMemory> {
     if word.len() > LONGEST {
         return Ok(None);
     }
@@ -37,7 +74,7 @@ pub fn nearest(alloc: Global, word: &str) -> Result<Option<&'static str>, OutOfM
     if found.name.is_empty() {
         return Ok(None);
     }
-    Ok(Some(found.name))
+    Ok(Some(found))
 }
 
 impl Found {

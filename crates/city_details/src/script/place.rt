@@ -13,13 +13,9 @@ pub fn command_at(tree: &Value, script: usize, command: usize) -> Option<&Value>
     tree.get(script)?.get("commands")?.get(command)
 }
 
-/// The name of a script, if it is a text short enough to be shown.
-fn short_name(tree: &Value, script: usize) -> Option<&str> {
-    let name = tree.get(script)?.get("name")?.as_str()?;
-    if name.len() > LONGEST_NAME {
-        return None;
-    }
-    Some(name)
+/// The name of a script, if it is a text.
+fn name_in(tree: &Value, script: usize) -> Option<&str> {
+    tree.get(script)?.get("name")?.as_str()
 }
 
 /// Narrows the place to a script, by its number and its name.
@@ -28,11 +24,22 @@ pub fn narrow_to_script(
     script: usize,
     diagnostic: &mut Diagnostic,
 ) -> Result<(), OutOfMemory> {
+    narrow_to_named(script, name_in(tree, script), diagnostic)
+}
+
+/// Narrows the place to a script, by its number, and by its name if that is known and short enough to be shown.
+pub fn narrow_to_named(
+    script: usize,
+    name: Option<&str>,
+    diagnostic: &mut Diagnostic,
+) -> Result<(), OutOfMemory> {
     let place = diagnostic.narrowed()?;
     write!(place, "script {script}")?;
-    if let Some(name) = short_name(tree, script) {
-        let name = Quoted(name);
-        write!(place, " {name}")?;
+    if let Some(name) = name {
+        if name.len() <= LONGEST_NAME {
+            let name = Quoted(name);
+            write!(place, " {name}")?;
+        }
     }
     Ok(())
 }

@@ -42,7 +42,7 @@ fn is_told(
     let rings = rings_of(alloc, surfaces)?;
     for ring in &rings {
         if let Some(found) = in_ring(ring.positions, count) {
-            narrow_to_ring(surfaces, ring, diagnostic)?;
+            narrow_to_ring(&surfaces.place(), ring.surface, ring.ring, diagnostic)?;
             tell(found, count, diagnostic)?;
             return Ok(true);
         }

@@ -1,10 +1,11 @@
 //! Diagnostics of short rings, of rings with equal neighbours, and of surfaces without rings.
 use crate::diagnostic::Diagnostic;
-use crate::shape::place::narrow_to_ring;
-use crate::shape::points::{Coordinates, points_of};
-use crate::shape::walk::{Ring, Surfaces, rings_of, surfaces_of};
+use crate::shape::place::{SurfacesPlace, narrow_to_ring};
+use crate::shape::point_rings::{PointRing, rings_in_model, rings_in_tree, surfaces_in_model};
+use crate::shape::points::Coordinates;
+use crate::shape::walk::surfaces_of;
 use city_model::OutOfMemory;
-use city_model::object::Point;
+use city_model::object::{Geometry, Point};
 use serde_json::Value;
 use std::alloc::Global;
 use std::fmt::{self, Display, Formatter, Write};
@@ -51,6 +52,16 @@ impl Display for Wrong {
     }
 }
 
+/// The faults of rings that are looked for.
+#[derive(Clone, Copy, PartialEq, Eq)]
+pub enum Sought {
+    Any,
+    /// Rings that are too short, and surfaces without rings.
+    Short,
+    /// Equal neighbours.
+    Equal,
+}
+
 /// Tells the first ring that is too short or has equal neighbours, or the first surface without rings.
 pub fn tell_bad_ring(
     alloc: Global,
@@ -60,24 +71,41 @@ pub fn tell_bad_ring(
 ) -> Result<(), OutOfMemory> {
     let lists = surfaces_of(alloc, object)?;
     for surfaces in &lists {
-        if is_told(alloc, surfaces, vertices, diagnostic)? {
+        let rings = rings_in_tree(alloc, surfaces, vertices)?;
+        if is_told(Sought::Any, &surfaces.place(), rings.as_slice(), diagnostic)? {
             return Ok(());
         }
     }
     Ok(())
 }
 
-/// Tells the first wrong ring of surfaces. Returns whether there is one.
-fn is_told(
+/// Tells the first ring of these geometries with a sought fault.
+pub fn tell_ring_in_model(
     alloc: Global,
-    surfaces: &Surfaces<'_>,
-    vertices: &[Point],
+    sought: Sought,
+    geometries: &[Geometry],
+    diagnostic: &mut Diagnostic,
+) -> Result<(), OutOfMemory> {
+    let lists = surfaces_in_model(alloc, geometries)?;
+    for surfaces in &lists {
+        let rings = rings_in_model(alloc, surfaces)?;
+        if is_told(sought, &surfaces.place, rings.as_slice(), diagnostic)? {
+            return Ok(());
+        }
+    }
+    Ok(())
+}
+
+/// Tells the first ring of surfaces with a sought fault. Returns whether there is one.
+fn is_told(
+    sought: Sought,
+    place: &SurfacesPlace<'_>,
+    rings: &[PointRing],
     diagnostic: &mut Diagnostic,
 ) -> Result<bool, OutOfMemory> {
-    let rings = rings_of(alloc, surfaces)?;
-    for ring in &rings {
-        if let Some(wrong) = wrong_with(alloc, ring, vertices)? {
-            narrow_to_ring(surfaces, ring, diagnostic)?;
+    for ring in rings {
+        if let Some(wrong) = wrong_with(sought, ring) {
+            narrow_to_ring(place, ring.surface, ring.ring, diagnostic)?;
             tell(wrong, diagnostic)?;
             return Ok(true);
         }
@@ -99,19 +127,25 @@ fn tell(wrong: Wrong, diagnostic: &mut Diagnostic) -> Result<(), OutOfMemory> {
     Ok(())
 }
 
-fn wrong_with(
-    alloc: Global,
-    ring: &Ring<'_>,
-    vertices: &[Point],
-) -> Result<Option<Wrong>, OutOfMemory> {
+/// The sought fault of a ring, if it has one.
+fn wrong_with(sought: Sought, ring: &PointRing) -> Option<Wrong> {
+    let short = too_short(ring);
+    match sought {
+        Sought::Short => short,
+        Sought::Equal => equal_neighbours(ring.points.as_slice()),
+        Sought::Any => short.or_else(|| equal_neighbours(ring.points.as_slice())),
+    }
+}
+
+fn too_short(ring: &PointRing) -> Option<Wrong> {
+    let points = ring.points.len();
     if ring.ring.is_none() {
-        return Ok(Some(Wrong::NoRing(ring.surface)));
+        Some(Wrong::NoRing(ring.surface))
+    } else if points < 3 {
+        Some(Wrong::Short(points))
+    } else {
+        None
     }
-    let points = points_of(alloc, ring.positions, vertices)?;
-    if points.len() < 3 {
-        return Ok(Some(Wrong::Short(points.len())));
-    }
-    Ok(equal_neighbours(points.as_slice()))
 }
 
 /// The first point equal to the next one; the last point is followed by the first.

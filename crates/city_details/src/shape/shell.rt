@@ -3,11 +3,12 @@ ghost use Rattle.std.specs.Prelude.{◌<◌, length};
 
 use crate::details::Details;
 use crate::diagnostic::Diagnostic;
-use crate::shape::place::narrow_to_surfaces;
-use crate::shape::points::{Coordinates, points_of};
-use crate::shape::walk::{Ring, Surfaces, rings_of, surfaces_of};
+use crate::shape::place::{SurfacesPlace, narrow_to_surfaces};
+use crate::shape::point_rings::{PointRing, rings_in_model, rings_in_tree, surfaces_in_model};
+use crate::shape::points::Coordinates;
+use crate::shape::walk::surfaces_of;
 use city_model::OutOfMemory;
-use city_model::object::Point;
+use city_model::object::{Geometry, Point};
 use serde_json::Value;
 use std::alloc::Global;
 use std::fmt::Write;
@@ -37,14 +38,47 @@ pub fn tell_open_shell(
     let lists = surfaces_of(alloc, object)?;
     for surfaces in &lists {
         if surfaces.shell.is_some() {
-            let edges = open_edges(alloc, surfaces, vertices)?;
-            if edges.count > 0 {
-                narrow_to_surfaces(surfaces, diagnostic)?;
-                return tell(edges, diagnostic);
+            let rings = rings_in_tree(alloc, surfaces, vertices)?;
+            if is_told(alloc, &surfaces.place(), rings.as_slice(), diagnostic)? {
+                return Ok(());
             }
         }
     }
     Ok(())
+}
+
+/// Tells the first open shell of these geometries.
+pub fn tell_shell_in_model(
+    alloc: Global,
+    geometries: &[Geometry],
+    diagnostic: &mut Diagnostic,
+) -> Result<(), OutOfMemory> {
+    let lists = surfaces_in_model(alloc, geometries)?;
+    for surfaces in &lists {
+        if surfaces.place.shell.is_some() {
+            let rings = rings_in_model(alloc, surfaces)?;
+            if is_told(alloc, &surfaces.place, rings.as_slice(), diagnostic)? {
+                return Ok(());
+            }
+        }
+    }
+    Ok(())
+}
+
+/// Tells a shell with its open edges. Returns whether it has any.
+fn is_told(
+    alloc: Global,
+    place: &SurfacesPlace<'_>,
+    rings: &[PointRing],
+    diagnostic: &mut Diagnostic,
+) -> Result<bool, OutOfMemory> {
+    let edges = open_edges(alloc, rings)?;
+    if edges.count == 0 {
+        return Ok(false);
+    }
+    narrow_to_surfaces(place, diagnostic)?;
+    tell(edges, diagnostic)?;
+    Ok(true)
 }
 
 fn tell(edges: OpenEdges, diagnostic: &mut Diagnostic) -> Result<(), OutOfMemory> {
@@ -67,35 +101,24 @@ fn tell(edges: OpenEdges, diagnostic: &mut Diagnostic) -> Result<(), OutOfMemory
 }
 
 /// Returns the open edges of a shell. An edge is closed if it and its reverse occur once each.
-fn open_edges(
-    alloc: Global,
-    surfaces: &Surfaces<'_>,
-    vertices: &[Point],
-) -> Result<OpenEdges, OutOfMemory> {
-    let rings = rings_of(alloc, surfaces)?;
-    let edges = sorted_edges(alloc, rings.as_slice(), vertices)?;
+fn open_edges(alloc: Global, rings: &[PointRing]) -> Result<OpenEdges, OutOfMemory> {
+    let edges = sorted_edges(alloc, rings)?;
     let mut found = OpenEdges {
         first: None,
         count: 0,
         told: Vec::new(alloc),
     };
-    for ring in &rings {
-        let points = points_of(alloc, ring.positions, vertices)?;
-        push_open(alloc, ring, points.as_slice(), edges.as_slice(), &mut found)?;
+    for ring in rings {
+        push_open(alloc, ring, edges.as_slice(), &mut found)?;
     }
     Ok(found)
 }
 
 /// All edges of these rings, in order.
-fn sorted_edges(
-    alloc: Global,
-    rings: &[Ring<'_>],
-    vertices: &[Point],
-) -> Result<Vec<Edge>, OutOfMemory> {
+fn sorted_edges(alloc: Global, rings: &[PointRing]) -> Result<Vec<Edge>, OutOfMemory> {
     let mut edges = Vec::new(alloc);
     for ring in rings {
-        let points = points_of(alloc, ring.positions, vertices)?;
-        push_edges(points.as_slice(), &mut edges)?;
+        push_edges(ring.points.as_slice(), &mut edges)?;
     }
     edges.sort_unstable();
     Ok(edges)
@@ -123,11 +146,11 @@ fn edge_at(points: &[Point], at: usize) -> Edge
 /// Adds the open edges of a ring, by the sorted edges of all rings.
 fn push_open(
     alloc: Global,
-    ring: &Ring<'_>,
-    points: &[Point],
+    ring: &PointRing,
     edges: &[Edge],
     found: &mut OpenEdges,
 ) -> Result<(), OutOfMemory> {
+    let points = ring.points.as_slice();
     for at in 0..points.len() {
         let edge = edge_at(points, at);
         if is_open(edges, edge) {
@@ -139,7 +162,7 @@ fn push_open(
 
 fn push_edge(
     alloc: Global,
-    ring: &Ring<'_>,
+    ring: &PointRing,
     edge: Edge,
     found: &mut OpenEdges,
 ) -> Result<(), OutOfMemory> {

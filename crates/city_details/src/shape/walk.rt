@@ -1,5 +1,6 @@
 //! The walk through boundaries: the lists of surfaces of an object, and the rings of such a list.
 use crate::shape::nesting::Nesting;
+use crate::shape::place::SurfacesPlace;
 use city_model::OutOfMemory;
 use city_model::shape_type::ShapeType;
 use serde_json::Value;
@@ -42,6 +43,19 @@ pub struct Surfaces<'v> {
     /// The number of the shell, if there are shells.
     pub shell: Option<usize>,
     pub items: &'v [Value],
+}
+
+impl<'v> Surfaces<'v> {
+    /// Their place.
+    pub fn place(&self) -> SurfacesPlace<'v> {
+        let lod = self.geometry.value.get("lod").and_then(Value::as_str);
+        SurfacesPlace {
+            geometry: self.geometry.number,
+            lod: lod.unwrap_or(""),
+            solid: self.solid,
+            shell: self.shell,
+        }
+    }
 }
 
 /// The lists of surfaces of an object's geometries: one for each shell, and one for a geometry without shells.

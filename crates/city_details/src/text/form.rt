@@ -8,6 +8,7 @@ pub enum TextForm {
     /// Begins with the byte order mark of UTF-8.
     ByteOrderMark,
     Utf16,
+    Gzip,
 }
 
 impl TextForm {
@@ -18,6 +19,7 @@ impl TextForm {
         }
         match text {
             [0xef, 0xbb, 0xbf, ..] => Some(TextForm::ByteOrderMark),
+            [0x1f, 0x8b, ..] => Some(TextForm::Gzip),
             [0xfe, 0xff, ..] | [0xff, 0xfe, ..] => Some(TextForm::Utf16),
             [0, ..] | [_, 0, ..] => Some(TextForm::Utf16),
             _ => None,
@@ -30,6 +32,7 @@ impl TextForm {
             TextForm::Empty => "empty",
             TextForm::ByteOrderMark => "byte order mark",
             TextForm::Utf16 => "UTF-16",
+            TextForm::Gzip => "gzip",
         }
     }
 }

@@ -8,10 +8,6 @@ use Rattle.city_doc.specs.declared.fault.ReadFault.TheVariants.{BadGeometry, Bad
 use Rattle.city_doc.specs.declared.fault.ReadFault.TheVariants.{OpenShell}
 use Rattle.city_scripts.specs.declared.fault.ScriptFault.{ScriptFault}
 
--- with the message and the cure
-abbrev pub with_words : List ℕ → List ℕ → Members → Members
-with_words message cure ms = put (codes "cure") (string cure) (put (codes "message") (string message) ms)
-
 -- with the kind of the faulty text, the fault's number and its name
 abbrev pub with_head : List ℕ → ℕ → List ℕ → Members → Members
 with_head kind n name ms =

@@ -1,12 +1,15 @@
 //! An event, for contracts only.
 use crate::answer::{Answer, Name};
-use crate::request::Tag;
+use crate::request::{Request, Tag};
 use crate::work::Work;
+use city_members::text::Text;
 use city_model::script::Script;
 
 /// An event, for contracts only. Numbers are stamps.
 #[derive(Drop)]
 pub enum Event {
+    /// A request of the hand of this name comes.
+    Comes(Text, Tag, Request),
     /// A script or a transaction of a hand is begun.
     Begins(u64, Work),
     /// The hand asks its transaction for the first command of this script.

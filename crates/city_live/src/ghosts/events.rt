@@ -5,8 +5,9 @@ ghost use Rattle.city_live.specs.declared.ghosts.event.Event.{Event};
 use crate::answer::{Answer, Name};
 use crate::ghosts::event::Event;
 use crate::ghosts::no_rule::NoRule;
-use crate::request::Tag;
+use crate::request::{Request, Tag};
 use crate::work::Work;
+use city_members::text::Text;
 use city_model::script::Script;
 use logbook::{Opening as FirstEntries, Seen, Start};
 use std::marker::Model;
@@ -18,6 +19,25 @@ impl FirstEntries<(), Event> for NoEvents {
     ghost use Rattle.std.specs.Prelude.{[]};
 
     ghost log = { λ count about. [] };
+}
+
+/// Events, and a request that comes.
+#[derive(Clone, Copy)]
+pub struct WithComing<'a> {
+    events: &'a Events,
+    hand: &'a Text,
+    tag: &'a Tag,
+    request: &'a Request,
+}
+
+/// The first entries of `Events::comes`.
+pub struct OneComing;
+
+impl<'a> FirstEntries<WithComing<'a>, Event> for OneComing {
+    ghost use Rattle.std.specs.Prelude.{◌++◌, ◌∷◌, []};
+    ghost use Rattle.city_live.specs.declared.ghosts.event.Event.{Event};
+
+    ghost log = { λ count with. with.events.now ++ Event.Comes with.hand.now with.tag.now with.request.now ∷ [] };
 }
 
 /// Events, and a beginning.
@@ -123,6 +143,20 @@ impl Events {
         ensures { result ≡ [] }
     {
         let (seen, _pens) = Seen::open_row::<(), NoEvents>(&(), Start::alone(), 0);
+        Events { seen }
+    }
+
+    /// These, and that a request of a hand comes.
+    pub fn comes(&self, hand: &Text, tag: &Tag, request: &Request) -> Events
+        ensures { result ≡ self.now ++ Event.Comes hand.now tag.now request.now ∷ [] }
+    {
+        let with = WithComing {
+            events: self,
+            hand,
+            tag,
+            request,
+        };
+        let (seen, _pens) = Seen::open_row::<WithComing<'_>, OneComing>(&with, Start::alone(), 0);
         Events { seen }
     }
 

@@ -1,7 +1,8 @@
 //! How scripts and transactions end.
-ghost use Rattle.std.specs.Prelude.{◌≡◌};
+ghost use Rattle.std.specs.Prelude.{◌≡◌, true, false, IfErr, OnErr};
+ghost use Rattle.std.specs.Arc.{arc_value};
 ghost use Rattle.city_live.specs.Ending.{IsAllowed, IsCounted};
-ghost use Rattle.city_live.specs.Serving.{Follows};
+ghost use Rattle.city_live.specs.Serving.{Follows, Proceeds, AsksEnd, IsLeaving};
 
 use super::{Hands, Sender};
 use crate::answer::{Changed, Fault};
@@ -25,9 +26,10 @@ enum Committing {
 
 impl<J: Journal> Hands<J> {
     /// Commits the hand's transaction.
-    #[tactic(auto, using(crate::proofs::Followed::then, crate::proofs::Followed::same))]
+    #[tactic(auto, using(crate::proofs::Followed::goes_before, crate::proofs::Followed::end_come, crate::proofs::Followed::end_take))]
     pub(super) fn commit_by(&mut self, sender: &Sender, tag: Tag)
-        ensures { Follows self.old self.new }
+        requires { AsksEnd true (arc_value sender.now.name) tag self.old }
+        ensures { Proceeds self.old self.new }
     {
         let Some(stamp) = self.stamp_of(sender) else {
             return self.refuse(sender, tag, Fault::NotOpen);
@@ -120,9 +122,10 @@ impl<J: Journal> Hands<J> {
     }
 
     /// Aborts the hand's work.
-    #[tactic(auto, using(crate::proofs::Followed::then, crate::proofs::Followed::same))]
+    #[tactic(auto, using(crate::proofs::Followed::goes, crate::proofs::Followed::goes_then, crate::proofs::Followed::end_come, crate::proofs::Followed::still_come))]
     pub(super) fn abort_by(&mut self, sender: &Sender, tag: Tag)
-        ensures { Follows self.old self.new }
+        requires { AsksEnd false (arc_value sender.now.name) tag self.old }
+        ensures { Proceeds self.old self.new }
     {
         let Some(stamp) = self.stamp_of(sender) else {
             return self.refuse(sender, tag, Fault::NotOpen);
@@ -133,9 +136,14 @@ impl<J: Journal> Hands<J> {
     }
 
     /// Aborts a work, and answers its waiting request. If memory runs out, the tag comes back, and nothing changes.
-    #[tactic(auto, using(crate::proofs::Followed::then, crate::proofs::Followed::same))]
+    #[tactic(auto, using(crate::proofs::Followed::then, crate::proofs::Followed::goes_behind, crate::proofs::Followed::still_end, crate::proofs::Followed::still_leaving, crate::proofs::Followed::goes))]
     pub(super) fn give_up(&mut self, sender: &Sender, tag: Tag, stamp: u64) -> Result<(), Tag>
-        ensures { Follows self.old self.new }
+        requires { AsksEnd false (arc_value sender.now.name) tag self.old }
+        ensures goes { Proceeds self.old self.new }
+        ensures leaving { IsLeaving (arc_value sender.now.name) tag self.old
+            → IsLeaving (arc_value sender.now.name) tag self.new }
+        ensures err { OnErr result (Follows self.old self.new) }
+        ensures back { IfErr result (λ t. t ≡ tag) }
     {
         // (a dead script begins again, so that its end counts)
         if self.talks.reopen(stamp).is_err() {
@@ -158,9 +166,12 @@ impl<J: Journal> Hands<J> {
     }
 
     /// Aborts a work, as its hand asks.
-    #[tactic(auto, using(crate::proofs::Followed::then, crate::proofs::Followed::same))]
+    #[tactic(auto, using(crate::proofs::Followed::goes_before, crate::proofs::Followed::end_take, crate::proofs::Followed::still_leaving))]
     fn end_for(&mut self, sender: &Sender, tag: Tag, stamp: u64)
-        ensures { Follows self.old self.new }
+        requires { AsksEnd false (arc_value sender.now.name) tag self.old }
+        ensures goes { Proceeds self.old self.new }
+        ensures leaving { IsLeaving (arc_value sender.now.name) tag self.old
+            → IsLeaving (arc_value sender.now.name) tag self.new }
     {
         self.talks.request(stamp, &sender.name, tag);
         self.end(stamp, Ending::Aborted);

@@ -1,7 +1,9 @@
 //! Watches, looks and models: committed things alone.
-ghost use Rattle.std.specs.Prelude.{◌≡◌, All, IfOk};
+ghost use Rattle.std.specs.Prelude.{◌≡◌, All, IfOk, map};
+ghost use Rattle.std.specs.Arc.{arc_value};
 ghost use Rattle.city_txn.specs.CoreState.{committed};
-ghost use Rattle.city_live.specs.Serving.{Follows};
+ghost use Rattle.city_live.specs.declared.request.Request.TheVariants as requests;
+ghost use Rattle.city_live.specs.Serving.{Proceeds, HasAsked, IsLeaving};
 
 use super::{Hands, Sender};
 use crate::answer::{Fault, Name, What};
@@ -16,9 +18,10 @@ use std::sync::Arc;
 
 impl<J: Journal> Hands<J> {
     /// Tells the hand of each change from now on.
-    #[tactic(auto, using(crate::proofs::Followed::then, crate::proofs::Followed::same))]
+    #[tactic(auto, using(crate::proofs::Followed::asked_come))]
     pub(super) fn watch(&mut self, sender: &Sender, tag: Tag)
-        ensures { Follows self.old self.new }
+        requires { HasAsked (arc_value sender.now.name) tag requests.Watch self.old }
+        ensures { Proceeds self.old self.new }
     {
         match self.seat_of(sender) {
             Ok(seat) => self.watch_at(sender, seat, tag),
@@ -27,9 +30,10 @@ impl<J: Journal> Hands<J> {
     }
 
     /// Tells the hand at a seat of each change from now on.
-    #[tactic(auto, using(crate::proofs::Followed::then, crate::proofs::Followed::same))]
+    #[tactic(auto, using(crate::proofs::Followed::asked_come, crate::proofs::Followed::watching_for))]
     fn watch_at(&mut self, sender: &Sender, seat: usize, tag: Tag)
-        ensures { Follows self.old self.new }
+        requires { HasAsked (arc_value sender.now.name) tag requests.Watch self.old }
+        ensures { Proceeds self.old self.new }
     {
         match self.add_watcher(&sender.name) {
             Ok(()) => {
@@ -51,17 +55,20 @@ impl<J: Journal> Hands<J> {
     }
 
     /// Tells the hand of no change any more.
-    #[tactic(auto, using(crate::proofs::Followed::then, crate::proofs::Followed::same))]
+    #[tactic(auto, using(crate::proofs::Followed::unwatched_for))]
     pub(super) fn unwatch(&mut self, sender: &Sender, tag: Tag)
-        ensures { Follows self.old self.new }
+        requires { HasAsked (arc_value sender.now.name) tag requests.Unwatch self.old }
+        ensures { Proceeds self.old self.new }
     {
         self.stop_watching(sender);
         self.talks.say(&sender.name, tag, What::Unwatched);
     }
 
     /// Tells the hand that it is forgotten.
+    #[tactic(auto, using(crate::proofs::Followed::bye_for))]
     pub(super) fn say_bye(&mut self, sender: &Sender, tag: Tag)
-        ensures { Follows self.old self.new }
+        requires { IsLeaving (arc_value sender.now.name) tag self.old }
+        ensures { Proceeds self.old self.new }
     {
         self.talks.say(&sender.name, tag, What::Bye);
     }
@@ -76,9 +83,10 @@ impl<J: Journal> Hands<J> {
     }
 
     /// Tells the committed city.
-    #[tactic(auto, using(crate::proofs::Followed::city_seen))]
+    #[tactic(auto, using(crate::proofs::Followed::city_seen, crate::proofs::Followed::model_for, crate::proofs::Followed::asked_come))]
     pub(super) fn show_model(&mut self, sender: &Sender, tag: Tag)
-        ensures { Follows self.old self.new }
+        requires { HasAsked (arc_value sender.now.name) tag requests.Model self.old }
+        ensures { Proceeds self.old self.new }
     {
         self.talks.session().is_live();
         match self.talks.session().committed_city() {
@@ -90,9 +98,10 @@ impl<J: Journal> Hands<J> {
     }
 
     /// Tells the committed objects of ids.
-    #[tactic(auto, using(crate::proofs::Followed::objects_seen))]
+    #[tactic(auto, using(crate::proofs::Followed::objects_seen, crate::proofs::Followed::look_for, crate::proofs::Followed::asked_come))]
     pub(super) fn look(&mut self, sender: &Sender, tag: Tag, ids: Sequence<Id>)
-        ensures { Follows self.old self.new }
+        requires { HasAsked (arc_value sender.now.name) tag (requests.Look ids) self.old }
+        ensures { Proceeds self.old self.new }
     {
         self.talks.session().is_live();
         match self.committed(ids) {
@@ -105,7 +114,8 @@ impl<J: Journal> Hands<J> {
 
     /// The committed objects of ids.
     fn committed(&self, ids: Sequence<Id>) -> Result<Sequence<(Id, Option<Object>)>, OutOfMemory>
-        ensures { IfOk result (λ objects. All (λ o. o.1 ≡ committed self.now.session.core o.0) objects) }
+        ensures seen { IfOk result (λ objects. All (λ o. o.1 ≡ committed self.now.session.core o.0) objects) }
+        ensures asked { IfOk result (λ objects. map (λ o. o.0) objects ≡ ids) }
     {
         let mut objects = Sequence::with_capacity(self.alloc, ids.len())?;
         for id in ids.into_vec() {

@@ -1,22 +1,19 @@
 //! How works end.
-ghost use Rattle.std.specs.Prelude.{◌≡◌, ◌<◌, ℕ, [], Some, true, IfOk, IfSome, OnOk, OnErr};
+ghost use Rattle.std.specs.Prelude.{◌≡◌, ◌<◌, ℕ, [], Some, true, IfOk, IfSome};
 ghost use Rattle.city_txn.specs.CoreState.{is_open};
 ghost use Rattle.std.specs.Arc.{arc_value};
 ghost use Rattle.city_session.specs.Grown.{Grown};
 ghost use Rattle.city_session.specs.Live.{grown_at};
 ghost use Rattle.city_live.specs.Ending.{IsReady, IsAllowed, IsEnded, IsUnrefused, AreTold, IsTelling, told_replies};
 ghost use Rattle.city_live.specs.Ending.{IsTellingOf, IsCounted};
-ghost use Rattle.city_live.specs.Replaying.{NotesCommit, NotesWork, NotesCommands};
-ghost use Rattle.city_live.specs.Works.{work_at, commands_noted};
 ghost use Rattle.city_live.specs.Serving.{Follows};
 
 use super::Talks;
+use super::notes::note_commit;
 use crate::answer::{Answer, Blocked, Changed, Ended, Fault, Name, What};
-use crate::journal::{Entry, Journal, Unwritten};
+use crate::journal::{Journal, Unwritten};
 use crate::log::Log;
-use crate::table::Table;
 use crate::task::Task;
-use crate::work::Work;
 use city_members::copied::Copied;
 use city_members::sequence::Sequence;
 use city_members::text::Text;
@@ -229,60 +226,6 @@ impl<J: Journal> Talks<J> {
         self.log.says(Some(stamp), Answer { hand, tag, what });
         Some(seat)
     }
-}
-
-/// Notes the commit of the stamp's work in a journal, if it wrote: then the version after it is another.
-fn note_commit<J: Journal>(
-    journal: &mut J,
-    table: &Table,
-    stamp: u64,
-    before: u64,
-    version: u64,
-) -> Result<(), Unwritten>
-    ensures ok { OnOk result (NotesCommit before version (work_at table.now stamp) (J.noted journal.old)
-        (J.noted journal.new)) }
-    ensures err { OnErr result (J.noted journal.new ≡ J.noted journal.old) }
-{
-    if version == before {
-        return Ok(());
-    }
-    note_at(journal, table, stamp, version)
-}
-
-/// Notes the work of the stamp in a journal that is kept, at the version after its commit.
-fn note_at<J: Journal>(
-    journal: &mut J,
-    table: &Table,
-    stamp: u64,
-    version: u64,
-) -> Result<(), Unwritten>
-    ensures ok { OnOk result (NotesWork (work_at table.now stamp) (J.noted journal.old) (J.noted journal.new)) }
-    ensures err { OnErr result (J.noted journal.new ≡ J.noted journal.old) }
-{
-    if !journal.is_kept() {
-        return Ok(());
-    }
-    match table.get(stamp) {
-        Some(work) => note(journal, work, version),
-        None => Ok(()),
-    }
-}
-
-/// Notes a work in a journal, at the version after its commit.
-fn note<J: Journal>(journal: &mut J, work: &Work, version: u64) -> Result<(), Unwritten>
-    ensures ok { OnOk result (NotesCommands (commands_noted work.now) (J.noted journal.old) (J.noted journal.new)) }
-    ensures err { OnErr result (J.noted journal.new ≡ J.noted journal.old) }
-{
-    let Some(commands) = work.commands() else {
-        return Err(Unwritten::CannotWrite);
-    };
-    let entry = Entry {
-        by: &**work.hand(),
-        name: work.name(),
-        version,
-        commands,
-    };
-    journal.append(&entry)
 }
 
 /// Whether an open transaction has written something, by its replies: if not, it may have gone back to what was

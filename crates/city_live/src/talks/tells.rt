@@ -1,7 +1,9 @@
 //! What is said besides ends.
 ghost use Rattle.std.specs.Prelude.{◌≡◌};
+ghost use Rattle.std.specs.Arc.{arc_value};
+ghost use Rattle.city_live.specs.Coming.{IsAnswerFor};
 ghost use Rattle.city_live.specs.Heard.{IsSeenAt};
-ghost use Rattle.city_live.specs.Serving.{Follows};
+ghost use Rattle.city_live.specs.Serving.{Follows, Proceeds, HasCome, came_in};
 
 use super::Talks;
 use crate::answer::{Answer, Blocked, Fault, Name, What};
@@ -15,8 +17,9 @@ use std::sync::Arc;
 impl<J: Journal> Talks<J> {
     /// Answers a request by what is seen of what has ended.
     pub fn say(&mut self, hand: &Name, tag: Tag, what: What)
-        requires { IsSeenAt self.old.session.start self.old.session.closed what }
-        ensures { Follows self.old self.new }
+        requires seen { IsSeenAt self.old.session.start self.old.session.closed what }
+        requires answers { IsAnswerFor (arc_value hand.now) tag what (came_in self.old) }
+        ensures { Proceeds self.old self.new }
     {
         if let Ok(hand) = Arc::try_clone(hand) {
             self.log.says(None, Answer { hand, tag, what });
@@ -24,8 +27,10 @@ impl<J: Journal> Talks<J> {
     }
 
     /// Refuses a request.
+    #[tactic(auto, using(crate::proofs::Followed::fault_for))]
     pub fn refuse(&mut self, hand: &Name, tag: Tag, fault: Fault)
-        ensures { Follows self.old self.new }
+        requires { HasCome (arc_value hand.now) tag self.old }
+        ensures { Proceeds self.old self.new }
     {
         self.say(hand, tag, What::Fault(fault));
     }

@@ -4,7 +4,8 @@ use Rattle.city_diagnostics.proofs.Prelude.{codes}
 use Rattle.city_scripts.specs.AllFaults.{rank_of as script_rank_of}
 use Rattle.city_diagnostics.specs.ScriptLines.{TellsScript, script_name_of}
 use Rattle.city_diagnostics.proofs.Heads.{script_told}
-use Rattle.city_diagnostics.specs.internal.Heads.{with_script_named, with_head, with_words}
+use Rattle.city_diagnostics.specs.internal.Heads.{with_script_named, with_head}
+use Rattle.city_details.specs.Why.{worded}
 use Rattle.city_diagnostics.proofs.line.script_line.Goals as goal
 
 pub returns : goal.returns
@@ -14,7 +15,7 @@ returns c =
     let cure = c.args.diagnostic.cure.now in
     let ms = c.args.diagnostic.details in
     let head : c.add_head.new.details
-    ≡ with_head (codes "scripts") (script_rank_of f) (script_name_of f) (with_words message cure ms) =
+    ≡ with_head (codes "scripts") (script_rank_of f) (script_name_of f) (worded message cure ms) =
     c.in_ok-add_head.ensures
     ∙ ap (λ (n : ℕ). with_head (codes "scripts") n c.script_name_of.result.now c.in_ok-details.details)
     c.script_number_of.ensures
@@ -22,7 +23,7 @@ returns c =
     c.script_name_of.ensures
     ∙ ap (with_head (codes "scripts") (script_rank_of f) (script_name_of f)) c.in_ok-details.ensures in
     let all : c.add_script_named.new.details ≡ with_script_named f
-    (with_head (codes "scripts") (script_rank_of f) (script_name_of f) (with_words message cure ms)) =
+    (with_head (codes "scripts") (script_rank_of f) (script_name_of f) (worded message cure ms)) =
     c.in_ok-add_script_named.ensures ∙ ap (with_script_named f) head in
     let tells = subst (λ (m : Members). TellsScript f (object m)) (sym all) (script_told f message cure ms) in
     IfOk-weaker c.line_of.result _ _ (λ line is. (c.add_script_named.new.details, tells, is)) c.line_of.ensures

@@ -6,8 +6,8 @@ use Rattle.city_live.specs.Ending.{EndsAs, IsCounted, Leads, told_replies}
 use Rattle.city_live.specs.Heard.{AreHeard}
 use Rattle.city_live.specs.Serving.{Served}
 use Rattle.city_live.proofs.Continued.{same, ended}
-use Rattle.city_live.proofs.Followed.{then, noting, saying, silently}
-use Rattle.city_live.proofs.Finished.{heard_ended, heard_tellings, steps_if, committing}
+use Rattle.city_live.proofs.Followed.{then, noting_still, saying, silently}
+use Rattle.city_live.proofs.Finished.{heard_ended, heard_tellings, steps_if, committing, came_tellings, alone_tellings}
 use Rattle.city_live.proofs.Replayed.{stays, commit_notes, stays_so}
 use Rattle.city_live.proofs.talks.Talks.commit.Goals as goal
 
@@ -31,8 +31,10 @@ pub returns : goal.returns
 returns g c =
     let there = sym c.take.ensures.taken ∙ c.in-Some.is in
     (then)
-    (noting c.self.view_is (same c.self.inside.session) (stays refl) c.tell_all.new.log c.tell_all.ensures.more
-    c.tell_all.ensures.events c.tell_all.ensures.answers)
+    (noting_still c.self.view_is (same c.self.inside.session) (stays refl) c.tell_all.new.log c.tell_all.ensures.more
+    c.tell_all.ensures.events c.tell_all.ensures.answers
+    (alone_tellings c.args.changed c.tell_all.ensures.more c.tell_all.ensures.all)
+    (came_tellings c.self.inside.log.events c.args.changed c.tell_all.ensures.more c.tell_all.ensures.all))
     (saying refl (ended c.args.stamp _ c.commit.ensures.ended)
     (commit_notes c.self.invariant c.is_live.ensures c.args.stamp c.in-Some.work there
     (c.may_commit.ensures c.if-not-may_commit.false) c.commit.new.self c.args.before c.args.version _ _
