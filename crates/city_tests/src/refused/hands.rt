@@ -196,7 +196,12 @@ fn request(alloc: Global, ask: Ask) -> Option<Request> {
 }
 
 /// The answers to a hand's next request; none if it has none, or if memory ran out before anything was done.
-fn answers(alloc: Global, hands: &mut Hands<NoJournal>, player: &Player) -> Option<Vec<Answer>> {
+fn answers(
+    alloc: Global,
+    hands: &mut Hands<NoJournal>,
+    player: Option<&Player>,
+) -> Option<Vec<Answer>> {
+    let player = player?;
     let request = request(alloc, player.next()?)?;
     let hand = text(alloc, player.name)?;
     hands.handle(hand, None, request).ok()
@@ -205,7 +210,7 @@ fn answers(alloc: Global, hands: &mut Hands<NoJournal>, player: &Player) -> Opti
 /// Each hand asks for what is next.
 fn take_round(alloc: Global, hands: &mut Hands<NoJournal>, players: &mut [Player]) {
     for number in 0..players.len() {
-        let Some(answers) = answers(alloc, hands, &players[number]) else {
+        let Some(answers) = answers(alloc, hands, players.get(number)) else {
             continue;
         };
         for answer in answers {
