@@ -6,18 +6,15 @@
 WORDS start live editing, and are "PROGRAM --live" unless they are given. Needs python3-aiohttp; without it this says so
 and ends with status 0. All sockets are on 127.0.0.1 or in a folder that is removed.
 """
-import argparse
 import asyncio
 import json
-import os
 import random
-import shlex
 import socket
 import sys
 import time
 import unittest
 
-from live_running import GIVEN, aiohttp, patience
+from live_running import aiohttp, asked, patience
 from live_ends import Engines, Gateways, Saves  # noqa: F401 - the first and the last are run from here
 
 
@@ -250,12 +247,7 @@ class Locks(Gateways):
 
 
 def main():
-    say = argparse.ArgumentParser(description=__doc__, formatter_class=argparse.RawDescriptionHelpFormatter)
-    say.add_argument("program")
-    say.add_argument("--live", help="how live editing is started")
-    say.add_argument("tests", nargs="*")
-    given = say.parse_intermixed_args()
-    GIVEN.live = given.live or shlex.join([os.path.abspath(given.program), "--live"])
+    given = asked(__doc__)
     unittest.main(argv=[sys.argv[0], *given.tests])
 
 

@@ -7,10 +7,8 @@ WORDS start live editing, and are "PROGRAM --live" unless they are given. Needs 
 chromium-driver and python3-selenium; without one it says which and ends with status 0. libjs-three is for 3D; without
 it the plan alone is tried. Pictures of the page, in both schemes and in a wide and a narrow window, are left in FOLDER.
 """
-import argparse
 import json
 import os
-import shlex
 import signal
 import statistics
 import sys
@@ -19,7 +17,7 @@ import time
 import unittest
 from pathlib import Path
 
-from live_running import GIVEN, Running, patience
+from live_running import GIVEN, Running, asked, patience
 from live_town import write_town
 from live_windows import AXE, EDITS, HOUSE, PANS, PLACE, SHOWN, THREE, UNNAMED, UNREADABLE
 from live_windows import By, Keys, Window, browser, until
@@ -313,13 +311,7 @@ class Large(Pages):
 
 
 def main():
-    say = argparse.ArgumentParser(description=__doc__, formatter_class=argparse.RawDescriptionHelpFormatter)
-    say.add_argument("program")
-    say.add_argument("tests", nargs="*")
-    say.add_argument("--live", help="how live editing is started")
-    say.add_argument("--pictures", metavar="FOLDER")
-    given = say.parse_intermixed_args()
-    GIVEN.live = given.live or shlex.join([os.path.abspath(given.program), "--live"])
+    given = asked(__doc__, pictures="FOLDER")
     GIVEN.pictures = given.pictures
     if not os.path.exists(THREE):
         print("libjs-three is missing: the plan alone is tried")

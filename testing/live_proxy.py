@@ -9,11 +9,8 @@ long messages, and what is shown in Chromium; a connection outlives the proxy's 
 Needs python3-aiohttp, nginx and openssl, and for the page chromium, chromium-driver and python3-selenium; what is
 missing is told and skipped. All sockets are on 127.0.0.1.
 """
-import argparse
 import asyncio
-import os
 import re
-import shlex
 import shutil
 import ssl
 import subprocess
@@ -24,7 +21,7 @@ from pathlib import Path
 from urllib.error import HTTPError
 from urllib.request import HTTPSHandler, ProxyHandler, build_opener
 
-from live_running import GIVEN, ROOT, Page, Running, aiohttp, free_port, patience
+from live_running import ROOT, Page, Running, aiohttp, asked, free_port, patience
 
 NGINX = shutil.which("nginx") or shutil.which("nginx", path="/usr/sbin")
 PAGE = ROOT / "live/README.md"
@@ -154,15 +151,10 @@ class Proxied(unittest.IsolatedAsyncioTestCase):
 
 
 def main():
-    say = argparse.ArgumentParser(description=__doc__, formatter_class=argparse.RawDescriptionHelpFormatter)
-    say.add_argument("program")
-    say.add_argument("--live", help="how live editing is started")
-    say.add_argument("tests", nargs="*")
-    given = say.parse_intermixed_args()
+    given = asked(__doc__)
     for needed, there in (("nginx", NGINX), ("openssl", shutil.which("openssl"))):
         if not there:
             sys.exit(print("skipped: %s is missing" % needed))
-    GIVEN.live = given.live or shlex.join([os.path.abspath(given.program), "--live"])
     unittest.main(argv=[sys.argv[0], *given.tests])
 
 

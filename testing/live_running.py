@@ -33,6 +33,19 @@ DIRECT = build_opener(ProxyHandler({}))
 GIVEN = argparse.Namespace(live="cityed --live")
 
 
+def asked(text, **options):
+    """What the command line of a trial asks for, with these further options; GIVEN then says how live editing is started."""
+    say = argparse.ArgumentParser(description=text, formatter_class=argparse.RawDescriptionHelpFormatter)
+    say.add_argument("program")
+    say.add_argument("tests", nargs="*")
+    say.add_argument("--live", help="how live editing is started")
+    for name, metavar in options.items():
+        say.add_argument("--" + name, metavar=metavar)
+    given = say.parse_intermixed_args()
+    GIVEN.live = given.live or shlex.join([os.path.abspath(given.program), "--live"])
+    return given
+
+
 def patience(seconds):
     """So many seconds, and as many times more as the machine has more to do than it has processors."""
     return seconds * max(1, os.getloadavg()[0] / os.cpu_count())
