@@ -26,8 +26,9 @@ from json_tree import print_tree
 from live_engine import Engine
 from random_runs import HEAD
 
-HANDLE = "city_live::hands::*handle"
-NAMED = re.compile(r"c?fn=(\(\d+\)) city_live::hands::\S*handle$")  # gives the number that stands for the name
+HANDLE = "city_live::hands::Hands::handle::<*"
+# It gives the number that stands for the name of HANDLE.
+NAMED = re.compile(r"c?fn=(\(\d+\)) city_live::hands::Hands::handle::<\S*$")
 RUN = "city_scheduler::in_turn::*run_each"
 MOST_OF_A_SET = 1.3
 MOST_OF_A_SIZE = 1.1
@@ -155,6 +156,8 @@ def sets_are_cheap(program, sets):
         batch.append(program.of_run(scripts))
         live.append(program.of_session(session))
     run, handled = ((last - first) / (SCRIPTS * sets) for first, last in (batch, live))
+    if not (run and handled):
+        raise Wrong(f"{run} instructions of a set are counted in a run, and {handled} by a hand")
     told = f"a set by a script of {sets}: {run:,.0f} instructions in a run, {handled:,.0f} by a hand"
     return say(handled <= MOST_OF_A_SET * run, f"{told}, {handled / run:.3f} times")
 

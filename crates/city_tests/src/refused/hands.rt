@@ -75,6 +75,13 @@ impl Player {
         }
     }
 
+    /// Goes on by an answer that is its own.
+    fn hear_if(&mut self, answer: &Answer) {
+        if answer.hand.as_str() == self.name {
+            self.hear(&answer.what);
+        }
+    }
+
     /// Goes on by what it is told.
     fn hear(&mut self, what: &What) {
         match what {
@@ -214,12 +221,15 @@ fn take_round(alloc: Global, hands: &mut Hands<NoJournal>, players: &mut [Player
             continue;
         };
         for answer in answers {
-            for player in players.iter_mut() {
-                if answer.hand.as_str() == player.name {
-                    player.hear(&answer.what);
-                }
-            }
+            tell(players, &answer);
         }
+    }
+}
+
+/// The hand of an answer goes on by it.
+fn tell(players: &mut [Player], answer: &Answer) {
+    for player in players.iter_mut() {
+        player.hear_if(answer);
     }
 }
 
