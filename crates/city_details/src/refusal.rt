@@ -47,11 +47,11 @@ impl Sight for City {
 
 /// A refused command.
 #[derive(Clone, Copy)]
-pub struct Refusal<'r> {
+pub struct Refusal<'r, 'p> {
     pub command: &'r Command,
     pub cause: &'r Cause,
     /// What the earlier commands of its transaction left, if that is known.
-    pub past: Option<&'r Past<'r>>,
+    pub past: Option<&'r Past<'p>>,
 }
 
 /// An object of a refused command: its id, and how the command saw it.
@@ -86,7 +86,7 @@ pub struct RefusedAt<'s> {
 pub fn refusal_diagnostic<S: Sight>(
     alloc: Global,
     at: Option<RefusedAt<'_>>,
-    refusal: Refusal<'_>,
+    refusal: Refusal<'_, '_>,
     sight: &S,
 ) -> Result<Diagnostic, OutOfMemory> {
     let subjects = subjects_of(refusal, sight);
@@ -107,7 +107,7 @@ pub fn refusal_diagnostic<S: Sight>(
 }
 
 /// The objects of a refused command. Those of a commit are in its cause.
-fn subjects_of<'r, S: Sight>(refusal: Refusal<'r>, sight: &'r S) -> Subjects<'r> {
+fn subjects_of<'r, S: Sight>(refusal: Refusal<'r, '_>, sight: &'r S) -> Subjects<'r> {
     match refusal.command {
         Command::Read(id)
         | Command::Put(id, _)
@@ -139,7 +139,7 @@ fn looked_at<'r, S: Sight>(id: &'r Id, sight: &'r S) -> Seen<'r> {
 /// Tells a refusal that names a mark.
 fn tell_of_mark(
     alloc: Global,
-    refusal: Refusal<'_>,
+    refusal: Refusal<'_, '_>,
     diagnostic: &mut Diagnostic,
 ) -> Result<(), OutOfMemory> {
     match refusal.cause {
@@ -151,7 +151,7 @@ fn tell_of_mark(
 /// Tells a refusal of a command on one object.
 fn tell_of_object(
     alloc: Global,
-    refusal: Refusal<'_>,
+    refusal: Refusal<'_, '_>,
     seen: Seen<'_>,
     diagnostic: &mut Diagnostic,
 ) -> Result<(), OutOfMemory> {
@@ -176,7 +176,7 @@ fn tell_of_object(
 
 /// Tells a refused attach or detach.
 fn tell_of_relation(
-    refusal: Refusal<'_>,
+    refusal: Refusal<'_, '_>,
     child: Seen<'_>,
     parent: Seen<'_>,
     diagnostic: &mut Diagnostic,

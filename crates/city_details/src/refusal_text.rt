@@ -10,7 +10,11 @@ use std::alloc::Global;
 
 /// Returns what is told of a refused command: the compact text of a JSON object with `message` and `cure`, mostly with
 /// `place`, and with the details of its cause.
-pub fn why<S: Sight>(alloc: Global, refusal: Refusal<'_>, sight: &S) -> Result<String, OutOfMemory>
+pub fn why<S: Sight>(
+    alloc: Global,
+    refusal: Refusal<'_, '_>,
+    sight: &S,
+) -> Result<String, OutOfMemory>
     ensures { IfOk result (λ text. IsWhy (string_bytes text)) }
 {
     let diagnostic = refusal_diagnostic(alloc, None, refusal, sight)?;

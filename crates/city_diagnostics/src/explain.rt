@@ -47,7 +47,7 @@ pub fn explain_scripts(
 pub fn explain_refusal<S: Sight>(
     alloc: Global,
     at: RefusedAt<'_>,
-    refusal: Refusal<'_>,
+    refusal: Refusal<'_, '_>,
     sight: &S,
 ) -> Result<String, OutOfMemory> {
     let diagnostic = refusal_diagnostic(alloc, Some(at), refusal, sight)?;

@@ -6,14 +6,14 @@
 //! - `file`, `scenario`, `named`: a file of scenarios, one of them, and their named texts
 //! - `play`: the verbs; `written`, `fault_lines`, `wanted`: their answers, and the comparison
 //! - `document`, `scripts`, `prefixes`: texts read; `pieces`: in how many pieces; `tokens`: from their tokens; `check`:
-//!   their faults; `diagnostics`: diagnostics of these; `body`: bodies judged; `members`: members kept;
-//!   `faults`: faults shown; `rewrite`: scripts written
+//!   their faults; `diagnostics`: diagnostics of these; `refusals`: of refused scripts; `body`: bodies judged;
+//!   `members`: members kept; `faults`: faults shown; `rewrite`: scripts written
 //! - `run`, `crew`, `served`, `replay`: whole runs, by one worker, by several, as the program serves them, and their
 //!   scripts one at a time; `canonical`: a model's canonical form
 //! - `serve`, `reader`, `writer`: from a device to a device; `program`, `folder`, `seen`: the program, over files that
 //!   are texts with names, and the line of a viewer; `known_texts`, `taken_steps`: what contracts know of these files
-//! - `steps`, `turns`: steps, a desk; `core_steps`, `session_steps`, `reply`, `change`: transactions; `locks`: a
-//!   lock table; `board`: viewers; `shelves`: a change made by hand
+//! - `steps`, `turns`: steps, a desk; `core_steps`, `session_steps`, `reply`, `change`: transactions; `live_steps`,
+//!   `live_lists`: hands; `locks`: a lock table; `board`: viewers; `shelves`: a change made by hand
 //! - `command_line`, `pool`: command lines parsed, and points numbered
 #![tactic(auto)]
 
@@ -33,6 +33,7 @@ mod file;
 mod folder;
 mod journals;
 mod known_texts;
+mod live_lists;
 mod live_steps;
 mod locks;
 mod members;
@@ -43,6 +44,7 @@ mod pool;
 mod prefixes;
 mod program;
 mod reader;
+mod refusals;
 mod replay;
 mod reply;
 mod rewrite;

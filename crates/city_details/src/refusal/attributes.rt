@@ -102,7 +102,8 @@ pub fn tell_unexpected(
     diagnostic.details.list("attributes", told)?;
     if more > 0 {
         diagnostic.details.number("more", more)?;
-        write!(&mut diagnostic.message, "; {more} more differ")?;
+        let differ = if more == 1 { "differs" } else { "differ" };
+        write!(&mut diagnostic.message, "; {more} more {differ}")?;
     }
     diagnostic.message.push_str(".")
 }
@@ -146,7 +147,7 @@ fn tell_one(
             message.push_str(found.as_str())?;
         }
     }
-    write!(message, " and not {expected}")?;
+    write!(message, " (expected {expected})")?;
     differing.told.push(details)?;
     Ok(())
 }

@@ -5,21 +5,22 @@ use city_model::command::Command;
 use city_model::id_list::is_same_id;
 use std::alloc::Global;
 
-/// A mark, and how many parents were taken before it.
+/// A mark, and how many were taken before it.
 #[derive(Clone, Copy)]
 struct Marked<'a> {
     name: &'a Text,
     taken: usize,
 }
 
-/// A child, and a parent that was taken from it.
+/// A child, and the parent that was taken from it; or an object that was deleted, so that a later one of its id lost no
+/// parent.
 #[derive(Clone, Copy)]
 struct Taken<'a> {
     child: &'a Id,
-    parent: &'a Id,
+    parent: Option<&'a Id>,
 }
 
-/// The marks of a transaction, and the parents that it took from objects.
+/// The marks of a transaction, the parents that it took from objects, and the objects that it deleted.
 #[derive(Drop)]
 pub struct Past<'a> {
     marks: Vec<Marked<'a>>,
@@ -43,9 +44,15 @@ impl<'a> Past<'a> {
                 self.marks.push(Marked { name, taken })?;
             }
             Command::Back(name) => self.go_back(name),
-            Command::Detach(child, parent) => self.taken.push(Taken { child, parent })?,
+            Command::Detach(child, parent) => self.take(child, Some(parent))?,
+            Command::Delete(id) => self.take(id, None)?,
             _ => {}
         }
+        Ok(())
+    }
+
+    fn take(&mut self, child: &'a Id, parent: Option<&'a Id>) -> Result<(), OutOfMemory> {
+        self.taken.push(Taken { child, parent })?;
         Ok(())
     }
 
@@ -76,7 +83,7 @@ impl<'a> Past<'a> {
     pub(crate) fn last_parent(&self, child: &Id) -> Option<&'a Id> {
         for taken in self.taken.iter().rev() {
             if is_same_id(taken.child, child) {
-                return Some(taken.parent);
+                return taken.parent;
             }
         }
         None

@@ -7,10 +7,9 @@ use std::alloc::Global;
 /// Most characters shown of a value.
 const SHOWN: usize = 80;
 
-/// What stands around the text of an encoded number: a number that isn't a whole one of 64 bits.
+/// What stands before the text of an encoded number: a number that isn't a whole one of 64 bits. Behind it come a quote
+/// and a brace.
 const OPENING: &str = "{\"#\":\"";
-
-const CLOSING: &str = "\"}";
 
 /// The JSON text of a value, cut short if it is long.
 pub fn shown_value(alloc: Global, value: &Value) -> Result<String, OutOfMemory> {
@@ -46,15 +45,26 @@ fn push_plain<'a>(plain: &mut String, text: &'a str) -> Result<Option<&'a str>, 
         return Ok(None);
     };
     plain.push_str(before)?;
-    match behind.split_once(CLOSING) {
-        Some((numeral, after)) if is_numeral(numeral) => {
+    match numeral_before(behind) {
+        Some((numeral, after)) => {
             plain.push_str(numeral)?;
             Ok(Some(after))
         }
-        _ => {
+        None => {
             plain.push_str(OPENING)?;
             Ok(Some(behind))
         }
+    }
+}
+
+/// The number whose text begins here, and what is behind its closing. It looks no further than to the next quote.
+fn numeral_before(text: &str) -> Option<(&str, &str)> {
+    let (numeral, after) = text.split_once("\"")?;
+    let after = after.strip_prefix("}")?;
+    if is_numeral(numeral) {
+        Some((numeral, after))
+    } else {
+        None
     }
 }
 
