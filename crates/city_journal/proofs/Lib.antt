@@ -1,6 +1,12 @@
+pub mod Digits
 pub mod Followed
+pub mod JournalRead
 pub mod Kept
 pub mod LineParts
+pub mod LineRead
 pub mod Lines
+pub mod NameRead
 pub mod Replays
+pub mod SaidRead
+pub mod SumFound
 pub mod Written

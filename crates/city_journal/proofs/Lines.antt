@@ -1,6 +1,8 @@
 -- Lines, and bytes that end within one of them.
 use Rattle.std.proofs.Common.{◌≡◌, ◌+◌, ◌<◌, ◌≤◌, ◌∙◌, ◌∷◌, ◌++◌, ℕ, zero, suc, List, [], refl, sym, ap, length, take}
 use Rattle.std.proofs.Common.{append_assoc, append-nil, arith, ◌==◌}
+use Rattle.std.proofs.Common.{drop}
+use Rattle.std.proofs.Math.Seq.{drop-nil}
 use Rattle.std.proofs.lemmas.Bool.{or_parts}
 use Rattle.std.specs.List.{list_any}
 use Rattle.city_journal.specs.Lines.{AreLines, IsLine, lines_text, whole_lines, with_byte}
@@ -39,3 +41,9 @@ more_lines (x ∷ ls) l =
 pub are_more : (ls : List (List ℕ)) (l : List ℕ) → AreLines ls → IsLine l → AreLines (ls ++ l ∷ [])
 are_more [] l are is = (is, tt)
 are_more (x ∷ ls) l are is = (are.0, are_more ls l are.1 is)
+
+pub drop_twice : {X : Type 0} (n i : ℕ) (xs : List X) → drop n (drop i xs) ≡ drop (i + n) xs
+drop_twice n zero xs = let e : n ≡ 0 + n = omega arith in ap (λ k. drop k xs) e
+drop_twice n (suc i) [] = drop-nil n ∙ sym (drop-nil (suc i + n))
+drop_twice n (suc i) (x ∷ xs) =
+    let e : suc (i + n) ≡ suc i + n = omega arith in drop_twice n i xs ∙ ap (λ k. drop k (x ∷ xs)) e

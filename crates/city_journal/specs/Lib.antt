@@ -1,11 +1,14 @@
 pub mod Entries
 pub mod Files
-pub mod Journaled
 pub mod Followed
+pub mod Journaled
 pub mod Kept
 pub mod LineTexts
 pub mod Lines
+pub mod Names
+pub mod Reads
 pub mod Replays
+pub mod Said
 pub mod Steps
 pub mod Strings
 pub mod Sums

@@ -1,6 +1,11 @@
 //! A whole journal, read.
-ghost use Rattle.std.specs.Prelude.{◌≡◌, IfOk};
-ghost use Rattle.city_journal.specs.Lines.{EndsLine};
+ghost use Rattle.std.specs.Prelude.{◌≡◌, ◌≢◌, ◌^◌, ◌<◌, ◌++◌, ◌∷◌, [], ◌⊎◌, ℕ, List, Bool, map, drop, IfOk, MatchResult};
+ghost use Rattle.city_journal.specs.LineTexts.{base_text};
+ghost use Rattle.city_journal.specs.Lines.{EndsLine, IsLine, lines_text};
+ghost use Rattle.city_journal.specs.Reads.{AreNext, IsJournal, IsReadAs, all_said, begun, reading_so_far, so_far};
+ghost use Rattle.city_journal.specs.Said.{Said, said_text};
+ghost use Rattle.city_journal.specs.Sums.{IsSum};
+ghost use Rattle.city_journal.specs.declared.fault.JournalFault.{JournalFault};
 
 use crate::fault::JournalFault;
 use crate::keys::Keys;
@@ -89,7 +94,16 @@ pub fn read_journal(
     bytes: &[u8],
     decimals: bool,
 ) -> Result<ReadJournal<'_>, JournalFault>
-    ensures { IfOk result (λ journal. EndsLine bytes.now journal.whole) }
+    ensures whole { IfOk result (λ journal. EndsLine bytes.now journal.whole) }
+    ensures read { (sum : List ℕ) (version : ℕ) (ss : List Said) (torn : List ℕ)
+        → IsJournal decimals sum version ss torn bytes.now
+        → MatchResult result (IsReadAs (all_said (begun sum version) ss) torn bytes.now)
+        (λ f. f ≡ JournalFault.OutOfMemory) }
+    ensures other_numbers { (sum : List ℕ) (other : Bool) (version : ℕ) (rest : List ℕ) → IsSum sum
+        → version < 2 ^ 64 → IsLine (base_text sum other version) → other ≢ decimals
+        → bytes.now ≡ base_text sum other version ++ 10 ∷ rest
+        → MatchResult result (λ _. ⊥)
+        (λ f. (f ≡ JournalFault.OtherNumbers other) ⊎ (f ≡ JournalFault.OutOfMemory)) }
 {
     let Some(end) = memchr(b'\n', bytes) else {
         return Err(JournalFault::NoJournal);
@@ -110,16 +124,18 @@ fn read_rest<'a>(
     start: usize,
 ) -> Result<ReadJournal<'a>, JournalFault>
     requires { EndsLine bytes.now start }
-    ensures { IfOk result (λ journal. EndsLine bytes.now journal.whole) }
+    ensures whole { IfOk result (λ journal. EndsLine bytes.now journal.whole) }
+    ensures read { (ss : List Said) (torn : List ℕ) → AreNext (reading_so_far reading.entry) ss → IsLine torn
+        → drop start bytes.now ≡ lines_text (map said_text ss) ++ torn
+        → MatchResult result (IsReadAs (all_said (reading_so_far reading.entry) ss) torn bytes.now)
+        (λ f. f ≡ JournalFault.OutOfMemory) }
 {
     let mut whole = start;
     let mut lines: usize = 1;
-    let mut dropped = false;
     while whole < bytes.len() {
         lines = lines.saturating_add(1);
         let Some(length) = memchr(b'\n', &bytes[whole..]) else {
-            dropped = true;
-            break;
+            return Ok(read_so_far(reading, whole, lines, true));
         };
         let end = whole + length;
         match reading.take(&bytes[whole..end], lines)? {
@@ -128,12 +144,26 @@ fn read_rest<'a>(
                 if end + 1 < bytes.len() {
                     return Err(JournalFault::BadLine(lines));
                 }
-                dropped = true;
-                break;
+                return Ok(read_so_far(reading, whole, lines, true));
             }
         }
     }
-    Ok(ReadJournal {
+    Ok(read_so_far(reading, whole, lines, false))
+}
+
+/// The journal of the lines so far, which have so many bytes; whether a last line is dropped.
+fn read_so_far<'a>(
+    reading: Reading<'a>,
+    whole: usize,
+    lines: usize,
+    dropped: bool,
+) -> ReadJournal<'a>
+    ensures whole { result.whole ≡ whole }
+    ensures read { reading_so_far reading.entry
+        ≡ so_far result.commits.items result.places.items result.version }
+    ensures dropped { result.dropped ≡ dropped }
+{
+    ReadJournal {
         commits: reading.commits,
         places: reading.places,
         keys: reading.keys,
@@ -141,5 +171,5 @@ fn read_rest<'a>(
         whole,
         lines,
         dropped,
-    })
+    }
 }
