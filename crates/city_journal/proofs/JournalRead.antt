@@ -1,6 +1,6 @@
 -- A journal's lines, taken one after another.
-use Rattle.std.proofs.Common.{◌≡◌, ◌≢◌, ◌<◌, ◌≤◌, ◌∙◌, ◌+◌, ◌-◌, ◌⊎◌, inl, inr, ℕ, zero, suc, List, [], ◌∷◌, ◌++◌, Bool, true, false, Option, None, Some}
-use Rattle.std.proofs.Common.{refl, sym, ap, arith, append_assoc, append-nil, length, take, drop, get_or, map, eqb, eq-eqb, eqb-true, ◌==◌, nat_lt}
+use Rattle.std.proofs.Common.{◌≡◌, ◌≢◌, ◌<◌, ◌≤◌, ◌∙◌, ◌+◌, ◌⊎◌, inl, inr, ℕ, zero, suc, List, [], ◌∷◌, ◌++◌, Bool, true, false, None, Some}
+use Rattle.std.proofs.Common.{refl, sym, ap, arith, append_assoc, append-nil, length, take, drop, get_or, map, eq-eqb, eqb-true, ◌==◌, nat_lt}
 use Rattle.std.specs.Bool.{beq}
 use Rattle.std.proofs.Common.{not, Err, IsErrAnd, MatchResult, Ok, Result}
 use Rattle.std.proofs.lemmas.Bool.{cases_lt, or_parts}
@@ -11,8 +11,9 @@ use Rattle.std.specs.List.{list_any}
 use Rattle.memchr.specs.Find.{IsFirstByte, is_byte}
 use Rattle.city_journal.specs.Lines.{EndsLine, IsLine, lines_text}
 use Rattle.city_journal.proofs.Lines.{drop_twice}
-use Rattle.city_journal.specs.Reads.{AreNext, IsNext, SoFar, all_said, begun, so_far, with_said}
+use Rattle.city_journal.specs.Reads.{AreKeys, AreNext, IsNext, SoFar, all_said, begun, so_far, with_said}
 use Rattle.city_journal.specs.Said.{Said, said_text}
+use Rattle.city_journal.specs.Said.Said.{Committed, Keyed, Saved}
 use Rattle.city_journal.specs.declared.model_sum.ModelSum.{ModelSum}
 use Rattle.city_journal.specs.declared.read.Commit.{Commit}
 use Rattle.city_journal.specs.declared.reading.Place.{Place}
@@ -188,3 +189,19 @@ other_bool true true e same = absurd (cc)
 other_bool true false e same = absurd (cc)
 other_bool false true e same = absurd (cc)
 other_bool false false e same = absurd (cc)
+
+-- ---- lines, and others behind them
+
+pub all_append : (r : SoFar) (ss more : List Said) → all_said r (ss ++ more) ≡ all_said (all_said r ss) more
+all_append r [] more = refl
+all_append r (s ∷ ss) more = all_append (with_said r s) ss more
+
+pub next_append : (r : SoFar) (ss more : List Said) → AreNext r ss → AreNext (all_said r ss) more → AreNext r (ss ++ more)
+next_append r [] more next later = later
+next_append r (s ∷ ss) more next later = (next.0, next_append (with_said r s) ss more next.1 later)
+
+pub keys_leave : (r : SoFar) (ss : List Said) → AreKeys ss → all_said r ss ≡ r
+keys_leave r [] are = refl
+keys_leave r (Keyed key name v ∷ ss) are = keys_leave r ss are
+keys_leave r (Committed by key script t v ∷ ss) are = absurd are
+keys_leave r (Saved sum ∷ ss) are = absurd are

@@ -6,7 +6,9 @@ pub mod LineParts
 pub mod LineRead
 pub mod Lines
 pub mod NameRead
+pub mod PlaceFound
 pub mod Replays
+pub mod Restarts
 pub mod SaidRead
 pub mod SumFound
 pub mod Written

@@ -1,7 +1,7 @@
 -- Lines, taken apart from both ends.
-use Rattle.std.proofs.Common.{◌≡◌, ◌∙◌, ◌+◌, ◌-◌, ◌≤◌, ℕ, List, [], ◌∷◌, ◌++◌, Bool, Option, refl, sym, ap, arith}
-use Rattle.std.proofs.Common.{append_assoc, codes, decimal, length, take, drop, get_or, true, false, None, Some, IfSome, IsSomeAnd}
-use Rattle.std.proofs.Common.{◌==◌, ◌<◌, ◌^◌, option_copied, option_map}
+use Rattle.std.proofs.Common.{◌≡◌, ◌∙◌, ℕ, List, [], ◌∷◌, ◌++◌, Bool, Option, sym, ap}
+use Rattle.std.proofs.Common.{append_assoc, codes, decimal, length, take, drop, true, false, None, Some, IfSome, IsSomeAnd}
+use Rattle.std.proofs.Common.{◌==◌}
 use Rattle.std.proofs.lemmas.List.{take-append-drop}
 use Rattle.json.specs.Print.{quoted}
 use Rattle.city_journal.specs.LineTexts.{Begins, before_sum, behind_sum, bool_text, key_member, script_member, version_end}

@@ -2,7 +2,7 @@
 use Rattle.std.proofs.Common.{◌≡◌, ◌∙◌, ◌∷◌, [], ℕ, List, refl, sym, ap}
 use Rattle.std.proofs.Common.{Err, IfOk, IsSome, IsSomeAnd, None, Ok, Option, Result, Some}
 use Rattle.json.specs.Lex.{tokens}
-use Rattle.json.specs.Print.{print, quoted, ArePrintable}
+use Rattle.json.specs.Print.{quoted, ArePrintable}
 use Rattle.json.specs.Token.{string}
 use Rattle.json.proofs.Printed.Tokens.{tokens-print}
 use Rattle.city_journal.proofs.Written.{print_string}

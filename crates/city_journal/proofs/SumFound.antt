@@ -1,10 +1,10 @@
 -- The digits of a line's sum, between what is before them and what is behind.
-use Rattle.std.proofs.Common.{◌≡◌, ◌∙◌, ◌+◌, ◌*◌, ◌-◌, ℕ, List, [], ◌∷◌, ◌++◌, Bool, true, refl, sym, ap, arith, eqb, eq-eqb}
+use Rattle.std.proofs.Common.{◌≡◌, ◌∙◌, ◌+◌, ℕ, List, [], ◌∷◌, ◌++◌, Bool, true, refl, sym, ap, arith, eqb, eq-eqb}
 use Rattle.std.proofs.Common.{append_assoc, length, take, drop}
 use Rattle.std.proofs.lemmas.List.{drop_at, length-append, take_at}
 use Rattle.std.specs.Cmp.Lexicographic.{pointwise}
 use Rattle.std.specs.Int.{to_be_bytes, w64}
-use Rattle.city_journal.specs.Sums.{hex_text, line_sum, sum_text}
+use Rattle.city_journal.specs.Sums.{line_sum, sum_text}
 use Rattle.city_journal.proofs.Digits.{hex_length}
 
 pub sum_length : (front behind : List ℕ) → length (sum_text front behind) ≡ 16

@@ -6,8 +6,10 @@ pub mod Kept
 pub mod LineTexts
 pub mod Lines
 pub mod Names
+pub mod Places
 pub mod Reads
 pub mod Replays
+pub mod Restarts
 pub mod Said
 pub mod Steps
 pub mod Strings

@@ -1,5 +1,5 @@
 -- The texts of a journal's lines, without their newlines.
-use Rattle.std.specs.Prelude.{◌≡◌, ℕ, List, [], ◌∷◌, ◌++◌, Bool, true, false, Option, None, Some, codes, decimal}
+use Rattle.std.specs.Prelude.{◌≡◌, ℕ, List, [], ◌++◌, Bool, true, false, Option, None, Some, codes, decimal}
 use Rattle.json.specs.Print.{quoted}
 use Rattle.city_journal.specs.Sums.{hex_text, sum_text}
 

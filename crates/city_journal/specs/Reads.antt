@@ -8,6 +8,7 @@ use Rattle.city_journal.specs.declared.reading.Reading.{Reading}
 use Rattle.city_journal.specs.LineTexts.{base_text}
 use Rattle.city_journal.specs.Lines.{IsLine, lines_text}
 use Rattle.city_journal.specs.Names.{KeyFits}
+use Rattle.city_journal.specs.Places.{place_read}
 use Rattle.city_journal.specs.Said.{Fits, Said, said_text}
 use Rattle.city_journal.specs.Said.Said.{Committed, Keyed, Saved}
 use Rattle.city_journal.specs.Sums.{IsSum}
@@ -55,12 +56,22 @@ abbrev pub AreNext : SoFar → List Said → Type 0
 AreNext r [] = Unit {0}
 AreNext r (s ∷ ss) = IsNext r.version s × AreNext (with_said r s) ss
 
+-- the lines are those of keys
+abbrev pub AreKeys : List Said → Type 0
+AreKeys [] = Unit {0}
+AreKeys (Keyed key name version ∷ ss) = AreKeys ss
+AreKeys (Committed by key script time version ∷ ss) = ⊥
+AreKeys (Saved sum ∷ ss) = ⊥
+
 -- ---- what contracts see of it
+
+abbrev pub commit_read : Commit → List ℕ × ℕ
+commit_read c = (c.script.now, c.version)
 
 abbrev pub so_far : List Commit → List Place → ℕ → SoFar
 so_far commits places version = record {
-  commits = map (λ c. (c.script.now, c.version)) commits;
-  places = map (λ p. (p.sum.bytes, p.before)) places;
+  commits = map commit_read commits;
+  places = map place_read places;
   version = version;
 }
 

@@ -1,5 +1,5 @@
 -- What the lines of a journal behind the first say, and what is read of one.
-use Rattle.std.specs.Prelude.{◌≡◌, ◌^◌, ◌<◌, ℕ, List, Option, None, Some, option_copied, option_map}
+use Rattle.std.specs.Prelude.{◌≡◌, ◌^◌, ◌<◌, ℕ, List, Option, option_copied, option_map}
 use Rattle.json.specs.Print.{quoted}
 use Rattle.city_journal.specs.LineTexts.{commit_text, key_text, saved_text}
 use Rattle.city_journal.specs.Sums.{IsSum}

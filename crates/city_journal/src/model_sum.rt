@@ -1,5 +1,5 @@
 //! The sum of a model's text.
-ghost use Rattle.std.specs.Prelude.{◌≡◌, ◌≢◌, ◌<◌, ◌++◌, ◌∷◌, [], ℕ, List, IfNone, IfSome, IsSomeAnd, OnOk};
+ghost use Rattle.std.specs.Prelude.{◌≡◌, ◌≢◌, ◌<◌, ◌++◌, ◌∷◌, [], ℕ, List, get_or, IfNone, IfOk, IfSome, IsSomeAnd, OnOk};
 ghost use Rattle.std.specs.Char.{digit_char};
 ghost use Rattle.sha2.specs.Sha256.{sha256};
 ghost use Rattle.city_journal.specs.Sums.{IsSum, hex_byte, hex_text};
@@ -7,6 +7,7 @@ ghost use Rattle.city_journal.specs.Sums.{IsSum, hex_byte, hex_text};
 use crate::line_sum::push_hex;
 use city_model::OutOfMemory;
 use sha2::{Digest, Sha256};
+use std::alloc::Global;
 use std::fmt::{self, Display, Formatter, Write};
 
 /// How many digits a sum has.
@@ -35,6 +36,16 @@ impl ModelSum {
         push_hex(out, &self.bytes)
     }
 
+    /// The sum's bytes.
+    pub(crate) fn to_vec(&self, alloc: Global) -> Result<Vec<u8>, OutOfMemory>
+        ensures bytes { IfOk result (λ v. v.items ≡ self.now.bytes) }
+        ensures sum { IfOk result (λ v. IsSum v.items) }
+    {
+        let bytes = Vec::from_array(alloc, self.bytes)?;
+        show_range(bytes.as_slice());
+        Ok(bytes)
+    }
+
     /// The sum of these digits, in lower case, if they are 64. Doesn't allocate.
     pub fn from_digits(digits: &[u8]) -> Option<ModelSum>
         ensures found { IfSome result (λ s. digits.now ≡ hex_text s.bytes) }
@@ -59,6 +70,13 @@ impl Display for ModelSum {
         }
         Ok(())
     }
+}
+
+/// Does nothing: contracts see here that bytes are below 256.
+fn show_range(bytes: &[u8])
+    ensures { (k : ℕ) → get_or bytes.now k 0 < 256 }
+{
+    let _bytes = bytes;
 }
 
 /// The byte of these two hexadecimal digits in lower case.

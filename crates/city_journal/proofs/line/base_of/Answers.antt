@@ -1,4 +1,4 @@
-use Rattle.std.proofs.Common.{◌++◌, codes}
+use Rattle.std.proofs.Common.{◌++◌}
 use Rattle.city_journal.specs.LineTexts.{bool_text, version_end}
 use Rattle.city_journal.specs.Sums.{hex_text}
 use Rattle.city_journal.proofs.LineRead.{behind_base}

@@ -1,4 +1,4 @@
-use Rattle.std.proofs.Common.{◌≡◌, ◌∙◌, codes}
+use Rattle.std.proofs.Common.{◌∙◌, codes}
 use Rattle.city_journal.specs.LineTexts.{before_sum, behind_sum}
 use Rattle.city_journal.specs.Sums.{sum_text}
 use Rattle.city_journal.proofs.LineRead.{also_some, also_some_and, begins_whole}

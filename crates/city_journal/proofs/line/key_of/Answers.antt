@@ -1,4 +1,4 @@
-use Rattle.std.proofs.Common.{◌++◌, [], codes}
+use Rattle.std.proofs.Common.{◌++◌, []}
 use Rattle.json.specs.Print.{quoted}
 use Rattle.city_journal.specs.LineTexts.{version_end}
 use Rattle.city_journal.proofs.LineRead.{behind_key, not_empty}

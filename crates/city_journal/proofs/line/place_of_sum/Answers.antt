@@ -1,4 +1,4 @@
-use Rattle.std.proofs.Common.{◌≡◌, ◌∙◌, ◌++◌, ◌∷◌, ◌+◌, ◌-◌, ap, arith, decimal, length}
+use Rattle.std.proofs.Common.{◌≡◌, ◌∙◌, ◌++◌, ◌∷◌, ◌+◌, ap, arith, decimal, length}
 use Rattle.std.proofs.lemmas.List.{length-append}
 use Rattle.city_journal.proofs.LineRead.{before_time, sum_split, time_last}
 use Rattle.city_journal.proofs.line.place_of_sum.Goals as goal

@@ -1,4 +1,4 @@
-use Rattle.std.proofs.Common.{◌++◌, ◌∷◌, codes, decimal}
+use Rattle.std.proofs.Common.{◌++◌, ◌∷◌, decimal}
 use Rattle.city_journal.proofs.LineRead.{before_colon, colon_last, version_joined, version_split}
 use Rattle.city_journal.proofs.line.version_at_end.Goals as goal
 
