@@ -55,12 +55,16 @@ impl<'a> ReadJournal<'a> {
     }
 
     /// Whether its last line was cut, and is dropped. Doesn't allocate.
-    pub fn is_cut(&self) -> bool {
+    pub fn is_cut(&self) -> bool
+        ensures { result ≡ self.now.dropped }
+    {
         self.dropped
     }
 
     /// The version behind its last commit. Doesn't allocate.
-    pub fn version(&self) -> u64 {
+    pub fn version(&self) -> u64
+        ensures { result ≡ self.now.version }
+    {
         self.version
     }
 
