@@ -10,5 +10,6 @@ pub mod PlaceFound
 pub mod Replays
 pub mod Restarts
 pub mod SaidRead
+pub mod Skipped
 pub mod SumFound
 pub mod Written

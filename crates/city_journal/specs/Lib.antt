@@ -11,6 +11,7 @@ pub mod Reads
 pub mod Replays
 pub mod Restarts
 pub mod Said
+pub mod Skipped
 pub mod Steps
 pub mod Strings
 pub mod Sums

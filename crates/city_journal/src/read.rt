@@ -11,6 +11,7 @@ ghost use Rattle.city_journal.specs.Places.{HasOther, IsLastPlace, place_read};
 ghost use Rattle.city_journal.specs.Reads.{AreNext, IsJournal, IsReadAs, all_said, begun, reading_so_far, so_far};
 ghost use Rattle.city_journal.specs.Restarts.{CountUp, IsOpening, Restarts, opening_of};
 ghost use Rattle.city_journal.specs.Said.{Said, said_text};
+ghost use Rattle.city_journal.specs.Skipped.{IsSkipped, TellsSkipped};
 ghost use Rattle.city_journal.specs.Sums.{IsSum};
 ghost use Rattle.city_journal.specs.declared.fault.JournalFault.{JournalFault};
 ghost use Rattle.city_journal.specs.declared.reading.Place.{Place};
@@ -149,6 +150,9 @@ pub fn read_journal(
         → IsJournal decimals sum version ss torn bytes.now
         → MatchResult result (IsReadAs (all_said (begun sum version) ss) torn bytes.now)
         (λ f. f ≡ JournalFault.OutOfMemory) }
+    ensures skipped { (sum : List ℕ) (version : ℕ) (rest : List ℕ) → IsSum sum → version < 2 ^ 64
+        → IsLine (base_text sum decimals version) → bytes.now ≡ base_text sum decimals version ++ 10 ∷ rest
+        → IsSkipped (begun sum version) rest → MatchResult result (λ _. ⊥) TellsSkipped }
     ensures other_numbers { (sum : List ℕ) (other : Bool) (version : ℕ) (rest : List ℕ) → IsSum sum
         → version < 2 ^ 64 → IsLine (base_text sum other version) → other ≢ decimals
         → bytes.now ≡ base_text sum other version ++ 10 ∷ rest
@@ -171,6 +175,9 @@ fn read_whole(alloc: Global, bytes: &[u8], decimals: bool) -> Result<ReadJournal
         → IsJournal decimals sum version ss torn bytes.now
         → MatchResult result (IsReadAs (all_said (begun sum version) ss) torn bytes.now)
         (λ f. f ≡ JournalFault.OutOfMemory) }
+    ensures skipped { (sum : List ℕ) (version : ℕ) (rest : List ℕ) → IsSum sum → version < 2 ^ 64
+        → IsLine (base_text sum decimals version) → bytes.now ≡ base_text sum decimals version ++ 10 ∷ rest
+        → IsSkipped (begun sum version) rest → MatchResult result (λ _. ⊥) TellsSkipped }
     ensures other_numbers { (sum : List ℕ) (other : Bool) (version : ℕ) (rest : List ℕ) → IsSum sum
         → version < 2 ^ 64 → IsLine (base_text sum other version) → other ≢ decimals
         → bytes.now ≡ base_text sum other version ++ 10 ∷ rest
@@ -201,6 +208,8 @@ fn read_rest<'a>(
         → drop start bytes.now ≡ lines_text (map said_text ss) ++ torn
         → MatchResult result (IsReadAs (all_said (reading_so_far reading.entry) ss) torn bytes.now)
         (λ f. f ≡ JournalFault.OutOfMemory) }
+    ensures skipped { IsSkipped (reading_so_far reading.entry) (drop start bytes.now)
+        → MatchResult result (λ _. ⊥) TellsSkipped }
 {
     let mut whole = start;
     let mut lines: usize = 1;

@@ -7,13 +7,14 @@ ghost use Rattle.city_journal.specs.LineTexts.{base_text};
 ghost use Rattle.city_journal.specs.Names.{HasName, KeyFits};
 ghost use Rattle.city_journal.specs.Reads.{IsNext, begun, reading_so_far, with_commit, with_said};
 ghost use Rattle.city_journal.specs.Said.{Said, said_text};
+ghost use Rattle.city_journal.specs.Skipped.{IsSkippedLine, TellsSkipped};
 ghost use Rattle.city_journal.specs.Sums.{IsSum};
 ghost use Rattle.city_journal.specs.declared.fault.JournalFault.{JournalFault};
 ghost use Rattle.city_journal.specs.declared.reading.Taken.{Taken};
 
 use crate::fault::JournalFault;
 use crate::keys::Keys;
-use crate::line::{Base, CommitLine, KeyLine, Line, base_of};
+use crate::line::{CommitLine, KeyLine, Line, base_of};
 use crate::line_parts::{name_of, text_of};
 use crate::model_sum::ModelSum;
 use crate::read::Commit;
@@ -79,12 +80,14 @@ impl<'a> Reading<'a> {
             → MatchResult result
             (λ t. (t ≡ Taken.Stands) × (reading_so_far self.new ≡ with_said (reading_so_far self.old) s))
             (λ f. f ≡ JournalFault.OutOfMemory) }
+        ensures skipped { IsSkippedLine self.old.version line.now → MatchResult result (λ _. ⊥) TellsSkipped }
     {
         match Line::of(self.alloc, line)? {
             Some(Line::Commit(commit)) => self.take_commit(commit, number),
             Some(Line::Saved(sum)) => self.take_place(sum),
             Some(Line::Key(key)) => self.take_key(key),
-            Some(Line::Base(Base { .. })) | None => Ok(Taken::Damaged),
+            Some(Line::Base(_base)) => Ok(Taken::Damaged),
+            None => Ok(Taken::Damaged),
         }
     }
 
