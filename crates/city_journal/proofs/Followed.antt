@@ -1,5 +1,5 @@
 -- Lines that follow the commits noted.
-use Rattle.std.proofs.Common.{◌≡◌, ◌∙◌, ◌⊎◌, inl, inr, ℕ, List, [], ◌∷◌, ◌++◌, Bool, true, Option, None, Some, is_some, refl, sym, ap, subst}
+use Rattle.std.proofs.Common.{◌≡◌, inl, inr, ℕ, List, [], ◌∷◌, ◌++◌, Bool, Option, None, Some, refl, sym, ap, subst}
 use Rattle.std.proofs.Common.{OnOk, Result, Ok, Err, append_assoc, append-nil}
 use Rattle.city_live.specs.Noting.{Noted}
 use Rattle.city_live.specs.Entering.{noted_by}
@@ -8,7 +8,7 @@ use Rattle.city_live.specs.declared.journal.Commands.TheVariants as commands
 use Rattle.city_live.specs.declared.journal.Entry.{Entry}
 use Rattle.city_live.specs.Entering.{commands_by}
 use Rattle.city_journal.specs.Entries.{IsCommitLine, script_by}
-use Rattle.city_journal.specs.Followed.{AddsCommits, AreLinesOf, HoldsCommits, IsLineOf, IsSavedLine}
+use Rattle.city_journal.specs.Followed.{AddsCommits, AreLinesOf, IsLineOf, IsSavedLine}
 use Rattle.city_journal.specs.Kept.{Gains, GoesBy, Holds}
 
 commands_same : (name : List ℕ) (cs : Commands) → (script_by name cs).1 ≡ commands_by cs
@@ -22,6 +22,8 @@ line_of_entry decimals e l is = record {
   script = is.script;
   time = is.time;
   is_script = rw (sym (commands_same e.name.now e.commands)) is.is_script;
+  named = is.named;
+  fits = is.fits;
   is_line = is.is_line;
 }
 

@@ -5,7 +5,7 @@ use Rattle.std.proofs.lemmas.Bool.{cases_lt}
 use Rattle.std.proofs.lemmas.List.{length-append, take_all, take-append-le, take_at, drop_at}
 use Rattle.std.specs.Io.KnownBytes.{Appends, Keeps}
 use Rattle.city_journal.specs.Files.{IsKept, LeavesAsBefore, LeavesFirst, LeavesMore, LeavesPart}
-use Rattle.city_journal.specs.Kept.{Gains, GoesBy, Holds, MayTell, Stays}
+use Rattle.city_journal.specs.Kept.{Gains, GoesBy, MayTell, Stays}
 use Rattle.city_journal.specs.Lines.{AreLines, IsLine, lines_text, whole_lines}
 use Rattle.city_journal.proofs.Lines.{are_more, line_first, lines_and, more_lines, part_of_line}
 
@@ -83,7 +83,7 @@ left_part lines line told c P are is fits old (inr (k, lt, eq)) =
 
 -- ---- a file that keeps its first bytes
 
-take_past : (xs ys : List ℕ) (j : ℕ) → take (length xs + j) (xs ++ ys) ≡ xs ++ take j ys
+pub take_past : {X : Type 0} (xs ys : List X) (j : ℕ) → take (length xs + j) (xs ++ ys) ≡ xs ++ take j ys
 take_past xs ys j = take-add (length xs) j (xs ++ ys)
     ∙ ap₂ (λ a b. a ++ take j b) (take_at xs ys (length xs) refl) (drop_at xs ys (length xs) refl)
 

@@ -1,6 +1,15 @@
+pub mod Digits
 pub mod Followed
+pub mod JournalRead
 pub mod Kept
 pub mod LineParts
+pub mod LineRead
 pub mod Lines
+pub mod NameRead
+pub mod PlaceFound
 pub mod Replays
+pub mod Restarts
+pub mod SaidRead
+pub mod Skipped
+pub mod SumFound
 pub mod Written

@@ -1,12 +1,12 @@
 -- Parts of a line, as they were written.
 use Rattle.std.proofs.Common.{◌≡◌, ◌≢◌, ◌≤◌, ◌<◌, ◌^◌, ◌∙◌, ◌+◌, ◌-◌, ◌/◌, ◌%◌, ◌⊎◌, inl, inr, ℕ, zero, suc, List, [], ◌∷◌, ◌++◌, Bool, true, false, cond, length, get_or}
-use Rattle.std.proofs.Common.{Option, None, Some, ap, sym, refl, subst, arith, append_assoc, length-append, take, drop, ltb, eqb, eq-eqb, eqb-true, decimal, nat_lt, ◌==◌, ◌||◌}
+use Rattle.std.proofs.Common.{Option, None, Some, ap, sym, refl, subst, arith, append_assoc, length-append, take, drop, eqb, eq-eqb, eqb-true, decimal, nat_lt}
 use Rattle.std.proofs.lemmas.Bool.{cases_lt}
 use Rattle.std.proofs.Common.{Bor, IfSome, IsSomeAnd, MatchOption}
 use Rattle.std.specs.Cmp.Lexicographic.{pointwise}
 use Rattle.std.proofs.lemmas.Bool.Decides.{Decides-eqb, nat_tests}
 use Rattle.std.proofs.lemmas.Slice.Eq.{strip_prefix_is, strip_suffix_is}
-use Rattle.std.proofs.lemmas.List.{get_or-append-add, append_cancel_left, append_cancel_right, take_at, drop_at, drop_all, drop_more, length-drop, take-append-drop, take_all}
+use Rattle.std.proofs.lemmas.List.{get_or-append-add, append_cancel_left, append_cancel_right, take_at, drop_at, drop_more, length-drop, take-append-drop, take_all}
 use Rattle.std.proofs.Math.Seq.{get_or-append_seam}
 use Rattle.std.specs.Str.Parse.{AllDigits, IsNumeral, digits_value, without_leading_plus}
 use Rattle.std.proofs.lemmas.Str.Parse.{IsNumeralModel, digit_at, numerals_by_value, tells_digits, without_leading_plus_none}

@@ -1,13 +1,13 @@
 -- Commits made again, one more at a time.
-use Rattle.std.proofs.Common.{◌≡◌, ◌+◌, ◌-◌, ◌<◌, ◌≤◌, ◌∙◌, ◌∷◌, ◌++◌, ℕ, List, [], refl, sym, ap, subst, length, drop, take, Bool}
-use Rattle.std.proofs.Common.{zero, suc, arith, take_all}
+use Rattle.std.proofs.Common.{◌≡◌, ◌+◌, ◌-◌, ◌<◌, ◌≤◌, ◌∙◌, ◌∷◌, ◌++◌, ℕ, List, [], sym, ap, subst, length, drop, take, Bool}
+use Rattle.std.proofs.Common.{arith, take_all}
 use Rattle.std.proofs.lemmas.List.{length-drop}
 use Rattle.std.proofs.Common.{append_assoc, get_or}
-use Rattle.std.proofs.Math.Seq.{drop-nil}
 use Rattle.std.proofs.lemmas.List.{drop_more, take-map, drop-map}
 use Rattle.std.specs.List.{AllByRecursion}
 use Rattle.city_model.specs.CityMap.{CityMap}
 use Rattle.city_journal.specs.declared.read.Commit.{Commit}
+use Rattle.city_journal.proofs.Lines.{drop_twice}
 use Rattle.city_journal.specs.Replays.{LeadsTo, Replays, others_text, scripts_of}
 
 pub item_first : {X : Type 0} (xs : List X) (i : ℕ) (x : X) → i < length xs → x ≡ get_or xs i x
@@ -35,12 +35,6 @@ one_array_more decimals n commits m between leads ns after rest = (
   rw (take-map (λ e. e.script.now) n commits) leads,
   rw (drop-map (λ e. e.script.now) n commits) rest,
 )
-
-pub drop_twice : {X : Type 0} (n i : ℕ) (xs : List X) → drop n (drop i xs) ≡ drop (i + n) xs
-drop_twice n zero xs = let e : n ≡ 0 + n = omega arith in ap (λ k. drop k xs) e
-drop_twice n (suc i) [] = drop-nil n ∙ sym (drop-nil (suc i + n))
-drop_twice n (suc i) (x ∷ xs) =
-    let e : suc (i + n) ≡ suc i + n = omega arith in drop_twice n i xs ∙ ap (λ k. drop k (x ∷ xs)) e
 
 pub one_slice_more : (decimals : Bool) (i n : ℕ) (commits : List Commit) (m between : CityMap)
     → LeadsTo decimals (scripts_of (take n (take (length commits - i) (drop i commits)))) m between

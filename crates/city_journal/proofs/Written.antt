@@ -1,5 +1,5 @@
 -- Texts as the writer of JSON has them.
-use Rattle.std.proofs.Common.{◌≡◌, ◌++◌, ◌∷◌, [], ℕ, List, append-nil}
+use Rattle.std.proofs.Common.{◌≡◌, ◌∷◌, [], ℕ, List, append-nil}
 use Rattle.json.specs.Print.{print, print_from, quoted}
 use Rattle.json.specs.Token.{string}
 

@@ -1,5 +1,5 @@
 -- The lines of commits.
-use Rattle.std.specs.Prelude.{◌≡◌, ◌≤◌, ℕ, List, [], ◌∷◌, ◌++◌, Bool, true, false, Option}
+use Rattle.std.specs.Prelude.{◌≡◌, ◌<◌, ◌^◌, ℕ, List, [], ◌∷◌, ◌++◌, Bool, true, false, Option}
 use Rattle.city_model.specs.Runs.{Scripted}
 use Rattle.city_writer.specs.script.Canonical.{scripts_text}
 use Rattle.city_decimals.specs.Texts.{IsDecoded}
@@ -7,6 +7,7 @@ use Rattle.city_live.specs.declared.journal.Commands.TheVariants as commands
 use Rattle.city_live.specs.declared.journal.Commands.{Commands}
 use Rattle.city_live.specs.declared.journal.Entry.{Entry}
 use Rattle.city_journal.specs.LineTexts.{commit_text}
+use Rattle.city_journal.specs.Names.{KeyFits}
 use Rattle.city_journal.specs.Steps.{commands_of_steps}
 
 -- the script of an entry's commands, with this name if they are no whole script
@@ -29,4 +30,6 @@ pub record IsCommitLine (decimals : Bool) (e : Entry) (line : List ℕ) : Type 0
   pub script : List ℕ
   pub time : ℕ
   pub is_script : IsScriptOf decimals (script_by e.name.now e.commands) script
+  pub named : KeyFits key script
+  pub fits : (time < 2 ^ 64) × (e.version < 2 ^ 64)
   pub is_line : line ≡ commit_text e.by.now key script time e.version

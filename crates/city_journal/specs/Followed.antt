@@ -1,9 +1,11 @@
 -- A journal whose lines are those of the commits that it has noted.
-use Rattle.std.specs.Prelude.{◌≡◌, ◌⊎◌, ℕ, List, [], ◌∷◌, ◌++◌, Bool, Option}
+use Rattle.std.specs.Prelude.{◌≡◌, ◌<◌, ◌^◌, ◌⊎◌, ℕ, List, [], ◌∷◌, ◌++◌, Bool, Option}
 use Rattle.city_live.specs.Noting.{Noted}
 use Rattle.city_journal.specs.Entries.{IsScriptOf}
 use Rattle.city_journal.specs.Kept.{Holds}
 use Rattle.city_journal.specs.LineTexts.{commit_text, saved_text}
+use Rattle.city_journal.specs.Names.{KeyFits}
+use Rattle.city_journal.specs.Sums.{IsSum}
 
 -- a line says that this commit is made: its hand, maybe a key, a script of its commands, some time, and its version
 pub record IsLineOf (decimals : Bool) (n : Noted) (line : List ℕ) : Type 0 where
@@ -12,11 +14,13 @@ pub record IsLineOf (decimals : Bool) (n : Noted) (line : List ℕ) : Type 0 whe
   pub script : List ℕ
   pub time : ℕ
   pub is_script : IsScriptOf decimals (name, n.commands) script
+  pub named : KeyFits key script
+  pub fits : (time < 2 ^ 64) × (n.version < 2 ^ 64)
   pub is_line : line ≡ commit_text n.by key script time n.version
 
 -- a line says that a model is about to be put into place
 abbrev pub IsSavedLine : List ℕ → Type 0
-IsSavedLine line = (sum : List ℕ) × (line ≡ saved_text sum)
+IsSavedLine line = (sum : List ℕ) × IsSum sum × (line ≡ saved_text sum)
 
 -- the lines are those of these commits, in their order, and between them such as say that a model is put into place
 abbrev pub AreLinesOf : Bool → List (List ℕ) → List Noted → Type 0

@@ -1,6 +1,6 @@
 -- What is told of lines, and what a crash may leave of them.
 use Rattle.std.specs.Prelude.{◌≡◌, ◌≤◌, ℕ, List, [], ◌∷◌, ◌++◌, Option, Some, None, length, take}
-use Rattle.city_journal.specs.Lines.{AreLines, IsLine, lines_text, whole_lines}
+use Rattle.city_journal.specs.Lines.{AreLines, lines_text, whole_lines}
 
 -- The file has these lines and nothing else. Whatever a crash leaves has the first of them, those that were told among
 -- them: none of these is lost, none comes in part or twice, and none that isn't there comes.

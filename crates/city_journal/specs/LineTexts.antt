@@ -1,7 +1,11 @@
 -- The texts of a journal's lines, without their newlines.
-use Rattle.std.specs.Prelude.{ℕ, List, [], ◌∷◌, ◌++◌, Bool, true, false, Option, None, Some, codes, decimal}
+use Rattle.std.specs.Prelude.{◌≡◌, ℕ, List, [], ◌++◌, Bool, true, false, Option, None, Some, codes, decimal}
 use Rattle.json.specs.Print.{quoted}
 use Rattle.city_journal.specs.Sums.{hex_text, sum_text}
+
+-- the text begins so
+abbrev pub Begins : List ℕ → List ℕ → Type 0
+Begins prefix text = (rest : List ℕ) × (text ≡ prefix ++ rest)
 
 abbrev pub bool_text : Bool → List ℕ
 bool_text true = codes "true"

@@ -1,6 +1,11 @@
 //! Parts at the begin or at the end of a line.
-ghost use Rattle.std.specs.Prelude.{◌≡◌, ◌≤◌, ◌<◌, ◌^◌, ◌++◌, ◌∷◌, [], ℕ, List, length, decimal, IfSome, IsSomeAnd};
+ghost use Rattle.std.specs.Prelude.{◌≡◌, ◌≤◌, ◌<◌, ◌^◌, ◌++◌, ◌∷◌, [], ℕ, List, length, decimal, IfOk, IfSome};
+ghost use Rattle.std.specs.Prelude.{IsSome, IsSomeAnd, Some, true};
+ghost use Rattle.std.specs.Str.{IsUtf8};
+ghost use Rattle.json.specs.Json.{read_key};
 ghost use Rattle.json.specs.Print.{quoted};
+ghost use Rattle.json.specs.Token.{Token as JsonToken};
+ghost use Rattle.city_journal.specs.Names.{BeginsWith, HasName, IsAtName};
 ghost use Rattle.city_journal.specs.Strings.{is_plain};
 
 use city_members::text::Text;
@@ -83,20 +88,22 @@ pub(crate) fn string_at_start(bytes: &[u8]) -> Option<(&[u8], &[u8])>
 }
 
 /// The text of a string's JSON text, if it is one.
-pub(crate) fn text_of(alloc: Global, quoted: &[u8]) -> Result<Option<Text>, OutOfMemory> {
-    let Ok(text) = from_utf8(quoted) else {
+pub(crate) fn text_of(alloc: Global, json: &[u8]) -> Result<Option<Text>, OutOfMemory>
+    ensures written { (s : List ℕ) → IsUtf8 s → json.now ≡ quoted s → IfOk result (λ o. IsSomeAnd o (λ t. t ≡ s)) }
+{
+    let Ok(text) = from_utf8(json) else {
         return Ok(None);
     };
     let mut scratch = Scratch::new(alloc);
     let mut reader = Reader::new(text, &mut scratch)?;
-    match reader.next() {
-        Some(Token::String(text)) => Ok(Some(Text::new(text.to_string(alloc)?))),
-        _ => Ok(None),
-    }
+    next_text(alloc, &mut reader)
 }
 
 /// The name of a script as it stands in a line, as JSON text; `None` if it has none behind its commands.
-pub(crate) fn name_of(alloc: Global, script: &[u8]) -> Result<Option<Text>, OutOfMemory> {
+pub(crate) fn name_of(alloc: Global, script: &[u8]) -> Result<Option<Text>, OutOfMemory>
+    ensures written { HasName script.now → IfOk result (λ o. IsSome o) }
+    ensures found { IfOk result (λ o. IsSome o → HasName script.now) }
+{
     let Ok(text) = from_utf8(script) else {
         return Ok(None);
     };
@@ -105,6 +112,15 @@ pub(crate) fn name_of(alloc: Global, script: &[u8]) -> Result<Option<Text>, OutO
     if !is_at_name(&mut reader) {
         return Ok(None);
     }
+    next_text(alloc, &mut reader)
+}
+
+/// The text of the string that comes next, if it is one.
+fn next_text(alloc: Global, reader: &mut Reader<'_>) -> Result<Option<Text>, OutOfMemory>
+    ensures written { (s : List ℕ) (rest : List JsonToken) → BeginsWith s rest reader.old
+        → IfOk result (λ o. IsSomeAnd o (λ t. t ≡ s)) }
+    ensures found { IfOk result (λ o. IfSome o (λ t. BeginsWith t reader.new reader.old)) }
+{
     match reader.next() {
         Some(Token::String(text)) => Ok(Some(Text::new(text.to_string(alloc)?))),
         _ => Ok(None),
@@ -115,15 +131,30 @@ pub(crate) fn name_of(alloc: Global, script: &[u8]) -> Result<Option<Text>, OutO
 const DEPTH: usize = 128;
 
 /// Passes a script's commands and the key of its name.
-fn is_at_name(reader: &mut Reader<'_>) -> bool {
+fn is_at_name(reader: &mut Reader<'_>) -> bool
+    ensures written { (t : List JsonToken) → IsAtName reader.old t → (result ≡ true) × (reader.new ≡ t) }
+    ensures found { result ≡ true → IsAtName reader.old reader.new }
+{
     let Some(Token::BeginObject) = reader.next() else {
         return false;
     };
-    let Ok(Some("commands")) = reader.next_key() else {
+    if !has_key(reader, b"commands") {
         return false;
-    };
+    }
     if reader.skip_value(DEPTH).is_err() {
         return false;
     }
-    matches!(reader.next_key(), Ok(Some("name")))
+    has_key(reader, b"name")
+}
+
+/// Passes a key of an object, and tells whether it is this one.
+fn has_key(reader: &mut Reader<'_>, key: &[u8]) -> bool
+    ensures written { (t : List JsonToken) → read_key reader.old ≡ Some (Some key.now, t)
+        → (result ≡ true) × (reader.new ≡ t) }
+    ensures found { result ≡ true → read_key reader.old ≡ Some (Some key.now, reader.new) }
+{
+    match reader.next_key() {
+        Ok(Some(found)) => found.as_bytes() == key,
+        _ => false,
+    }
 }

@@ -1,6 +1,20 @@
 //! A whole journal, read.
-ghost use Rattle.std.specs.Prelude.{◌≡◌, IfOk};
-ghost use Rattle.city_journal.specs.Lines.{EndsLine};
+ghost use Rattle.std.specs.Prelude.{◌≡◌, ◌≢◌, ◌^◌, ◌<◌, ◌+◌, ◌++◌, ◌∷◌, [], ◌⊎◌, ℕ, List, Bool, map, drop, length, take};
+ghost use Rattle.std.specs.Prelude.{IfErr, IfOk, MatchOption, MatchResult, OnErr};
+ghost use Rattle.city_journal.specs.LineTexts.{base_text};
+ghost use Rattle.city_journal.specs.Lines.{AreLines, EndsLine, IsLine, lines_text, whole_lines};
+ghost use Rattle.std.specs.Bool.{Decides};
+ghost use Rattle.std.specs.List.{AllByRecursion};
+ghost use Rattle.city_live.specs.Noting.{Noted};
+ghost use Rattle.city_journal.specs.Followed.{AreLinesOf};
+ghost use Rattle.city_journal.specs.Places.{HasOther, IsLastPlace, place_read};
+ghost use Rattle.city_journal.specs.Reads.{AreNext, IsJournal, IsReadAs, all_said, begun, reading_so_far, so_far};
+ghost use Rattle.city_journal.specs.Restarts.{CountUp, IsOpening, Restarts, opening_of};
+ghost use Rattle.city_journal.specs.Said.{Said, said_text};
+ghost use Rattle.city_journal.specs.Skipped.{IsSkipped, TellsSkipped};
+ghost use Rattle.city_journal.specs.Sums.{IsSum};
+ghost use Rattle.city_journal.specs.declared.fault.JournalFault.{JournalFault};
+ghost use Rattle.city_journal.specs.declared.reading.Place.{Place};
 
 use crate::fault::JournalFault;
 use crate::keys::Keys;
@@ -42,28 +56,37 @@ impl<'a> ReadJournal<'a> {
     }
 
     /// Whether its last line was cut, and is dropped. Doesn't allocate.
-    pub fn is_cut(&self) -> bool {
+    pub fn is_cut(&self) -> bool
+        ensures { result ≡ self.now.dropped }
+    {
         self.dropped
     }
 
     /// The version behind its last commit. Doesn't allocate.
-    pub fn version(&self) -> u64 {
+    pub fn version(&self) -> u64
+        ensures { result ≡ self.now.version }
+    {
         self.version
     }
 
     /// The commits behind the last place where the model has this sum. Doesn't allocate.
     ///
     /// `OtherModel` if there is none.
-    pub fn commits_behind(&self, model: &ModelSum) -> Result<&[Commit<'a>], JournalFault> {
-        for place in self.places.iter().rev() {
-            if place.sum == *model {
-                let before = place.before.min(self.commits.len());
-                return Ok(&self.commits.as_slice()[before..]);
+    pub fn commits_behind(&self, model: &ModelSum) -> Result<&[Commit<'a>], JournalFault>
+        ensures found { IfOk result (λ cs. (n : ℕ)
+            × IsLastPlace model.now.bytes (map place_read self.now.places.items) n
+            × (cs.now ≡ drop n self.now.commits.items)) }
+        ensures nowhere { OnErr result
+            (AllByRecursion (HasOther model.now.bytes) (map place_read self.now.places.items)) }
+        ensures told { IfErr result (λ f. (front : List Place) (p : Place) → self.now.places.items ≡ front ++ p ∷ []
+            → f ≡ JournalFault.OtherModel p.sum model.now) }
+    {
+        match last_place(self.places.as_slice(), model) {
+            Some(place) => {
+                let before = place.min(self.commits.len());
+                Ok(&self.commits.as_slice()[before..])
             }
-        }
-        match self.places.last() {
-            Some(place) => Err(JournalFault::OtherModel(place.sum, *model)),
-            None => Err(JournalFault::NoJournal),
+            None => Err(other_model(self.places.as_slice(), model)),
         }
     }
 
@@ -83,13 +106,83 @@ impl<'a> ReadJournal<'a> {
     }
 }
 
+/// How many commits stand before the last of these places where the model has this sum, if there is one. Doesn't
+/// allocate.
+fn last_place(places: &[Place], model: &ModelSum) -> Option<usize>
+    ensures { MatchOption result (AllByRecursion (HasOther model.now.bytes) (map place_read places.now))
+        (λ n. IsLastPlace model.now.bytes (map place_read places.now) n) }
+{
+    let mut found = None;
+    for place in places {
+        if is_same(&place.sum, model) {
+            found = Some(place.before);
+        }
+    }
+    found
+}
+
+/// Whether two sums are the same. Doesn't allocate.
+fn is_same(sum: &ModelSum, other: &ModelSum) -> bool
+    ensures { Decides result (sum.now.bytes ≡ other.now.bytes) }
+{
+    *sum == *other
+}
+
+/// What is told where no place has this sum: the last place's, and this one. Doesn't allocate.
+fn other_model(places: &[Place], model: &ModelSum) -> JournalFault
+    ensures { (front : List Place) (p : Place) → places.now ≡ front ++ p ∷ []
+        → result ≡ JournalFault.OtherModel p.sum model.now }
+{
+    match places {
+        [.., place] => JournalFault::OtherModel(place.sum, *model),
+        [] => JournalFault::NoJournal,
+    }
+}
+
 /// Reads a journal. A last line that was cut, or is damaged, is dropped: what stands ends behind a newline.
 pub fn read_journal(
     alloc: Global,
     bytes: &[u8],
     decimals: bool,
 ) -> Result<ReadJournal<'_>, JournalFault>
-    ensures { IfOk result (λ journal. EndsLine bytes.now journal.whole) }
+    ensures whole { IfOk result (λ journal. EndsLine bytes.now journal.whole) }
+    ensures read { (sum : List ℕ) (version : ℕ) (ss : List Said) (torn : List ℕ)
+        → IsJournal decimals sum version ss torn bytes.now
+        → MatchResult result (IsReadAs (all_said (begun sum version) ss) torn bytes.now)
+        (λ f. f ≡ JournalFault.OutOfMemory) }
+    ensures skipped { (sum : List ℕ) (version : ℕ) (rest : List ℕ) → IsSum sum → version < 2 ^ 64
+        → IsLine (base_text sum decimals version) → bytes.now ≡ base_text sum decimals version ++ 10 ∷ rest
+        → IsSkipped (begun sum version) rest → MatchResult result (λ _. ⊥) TellsSkipped }
+    ensures other_numbers { (sum : List ℕ) (other : Bool) (version : ℕ) (rest : List ℕ) → IsSum sum
+        → version < 2 ^ 64 → IsLine (base_text sum other version) → other ≢ decimals
+        → bytes.now ≡ base_text sum other version ++ 10 ∷ rest
+        → MatchResult result (λ _. ⊥)
+        (λ f. (f ≡ JournalFault.OtherNumbers other) ⊎ (f ≡ JournalFault.OutOfMemory)) }
+    ensures left { (sum : List ℕ) (version : ℕ) (keys : List Said) (lines : List (List ℕ)) (ns : List Noted) (k : ℕ)
+        → IsOpening sum version keys → AreLines (opening_of decimals sum version keys ++ lines)
+        → AreLinesOf decimals lines ns → CountUp version ns
+        → whole_lines bytes.now ≡ take (length (opening_of decimals sum version keys) + k)
+        (opening_of decimals sum version keys ++ lines)
+        → MatchResult result (Restarts decimals lines ns k) (λ f. f ≡ JournalFault.OutOfMemory) }
+{
+    read_whole(alloc, bytes, decimals)
+}
+
+/// The same of a journal by what its lines say.
+fn read_whole(alloc: Global, bytes: &[u8], decimals: bool) -> Result<ReadJournal<'_>, JournalFault>
+    ensures whole { IfOk result (λ journal. EndsLine bytes.now journal.whole) }
+    ensures read { (sum : List ℕ) (version : ℕ) (ss : List Said) (torn : List ℕ)
+        → IsJournal decimals sum version ss torn bytes.now
+        → MatchResult result (IsReadAs (all_said (begun sum version) ss) torn bytes.now)
+        (λ f. f ≡ JournalFault.OutOfMemory) }
+    ensures skipped { (sum : List ℕ) (version : ℕ) (rest : List ℕ) → IsSum sum → version < 2 ^ 64
+        → IsLine (base_text sum decimals version) → bytes.now ≡ base_text sum decimals version ++ 10 ∷ rest
+        → IsSkipped (begun sum version) rest → MatchResult result (λ _. ⊥) TellsSkipped }
+    ensures other_numbers { (sum : List ℕ) (other : Bool) (version : ℕ) (rest : List ℕ) → IsSum sum
+        → version < 2 ^ 64 → IsLine (base_text sum other version) → other ≢ decimals
+        → bytes.now ≡ base_text sum other version ++ 10 ∷ rest
+        → MatchResult result (λ _. ⊥)
+        (λ f. (f ≡ JournalFault.OtherNumbers other) ⊎ (f ≡ JournalFault.OutOfMemory)) }
 {
     let Some(end) = memchr(b'\n', bytes) else {
         return Err(JournalFault::NoJournal);
@@ -110,16 +203,20 @@ fn read_rest<'a>(
     start: usize,
 ) -> Result<ReadJournal<'a>, JournalFault>
     requires { EndsLine bytes.now start }
-    ensures { IfOk result (λ journal. EndsLine bytes.now journal.whole) }
+    ensures whole { IfOk result (λ journal. EndsLine bytes.now journal.whole) }
+    ensures read { (ss : List Said) (torn : List ℕ) → AreNext (reading_so_far reading.entry) ss → IsLine torn
+        → drop start bytes.now ≡ lines_text (map said_text ss) ++ torn
+        → MatchResult result (IsReadAs (all_said (reading_so_far reading.entry) ss) torn bytes.now)
+        (λ f. f ≡ JournalFault.OutOfMemory) }
+    ensures skipped { IsSkipped (reading_so_far reading.entry) (drop start bytes.now)
+        → MatchResult result (λ _. ⊥) TellsSkipped }
 {
     let mut whole = start;
     let mut lines: usize = 1;
-    let mut dropped = false;
     while whole < bytes.len() {
         lines = lines.saturating_add(1);
         let Some(length) = memchr(b'\n', &bytes[whole..]) else {
-            dropped = true;
-            break;
+            return Ok(read_so_far(reading, whole, lines, true));
         };
         let end = whole + length;
         match reading.take(&bytes[whole..end], lines)? {
@@ -128,12 +225,26 @@ fn read_rest<'a>(
                 if end + 1 < bytes.len() {
                     return Err(JournalFault::BadLine(lines));
                 }
-                dropped = true;
-                break;
+                return Ok(read_so_far(reading, whole, lines, true));
             }
         }
     }
-    Ok(ReadJournal {
+    Ok(read_so_far(reading, whole, lines, false))
+}
+
+/// The journal of the lines so far, which have so many bytes; whether a last line is dropped.
+fn read_so_far<'a>(
+    reading: Reading<'a>,
+    whole: usize,
+    lines: usize,
+    dropped: bool,
+) -> ReadJournal<'a>
+    ensures whole { result.whole ≡ whole }
+    ensures read { reading_so_far reading.entry
+        ≡ so_far result.commits.items result.places.items result.version }
+    ensures dropped { result.dropped ≡ dropped }
+{
+    ReadJournal {
         commits: reading.commits,
         places: reading.places,
         keys: reading.keys,
@@ -141,5 +252,5 @@ fn read_rest<'a>(
         whole,
         lines,
         dropped,
-    })
+    }
 }

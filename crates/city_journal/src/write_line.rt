@@ -1,12 +1,15 @@
 //! The lines of a journal, written.
-ghost use Rattle.std.specs.Prelude.{◌≡◌, ◌++◌, ◌∷◌, [], codes, option_copied, IfOk, OnOk};
+ghost use Rattle.std.specs.Prelude.{◌≡◌, ◌^◌, ◌<◌, ◌++◌, ◌∷◌, [], codes, option_copied, true, IfOk, OnOk};
 ghost use Rattle.json.specs.Print.{quoted};
 ghost use Rattle.city_journal.specs.Entries.{IsCommitLine};
 ghost use Rattle.city_journal.specs.LineTexts.{base_text, bool_text, commit_text, key_member, key_text, saved_text};
 ghost use Rattle.city_journal.specs.LineTexts.{version_end};
+ghost use Rattle.city_journal.specs.Names.{KeyFits};
+ghost use Rattle.city_journal.specs.Sums.{IsSum};
 
 use crate::keys::Keys;
-use crate::line_sum::push_sum;
+use crate::line_parts::name_of;
+use crate::line_sum::{push_hex, push_sum};
 use crate::model_sum::ModelSum;
 use crate::script_text::script_text;
 use city_live::{Entry, Unwritten};
@@ -105,11 +108,13 @@ fn key_line(
 
 /// The line that says that the model with this sum is about to be put into place, without its newline.
 pub(crate) fn saved_line(alloc: Global, sum: &ModelSum) -> Result<Vec<u8>, OutOfMemory>
-    ensures { IfOk result (λ line. line.items ≡ saved_text sum.now.bytes) }
+    ensures text { IfOk result (λ line. line.items ≡ saved_text sum.now.bytes) }
+    ensures sum { IfOk result (λ _. IsSum sum.now.bytes) }
 {
+    let bytes = sum.to_vec(alloc)?;
     let mut out = Vec::new(alloc);
     out.extend_from_slice(b"{\"saved\":\"")?;
-    sum.push_to(&mut out)?;
+    push_hex(&mut out, bytes.as_slice())?;
     out.extend_from_slice(b"\"}")?;
     Ok(out)
 }
@@ -126,8 +131,25 @@ pub(crate) fn commit_line(
     ensures { IfOk result (λ line. IsCommitLine decimals entry.now line.items) }
 {
     let script = script_text(alloc, seed, decimals, entry)?;
+    if !fits_key(alloc, key, script.as_slice())? {
+        return Err(Unwritten::CannotWrite);
+    }
     match line_around(alloc, entry, key, script.as_slice(), time) {
         Ok(line) => Ok(line),
+        Err(OutOfMemory) => Err(Unwritten::OutOfMemory),
+    }
+}
+
+/// Whether a script's name is found again, as its key wants it, if there is one.
+fn fits_key(alloc: Global, key: Option<&Text>, script: &[u8]) -> Result<bool, Unwritten>
+    ensures { IfOk result (λ r. r ≡ true → KeyFits (option_copied key.entry) script.now) }
+{
+    let Some(key) = key else {
+        return Ok(true);
+    };
+    let _text = key.as_str();
+    match name_of(alloc, script) {
+        Ok(name) => Ok(name.is_some()),
         Err(OutOfMemory) => Err(Unwritten::OutOfMemory),
     }
 }
@@ -140,8 +162,9 @@ fn line_around(
     script: &[u8],
     time: u64,
 ) -> Result<Vec<u8>, OutOfMemory>
-    ensures { IfOk result (λ line. line.items
+    ensures text { IfOk result (λ line. line.items
         ≡ commit_text entry.now.by.now (option_copied key.entry) script.now time entry.now.version) }
+    ensures fits { IfOk result (λ _. (time < 2 ^ 64) × (entry.now.version < 2 ^ 64)) }
 {
     let mut line = before_script(alloc, entry.by, key)?;
     line.extend_from_slice(b",\"script\":")?;

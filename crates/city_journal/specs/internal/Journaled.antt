@@ -1,5 +1,5 @@
 -- How the logic stores what contracts see of a journal.
-use Rattle.std.specs.Prelude.{◌≡◌, refl, Bool, ℕ, List, Option}
+use Rattle.std.specs.Prelude.{refl, Bool, ℕ, List, Option}
 use Rattle.std.specs.Coded.{Coded, code_by, coded×, coded_bool, coded_list, coded_option, coded_ℕ}
 use Rattle.city_model.specs.contracts.command.Command as command
 use Rattle.city_model.specs.declared.command.Command.{Command}

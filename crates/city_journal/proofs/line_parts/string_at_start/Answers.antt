@@ -1,4 +1,4 @@
-use Rattle.std.proofs.Common.{◌≡◌, ◌∙◌, ◌+◌, ◌<◌, sym, ap, length, drop, None, Some, arith}
+use Rattle.std.proofs.Common.{◌≡◌, ◌∙◌, ◌+◌, ◌<◌, sym, ap, length, drop, arith}
 use Rattle.std.proofs.lemmas.List.{drop_all}
 use Rattle.city_journal.specs.Strings.{behind_string}
 use Rattle.city_journal.proofs.LineParts.{behind_quoted, escaped_step, nothing_behind, plain_step, quote_ends}

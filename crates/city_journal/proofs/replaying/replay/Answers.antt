@@ -1,4 +1,4 @@
-use Rattle.std.proofs.Common.{◌∷◌, [], refl, ap, arith, rules, length, drop}
+use Rattle.std.proofs.Common.{◌∷◌, [], refl, ap, arith, rules}
 use Rattle.std.proofs.lemmas.List.{drop_all, length-drop}
 use Rattle.city_model.specs.CityMap.{object_at}
 use Rattle.city_journal.specs.Replays.{scripts_of}

@@ -1,4 +1,4 @@
-use Rattle.std.proofs.Common.{rules, ◌≡◌, ◌++◌}
+use Rattle.std.proofs.Common.{rules}
 use Rattle.city_journal.proofs.Kept.{grown_left}
 use Rattle.city_journal.proofs.memory_file.MemoryFileJournalFile.append.Goals as goal
 
