@@ -19,7 +19,8 @@ use Rattle.city_model.specs.Scripts.{is_end}
 use Rattle.city_model.specs.declared.end.Outcome.TheVariants as outcomes
 use Rattle.city_model.specs.Runs.{Scripted, after_change}
 use Rattle.city_txn.specs.CoreState.{committed, view}
-use Rattle.city_session.specs.Acting.{GrowsTo, IsActed, IsBegun, HasEnded, IsForgotten, stamps_after, stamp_for, told_after}
+use Rattle.city_session.specs.Acting.{GrowsTo, IsActed, IsBegun, HasEnded, IsForgotten, stamps_after, stamp_for}
+use Rattle.city_session.specs.Acting.{told_after}
 use Rattle.city_session.specs.declared.acted.Acted.TheVariants as acts
 use Rattle.city_session.specs.Grown.{Grown, Closed, with_reply}
 use Rattle.city_session.specs.Live.{SessionState, grown_at, IsLive}
@@ -40,11 +41,13 @@ use Rattle.city_live.specs.Coming.{Came, OfCame, IsBegunFor, IsAnswerFor}
 use Rattle.city_live.specs.Coming.{answered_by as left_by_answer}
 use Rattle.city_live.specs.Continuing.{Continues, GoesOn}
 use Rattle.city_live.specs.Ending.{EndsAs, IsTelling, IsTellingOf, AreTold, Leads, told_replies}
-use Rattle.city_live.specs.Heard.{talk_of, begun_talk, AreSoFar, IsSoFar, AreHeard, IsKept, ArePlain}
+use Rattle.city_live.specs.Heard.{begun_talk}
+use Rattle.city_live.specs.SoFar.{talk_of, AreSoFar, IsSoFar, AreHeard, IsKept, ArePlain}
 use Rattle.city_live.specs.Heard.{script_told, Talk, after_fault}
 use Rattle.city_live.specs.Heard.{answered_by, refused_at, is_committed, closed_of, IsEndOf, IsStep, model_of}
 use Rattle.city_live.specs.Heard.{script_in}
-use Rattle.city_live.specs.Heard.{since_so_far, told_so_far, IsFitWhat, after_what, closed_by_what, or_none, cause_of}
+use Rattle.city_live.specs.Heard.{since_so_far, IsFitWhat, after_what, closed_by_what, or_none, cause_of}
+use Rattle.city_live.specs.SoFar.{told_so_far}
 use Rattle.city_live.specs.Heard.{IsOutcome, IsSeenAt, IsSeenIn, what_said, stamp_of, IsFor, came_after, heard}
 use Rattle.city_live.specs.Running.{Begins, RunsTo}
 use Rattle.city_live.specs.Serving.{Logged, IsSaid, told_in, is_coming}
@@ -312,8 +315,8 @@ module _ {s u : SessionState} {works others : List (ℕ × Working)} {log logged
       → ((g : Grown) → grown_at s.growing stamp ≡ Some g → e.since ≡ g.since)
       → EndsAs w.task e.replies e.outcome is_kept → AreHeard u others logged.events
   heard_ended e what name since ends =
-      let parts = ended_as h.ended w.by w.name w.task w.tag w.kept is_kept e (far_there r stamp w there h.ended h.is_there)
-      name (since h.ended h.is_there) ends in
+      let parts = ended_as h.ended w.by w.name w.task w.tag w.kept is_kept e
+      (far_there r stamp w there h.ended h.is_there) name (since h.ended h.is_there) ends in
       over (told.Ended e) what parts.0 (ap (λ c. c ∷ []) parts.1) refl
 
 -- a script whose commit can't be noted is undone, and told so

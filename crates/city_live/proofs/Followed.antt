@@ -1,7 +1,6 @@
 -- More is said, step by step.
-use Rattle.std.specs.Prelude.{◌≡◌, ◌++◌, ◌∷◌, ℕ, List, [], Bool, false, Option, None, Some, refl, is_some, map, option_map}
-use Rattle.std.specs.Prelude.{All, Result, Ok, Err, OnErr}
-use Rattle.std.specs.Prelude.{get_or}
+use Rattle.std.specs.Prelude.{◌≡◌, ◌++◌, ◌∷◌, ℕ, List, [], Bool, false, Option, None, Some, refl, is_some, map}
+use Rattle.std.specs.Prelude.{All, Result, Ok, Err, OnErr, get_or, option_map}
 use Rattle.std.proofs.Common.{sym, ◌∙◌, ap, subst, arith}
 use Rattle.std.proofs.lemmas.List.{append-nil, append_assoc, map_push}
 use Rattle.std.proofs.lemmas.List.Elements.{All-append, All-push}
@@ -245,7 +244,8 @@ module _ {s : Served} {session after : SessionState} {log : Logged} {before late
         → logged.answers ≡ log.answers ++ told_in more → All (λ e. is_coming e ≡ false) more
         → Proceeds s (record { session = after; events = logged.events; answers = logged.answers; noted = later })
     noting logged more events answers alone =
-        subst (λ v. Proceeds v (record { session = after; events = logged.events; answers = logged.answers; noted = later })) is
+        subst (λ v. Proceeds v
+        (record { session = after; events = logged.events; answers = logged.answers; noted = later })) is
         (record { more = more; events = events; answers = answers; alone = alone; continues = proceeds; notes = notes })
 
     -- the same, and the request isn't taken or answered
@@ -325,3 +325,27 @@ module _ {A B : Type 0} where
 pub on_err : {T E P : Type 0} (r : Result T E) → P → OnErr r P
 on_err (Ok x) p = tt
 on_err (Err x) p = p
+
+-- ---- what the methods of hands name
+
+pub ruleset serving = (goes_behind, goes_before, still_asked)
+
+pub ruleset leaving = (goes, goes_then, asked_come, still_come, asks_end, asked_leaving)
+
+pub ruleset opening = (goes, same, begun_take)
+
+pub ruleset refusing = (goes_then, asked_come, still_come)
+
+pub ruleset asking = (goes_before, goes_then, asked_come, still_come)
+
+pub ruleset committing = (goes_before, end_come, end_take)
+
+pub ruleset aborting = (goes, goes_then, end_come, still_come)
+
+pub ruleset giving_up = (then, goes, goes_behind, still_end, still_leaving)
+
+pub ruleset ending = (goes_before, end_take, still_leaving)
+
+pub ruleset showing = (city_seen, model_for, asked_come)
+
+pub ruleset looking = (objects_seen, look_for, asked_come)

@@ -12,8 +12,8 @@ use Rattle.city_live.specs.declared.ghosts.event.Event.TheVariants as events
 use Rattle.city_live.specs.declared.request.Request.{Request}
 use Rattle.city_live.specs.Heard.{heard}
 use Rattle.city_live.specs.declared.ghosts.event.Event.{Event}
-use Rattle.city_live.specs.Serving.{Served, Arrives, HasAsked, Proceeds, IsHandled, told_in, is_coming, Sent, sent_by, sent_in}
-use Rattle.city_live.specs.Serving.{AreHandled}
+use Rattle.city_live.specs.Serving.{Served, Arrives, HasAsked, Proceeds, IsHandled, told_in, is_coming, Sent, sent_by}
+use Rattle.city_live.specs.Serving.{AreHandled, sent_in}
 use Rattle.city_live.proofs.Continued as continued
 use Rattle.city_live.proofs.Followed.{told_both}
 use Rattle.city_live.proofs.Replayed.{notes_then, stays_so}

@@ -20,8 +20,8 @@ use Rattle.std.specs.declared.alloc.Global.{Global}
 use Rattle.city_txn.specs.declared.txn_core.Prepared.{Prepared}
 use Rattle.city_txn.specs.declared.txn_core.Prepared.TheVariants.{Ready}
 use Rattle.city_txn.specs.Changing.{IsChangeOf, IsPrepared}
-use Rattle.city_txn.specs.CoreState.{committed, view, is_open, snapshot, held, StandsUnderLocks}
-use Rattle.city_session.specs.Grown.{Grown, commands_in, unrefused}
+use Rattle.city_txn.specs.CoreState.{committed, view, is_open, snapshot, held}
+use Rattle.city_session.specs.Grown.{Grown}
 use Rattle.city_session.specs.Live.{SessionState, IsLive, grown_at}
 use Rattle.city_session.proofs.AsScripts.{leads_to}
 use Rattle.city_live.specs.declared.ghosts.event.Event.{Event}
@@ -29,7 +29,8 @@ use Rattle.city_live.specs.declared.answer.Changed.{Changed}
 use Rattle.city_live.specs.declared.task.Task.{Task}
 use Rattle.city_live.specs.declared.task.Task.TheVariants as task
 use Rattle.city_live.specs.Ending.{IsAllowed, IsCounted}
-use Rattle.city_live.specs.Heard.{AreHeard, IsSoFar, IsKept, AreSoFar, ArePlain, answered_by, script_told}
+use Rattle.city_live.specs.Heard.{answered_by}
+use Rattle.city_live.specs.SoFar.{AreHeard, IsSoFar, IsKept, AreSoFar, ArePlain}
 use Rattle.city_live.specs.Noting.{Noted, firsts}
 use Rattle.city_live.specs.Replaying.{replayed, Notes, NotesCommands, NotesWork, NotesCommit}
 use Rattle.city_live.specs.Works.{Working, work_at, IsAtCommit, MayCommit, commands_as, commands_noted}
@@ -115,7 +116,8 @@ module _ {s : SessionState} {works : List (ℕ × Working)} {es : List Event} (r
       let far : AreSoFar (Some w) (Some g) =
       subst (λ o. AreSoFar (Some w) o) is (subst (λ o. AreSoFar o (grown_at s.growing stamp)) there (r.so_far stamp)) in
       ap (λ (x : Snapshot). x.map) (sym (noted_leads (held s.core stamp) (unmarked (committed s.core))
-      (snapshot s.core stamp) w.task w.kept g cs (subst MayCommit there may) far.0 far.1 (l.standing stamp g is).stands e))
+      (snapshot s.core stamp) w.task w.kept g cs (subst MayCommit there may) far.0 far.1
+      (l.standing stamp g is).stands e))
 
   -- its commit is noted, and then made
   commit_noted : (u : SessionState) (before after : Option (List Noted))

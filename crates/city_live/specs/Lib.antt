@@ -8,4 +8,5 @@ pub mod Replaying
 pub mod Room
 pub mod Running
 pub mod Serving
+pub mod SoFar
 pub mod Works

@@ -113,8 +113,8 @@ pub record IsServed (s : Served) : Type 0 where
       → grown_at s.session.growing t ≡ Some (record { since = k.since; told = k.told })
 
 -- What came of a request of this hand, and of no other: these answers are given out, what was said and told meanwhile
--- and not given out before, and the session goes on. What the journal has noted meanwhile, run on the city before, gives
--- the city now.
+-- and not given out before, and the session goes on. What the journal has noted meanwhile, run on the city before,
+-- gives the city now.
 pub record IsHandled (by : List ℕ) (tag : Option (List ℕ)) (request : Request) (answers : List Answer) (s u : Served)
     : Type 0 where
   pub more : List Event

@@ -6,7 +6,7 @@ ghost use Rattle.city_model.specs.Relations.{IsLawful};
 ghost use Rattle.city_txn.specs.CoreState.{committed};
 ghost use Rattle.city_live.specs.declared.request.Request.TheVariants as requests;
 ghost use Rattle.city_live.specs.Coming.{end_asked};
-ghost use Rattle.city_live.specs.Serving.{Follows, Proceeds, IsHandled, IsServed};
+ghost use Rattle.city_live.specs.Serving.{Proceeds, IsHandled, IsServed};
 ghost use Rattle.city_live.specs.Serving.{HasCome, HasAsked, IsLeaving, AreHandled};
 
 use crate::answer::{Answer, Fault, Name};
@@ -146,9 +146,9 @@ impl<J: Journal> Hands<J> {
         Ok(self.talks.take_answers())
     }
 
-    /// Handles requests, one after another, and gives all answers out in their order. What has ended by then is a serial
-    /// history, what each hand was told of it is what it would have been told there, and each change that was told leads
-    /// from the model before it to the model after it.
+    /// Handles requests, one after another, and gives all answers out in their order. What has ended by then is a
+    /// serial history, what each hand was told of it is what it would have been told there, and each change that was
+    /// told leads from the model so far to one that a further commit would leave.
     ///
     /// If memory runs out, the first of them are done, and their answers are lost.
     pub fn handle_each(
@@ -179,7 +179,7 @@ impl<J: Journal> Hands<J> {
     }
 
     /// Does a request of a hand, and goes on with all works it was in the way of.
-    #[tactic(auto, using(crate::proofs::Followed::goes_behind, crate::proofs::Followed::goes_before, crate::proofs::Followed::still_asked))]
+    #[tactic(auto, using(crate::proofs::Followed::serving))]
     fn serve(&mut self, sender: &Sender, tag: Tag, request: Request)
         requires { HasAsked (arc_value sender.now.name) tag request self.old }
         ensures { Proceeds self.old self.new }
@@ -290,7 +290,7 @@ impl<J: Journal> Hands<J> {
     }
 
     /// Aborts a work of the hand, and forgets the hand.
-    #[tactic(auto, using(crate::proofs::Followed::goes, crate::proofs::Followed::goes_then, crate::proofs::Followed::asked_come, crate::proofs::Followed::still_come, crate::proofs::Followed::asks_end, crate::proofs::Followed::asked_leaving))]
+    #[tactic(auto, using(crate::proofs::Followed::leaving))]
     fn bye_open(&mut self, sender: &Sender, tag: Tag, stamp: u64)
         requires { HasAsked (arc_value sender.now.name) tag requests.Bye self.old }
         ensures { Proceeds self.old self.new }

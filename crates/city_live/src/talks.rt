@@ -14,7 +14,7 @@ ghost use Rattle.city_live.specs.Coming.{request_for, IsNamed};
 ghost use Rattle.city_live.specs.declared.request.Request.TheVariants as requests;
 ghost use Rattle.city_live.specs.Serving.{Follows, Proceeds, IsServed, Arrives, HasAsked, HasBegun, MayTake, IsLeaving};
 
-use crate::answer::{Answer, Fault, Name, What};
+use crate::answer::{Answer, Name};
 use crate::in_the_way::InTheWay;
 use crate::journal::Journal;
 use crate::log::Log;
@@ -22,7 +22,6 @@ use crate::request::{Request, Tag};
 use crate::table::Table;
 use crate::task::Task;
 use crate::work::{Place, Work};
-use city_members::copied::Copied;
 use city_members::text::Text;
 use city_model::OutOfMemory;
 use city_model::city::City;
@@ -30,7 +29,6 @@ use city_model::script::{Script, is_end};
 use city_session::Session;
 use std::alloc::Global;
 use std::marker::Model;
-use std::sync::Arc;
 
 mod ends;
 mod goes;
@@ -42,8 +40,8 @@ pub use ends::{Ending, Preparing};
 /// The works of hands on a session, and what is said of each.
 ///
 /// Whatever its methods are called for, in any order: what is said of a work is what the session told it, and what the
-/// journal notes leads to the same city. Contracts see the session, the events so far, the answers that aren't given out
-/// yet, and what the journal has noted.
+/// journal notes leads to the same city. Contracts see the session, the events so far, the answers that aren't given
+/// out yet, and what the journal has noted.
 #[derive(Drop)]
 pub struct Talks<J: Journal> {
     alloc: Global,
@@ -71,7 +69,7 @@ impl<J: Journal> Model for Talks<J> {
       noted = J.noted h.journal;
     } };
 
-    ghost use Rattle.city_live.specs.Heard.{AreHeard};
+    ghost use Rattle.city_live.specs.SoFar.{AreHeard};
 
     ghost invariant = { λ h. AreHeard h.session h.table h.log.events };
 }

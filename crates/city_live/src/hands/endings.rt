@@ -26,7 +26,7 @@ enum Committing {
 
 impl<J: Journal> Hands<J> {
     /// Commits the hand's transaction.
-    #[tactic(auto, using(crate::proofs::Followed::goes_before, crate::proofs::Followed::end_come, crate::proofs::Followed::end_take))]
+    #[tactic(auto, using(crate::proofs::Followed::committing))]
     pub(super) fn commit_by(&mut self, sender: &Sender, tag: Tag)
         requires { AsksEnd true (arc_value sender.now.name) tag self.old }
         ensures { Proceeds self.old self.new }
@@ -122,7 +122,7 @@ impl<J: Journal> Hands<J> {
     }
 
     /// Aborts the hand's work.
-    #[tactic(auto, using(crate::proofs::Followed::goes, crate::proofs::Followed::goes_then, crate::proofs::Followed::end_come, crate::proofs::Followed::still_come))]
+    #[tactic(auto, using(crate::proofs::Followed::aborting))]
     pub(super) fn abort_by(&mut self, sender: &Sender, tag: Tag)
         requires { AsksEnd false (arc_value sender.now.name) tag self.old }
         ensures { Proceeds self.old self.new }
@@ -136,7 +136,7 @@ impl<J: Journal> Hands<J> {
     }
 
     /// Aborts a work, and answers its waiting request. If memory runs out, the tag comes back, and nothing changes.
-    #[tactic(auto, using(crate::proofs::Followed::then, crate::proofs::Followed::goes_behind, crate::proofs::Followed::still_end, crate::proofs::Followed::still_leaving, crate::proofs::Followed::goes))]
+    #[tactic(auto, using(crate::proofs::Followed::giving_up))]
     pub(super) fn give_up(&mut self, sender: &Sender, tag: Tag, stamp: u64) -> Result<(), Tag>
         requires { AsksEnd false (arc_value sender.now.name) tag self.old }
         ensures goes { Proceeds self.old self.new }
@@ -166,7 +166,7 @@ impl<J: Journal> Hands<J> {
     }
 
     /// Aborts a work, as its hand asks.
-    #[tactic(auto, using(crate::proofs::Followed::goes_before, crate::proofs::Followed::end_take, crate::proofs::Followed::still_leaving))]
+    #[tactic(auto, using(crate::proofs::Followed::ending))]
     fn end_for(&mut self, sender: &Sender, tag: Tag, stamp: u64)
         requires { AsksEnd false (arc_value sender.now.name) tag self.old }
         ensures goes { Proceeds self.old self.new }

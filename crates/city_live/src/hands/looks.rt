@@ -83,7 +83,7 @@ impl<J: Journal> Hands<J> {
     }
 
     /// Tells the committed city.
-    #[tactic(auto, using(crate::proofs::Followed::city_seen, crate::proofs::Followed::model_for, crate::proofs::Followed::asked_come))]
+    #[tactic(auto, using(crate::proofs::Followed::showing))]
     pub(super) fn show_model(&mut self, sender: &Sender, tag: Tag)
         requires { HasAsked (arc_value sender.now.name) tag requests.Model self.old }
         ensures { Proceeds self.old self.new }
@@ -98,7 +98,7 @@ impl<J: Journal> Hands<J> {
     }
 
     /// Tells the committed objects of ids.
-    #[tactic(auto, using(crate::proofs::Followed::objects_seen, crate::proofs::Followed::look_for, crate::proofs::Followed::asked_come))]
+    #[tactic(auto, using(crate::proofs::Followed::looking))]
     pub(super) fn look(&mut self, sender: &Sender, tag: Tag, ids: Sequence<Id>)
         requires { HasAsked (arc_value sender.now.name) tag (requests.Look ids) self.old }
         ensures { Proceeds self.old self.new }

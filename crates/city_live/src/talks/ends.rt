@@ -142,8 +142,8 @@ impl<J: Journal> Talks<J> {
         Ok(shared)
     }
 
-    /// Notes a commit in the journal, if it wrote, and only then commits the work, and tells the watchers of its change,
-    /// and then its hand. Returns the hand's seat. If the commit can't be noted, nothing changes.
+    /// Notes a commit in the journal, if it wrote, and only then commits the work, and tells the watchers of its
+    /// change, and then its hand. Returns the hand's seat. If the commit can't be noted, nothing changes.
     pub fn commit(
         &mut self,
         stamp: u64,

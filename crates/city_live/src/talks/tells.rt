@@ -1,5 +1,4 @@
 //! What is said besides ends.
-ghost use Rattle.std.specs.Prelude.{◌≡◌};
 ghost use Rattle.std.specs.Arc.{arc_value};
 ghost use Rattle.city_live.specs.Coming.{IsAnswerFor};
 ghost use Rattle.city_live.specs.Heard.{IsSeenAt};

@@ -33,8 +33,8 @@ invariant_of-self-2 g c =
     c.new-work.result (subst (λ (w : Working). IsFresh w.task) (sym c.new-work.ensures) c.requires.fresh)
     c.is_kept.result (ap (λ (w : Working). w.kept) c.new-work.ensures)
     (ok_of c.add.result c.add.ensures.added (sym c.is_err.ensures.value ∙ c.if-is_err.false))
-    (begun_for c.new-work.result _ c.args.name c.args.task c.args.tag.now _ c.new-work.ensures c.requires.fresh c.requires.named
-    _ (ap came_in c.self.view_is ∙ c.requires.asked.came))
+    (begun_for c.new-work.result _ c.args.name c.args.task c.args.tag.now _ c.new-work.ensures c.requires.fresh
+    c.requires.named _ (ap came_in c.self.view_is ∙ c.requires.asked.came))
     (one_more (events.Begins c.in_ok-stamp.stamp c.new-work.result) c.events.ensures c.begins-noted.ensures
     c.note.ensures.events)
 

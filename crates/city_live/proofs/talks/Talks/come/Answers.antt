@@ -1,6 +1,6 @@
 use Rattle.std.proofs.Common.{refl, subst, sym}
 use Rattle.city_live.specs.declared.ghosts.event.Event.TheVariants as events
-use Rattle.city_live.specs.Heard.{AreHeard}
+use Rattle.city_live.specs.SoFar.{AreHeard}
 use Rattle.city_live.proofs.Followed.{one_more}
 use Rattle.city_live.proofs.Hearing.{heard_unlabelled}
 use Rattle.city_live.proofs.talks.Talks.come.Goals as goal

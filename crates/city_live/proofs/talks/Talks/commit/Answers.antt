@@ -3,7 +3,7 @@ use Rattle.std.specs.Prelude.{true}
 use Rattle.std.proofs.Common.{refl, ◌∙◌, sym, ap, subst}
 use Rattle.city_model.specs.declared.end.Outcome.TheVariants as outcomes
 use Rattle.city_live.specs.Ending.{EndsAs, IsCounted, Leads, told_replies}
-use Rattle.city_live.specs.Heard.{AreHeard}
+use Rattle.city_live.specs.SoFar.{AreHeard}
 use Rattle.city_live.specs.Serving.{Served}
 use Rattle.city_live.proofs.Continued.{same, ended}
 use Rattle.city_live.proofs.Followed.{then, noting_still, saying, silently}

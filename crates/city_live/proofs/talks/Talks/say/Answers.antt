@@ -6,7 +6,8 @@ use Rattle.city_live.proofs.Hearing.{heard_unlabelled}
 use Rattle.std.specs.Prelude.{List, ℕ}
 use Rattle.std.specs.Arc.{arc_value}
 use Rattle.city_live.specs.Coming.{IsAnswerFor}
-use Rattle.city_live.specs.Heard.{AreHeard, IsSeenAt, heard}
+use Rattle.city_live.specs.Heard.{IsSeenAt, heard}
+use Rattle.city_live.specs.SoFar.{AreHeard}
 use Rattle.city_live.specs.Serving.{Served, came_in}
 use Rattle.city_live.proofs.Replayed.{stays}
 use Rattle.city_live.proofs.talks.Talks.say.Goals as goal

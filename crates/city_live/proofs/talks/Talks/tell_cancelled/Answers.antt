@@ -1,7 +1,7 @@
 use Rattle.city_live.proofs.Followed as followed
 use Rattle.std.proofs.Common.{refl}
 use Rattle.city_live.proofs.Continued.{same}
-use Rattle.city_live.proofs.Followed.{saying, silently}
+use Rattle.city_live.proofs.Followed.{saying}
 use Rattle.city_live.proofs.Saying.{heard_cancelled}
 use Rattle.city_live.proofs.Replayed.{stays}
 use Rattle.city_live.proofs.talks.Talks.tell_cancelled.Goals as goal
