@@ -11,12 +11,11 @@ use Rattle.city_model.specs.declared.end.Outcome.{Outcome}
 use Rattle.city_model.specs.declared.end.Outcome.TheVariants as outcomes
 use Rattle.city_model.specs.CityMap.{CityMap, CityValue, object_at}
 use Rattle.city_model.specs.Meaning.{is_refusal}
-use Rattle.city_model.specs.Runs.{Scripted, after_change, model_after}
+use Rattle.city_model.specs.Runs.{Scripted, model_after}
 use Rattle.city_model.specs.Scripts.{is_end}
 use Rattle.city_model.specs.Standing.{Answered}
 use Rattle.city_session.specs.Grown.{Grown, Closed, unrefused, scripts_of, ends_of}
 use Rattle.city_live.specs.declared.answer.Answer.{Answer}
-use Rattle.city_live.specs.declared.answer.Changed.{Changed}
 use Rattle.city_live.specs.declared.answer.Ended.{Ended}
 use Rattle.city_live.specs.declared.answer.Fault.{Fault}
 use Rattle.city_live.specs.declared.answer.Fault.TheVariants as faults
@@ -256,20 +255,15 @@ IsFitAt (events.Asks t hand tag s) o = OfTalk (IsIdle (arc_value hand) s) o
 IsFitAt (events.Requests t hand tag) o = OfTalk (λ k. k.by ≡ arc_value hand) o
 IsFitAt (events.Says t a is_told) o = OfTalk (IsSaidTo a) o
 
--- ---- an answer of none: what is seen is the model after the ends so far
+-- ---- an answer of none: what is seen is the model after the ends so far; of changes see `Watched`
 
 abbrev pub model_of : CityValue → List Closed → CityMap
 model_of start closed = model_after (scripts_of closed) (object_at start.1) (ends_of closed)
 
--- the change leads from the model so far to the model after one more that is committed
-pub record IsStep (start : CityValue) (ended : List Closed) (changed : Changed) : Type 0 where
-  pub next : Grown
-  pub leads : after_change (model_of start ended) changed.change ≡ model_of start (ended ++ (next, true) ∷ [])
-
 abbrev pub IsSeenAt : CityValue → List Closed → What → Type 0
 IsSeenAt start ended (told.Look objects version) = All (λ o. o.1 ≡ model_of start ended o.0) objects
 IsSeenAt start ended (told.Model city version) = (city.0 ≡ start.0) × (object_at city.1 ≡ model_of start ended)
-IsSeenAt start ended (told.Changed c) = IsStep start ended (arc_value c)
+IsSeenAt start ended (told.Changed c) = Unit {0}
 IsSeenAt start ended (told.Watching version) = Unit {0}
 IsSeenAt start ended told.Unwatched = Unit {0}
 IsSeenAt start ended told.Bye = Unit {0}

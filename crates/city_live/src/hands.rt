@@ -25,7 +25,7 @@ use city_model::command::Command;
 use city_model::id_list::is_same_id;
 use city_model::script::Script;
 use std::alloc::Global;
-use std::collections::{BTreeMap, BTreeSet};
+use std::collections::BTreeSet;
 use std::marker::Model;
 use std::sync::Arc;
 
@@ -53,10 +53,7 @@ struct Sender {
 pub struct Hands<J: Journal> {
     alloc: Global,
     talks: Talks<J>,
-    /// The number of commits with writes.
-    version: u64,
     roster: Roster,
-    watchers: BTreeMap<Text, Name>,
     waiting: Waiting,
     /// The stamps due to be tried again.
     due: BTreeSet<u64>,
@@ -88,13 +85,14 @@ impl<J: Journal> Hands<J> {
         ensures events { result.events ≡ [] }
         ensures answers { result.answers ≡ [] }
         ensures noted { result.noted ≡ J.noted journal }
+        ensures first { result.first ≡ version }
+        ensures version { result.version ≡ version }
+        ensures watchers { result.watchers ≡ [] }
     {
         Hands {
             alloc,
-            talks: Talks::open(alloc, city, journal),
-            version,
+            talks: Talks::open(alloc, city, version, journal),
             roster: Roster::new(alloc),
-            watchers: BTreeMap::new(alloc),
             waiting: Waiting::new(alloc),
             due: BTreeSet::new(alloc),
             all_due: false,
@@ -102,7 +100,9 @@ impl<J: Journal> Hands<J> {
     }
 
     /// Whatever the hands have asked for, in any order: what has ended is a serial history, what each hand was told of
-    /// it is what it would have been told there, and what it was told of what is open is what that was told.
+    /// it is what it would have been told there, and what it was told of what is open is what that was told. Each
+    /// watcher was told of each change once, before the hand that made it was told of its commit, and all versions that
+    /// were told are right.
     pub fn are_served(&self)
         ensures { IsServed self.now }
     {
@@ -110,8 +110,10 @@ impl<J: Journal> Hands<J> {
     }
 
     /// The number of commits with writes. Doesn't allocate.
-    pub fn version(&self) -> u64 {
-        self.version
+    pub fn version(&self) -> u64
+        ensures { result ≡ self.now.version }
+    {
+        self.talks.version()
     }
 
     /// The journal. Doesn't allocate.
@@ -148,7 +150,7 @@ impl<J: Journal> Hands<J> {
 
     /// Handles requests, one after another, and gives all answers out in their order. What has ended by then is a
     /// serial history, what each hand was told of it is what it would have been told there, and each change that was
-    /// told leads from the model so far to one that a further commit would leave.
+    /// told leads from the model before its commit to the model after it.
     ///
     /// If memory runs out, the first of them are done, and their answers are lost.
     pub fn handle_each(
@@ -310,11 +312,11 @@ impl<J: Journal> Hands<J> {
         requires { IsLeaving (arc_value sender.now.name) tag self.old }
         ensures { Proceeds self.old self.new }
     {
-        self.stop_watching(sender);
         if let Some(seat) = sender.seat {
+            self.roster.put_watch(seat, false);
             let _before = self.roster.put_at(seat, At::Idle);
         }
-        self.say_bye(sender, tag);
+        self.talks.say_bye(&sender.name, tag);
     }
 }
 

@@ -1,13 +1,16 @@
 //! What is said.
 ghost use Rattle.std.specs.Prelude.{◌≡◌, []};
+ghost use Rattle.std.specs.Arc.{arc_value};
+ghost use Rattle.city_live.specs.Ending.{IsToldOne};
 ghost use Rattle.city_live.specs.Serving.{IsSaid};
 
-use crate::answer::Answer;
+use crate::answer::{Answer, Changed, Name, What};
 use crate::ghosts::events::Events;
 use city_model::OutOfMemory;
 use std::alloc::Global;
 use std::marker::Model;
 use std::mem::replace;
+use std::sync::Arc;
 
 /// The answers that aren't given out yet; contracts see all events, too.
 #[derive(Drop)]
@@ -74,6 +77,26 @@ impl Log {
         } else {
             self.events = self.events.says(stamp, &answer, false);
             drop(answer);
+        }
+    }
+
+    /// Tells a hand of a change, unless memory runs out. Where there is room, it doesn't allocate.
+    pub fn tell(&mut self, hand: &Name, changed: &Arc<Changed>)
+        ensures { IsToldOne (arc_value hand.now) (arc_value changed.now) self.old self.new }
+    {
+        match (Arc::try_clone(hand), Arc::try_clone(changed)) {
+            (Ok(hand), Ok(changed)) => {
+                let what = What::Changed(changed);
+                self.says(
+                    None,
+                    Answer {
+                        hand,
+                        tag: None,
+                        what,
+                    },
+                );
+            }
+            _ => self.events = self.events.misses(hand, changed),
         }
     }
 

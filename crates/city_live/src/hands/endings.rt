@@ -1,7 +1,7 @@
 //! How scripts and transactions end.
 ghost use Rattle.std.specs.Prelude.{◌≡◌, true, false, IfErr, OnErr};
 ghost use Rattle.std.specs.Arc.{arc_value};
-ghost use Rattle.city_live.specs.Ending.{IsAllowed, IsCounted};
+ghost use Rattle.city_live.specs.Ending.{IsAllowed, IsNumbered};
 ghost use Rattle.city_live.specs.Serving.{Follows, Proceeds, AsksEnd, IsLeaving};
 
 use super::{Hands, Sender};
@@ -83,36 +83,28 @@ impl<J: Journal> Hands<J> {
     fn commit(&mut self, stamp: u64) -> Committing
         ensures { Follows self.old self.new }
     {
-        let before = self.version;
-        match self.talks.prepare(stamp, before, self.watchers.len()) {
-            Preparing::Ready(changed, version) => {
-                self.commit_ready(stamp, changed, before, version)
-            }
+        match self.talks.prepare(stamp) {
+            Preparing::Ready(changed, version) => self.commit_ready(stamp, changed, version),
             Preparing::Refused(cause) => Committing::Refused(cause),
             Preparing::NoMemory => Committing::NoMemory,
         }
     }
 
-    /// Commits a work that is ready, with these versions before and after it.
+    /// Commits a work that is ready, with this version after it.
     #[tactic(auto, using(crate::proofs::Followed::then, crate::proofs::Followed::same))]
     fn commit_ready(
         &mut self,
         stamp: u64,
         changed: Option<Arc<Changed>>,
-        before: u64,
         version: u64,
     ) -> Committing
         requires allowed { IsAllowed stamp changed self.old.session }
-        requires counted { IsCounted stamp before version self.old.session }
+        requires numbered { IsNumbered stamp version changed self.old }
         ensures { Follows self.old self.new }
     {
         self.release(stamp);
-        match self
-            .talks
-            .commit(stamp, changed, before, version, &self.watchers)
-        {
+        match self.talks.commit(stamp, changed, version) {
             Ok(seat) => {
-                self.version = version;
                 self.leave(seat);
                 Committing::Done
             }
@@ -186,7 +178,7 @@ impl<J: Journal> Hands<J> {
             return;
         }
         self.release(stamp);
-        let seat = self.talks.end(stamp, ending, self.version);
+        let seat = self.talks.end(stamp, ending);
         self.leave(seat);
     }
 
