@@ -38,7 +38,7 @@ told_both [] fs = refl
 told_both (e ∷ es) fs =
     ap (λ l. told_by e ++ l) (told_both es fs) ∙ sym (append_assoc (told_by e) (told_in es) (told_in fs))
 
-none_alone : (P : Event → Type 0) → All P []
+pub none_alone : (P : Event → Type 0) → All P []
 none_alone P k d h = absurd (omega (arith, h))
 
 pub one_alone : (P : Event → Type 0) (e : Event) → P e → All P (e ∷ [])

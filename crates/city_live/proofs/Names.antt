@@ -1,6 +1,7 @@
 -- The names of those that watch, each shared under itself.
-use Rattle.std.specs.Prelude.{◌≡◌, ℕ, List, [], ◌∷◌, Bool, true, false, cond, refl}
-use Rattle.std.proofs.Common.{◌∙◌, ap}
+use Rattle.std.specs.Prelude.{◌≡◌, ◌++◌, ℕ, List, [], ◌∷◌, Bool, true, false, Some, cond, refl}
+use Rattle.std.proofs.Common.{◌∙◌, sym, ap, subst}
+use Rattle.std.proofs.lemmas.List.{append_assoc}
 use Rattle.std.specs.Arc.{arc_value}
 use Rattle.std.specs.declared.sync.Arc.{Arc}
 use Rattle.std.specs.declared.alloc.Global.{Global}
@@ -12,8 +13,12 @@ use Rattle.std.specs.FinMap.{nat_cmp-IsAntisymmetric, slice_cmp-IsAntisymmetric}
 use Rattle.std.specs.Map.{keys_of, remove_entry}
 use Rattle.std.specs.Ordering.{nat_cmp, match_ordering}
 use Rattle.std.specs.Set.{remove_key}
+use Rattle.city_live.specs.declared.answer.Changed.{Changed}
+use Rattle.city_live.specs.Ending.{AreTold, IsToldOne}
 use Rattle.city_live.specs.Naming.{AreNamed}
+use Rattle.city_live.specs.Serving.{Logged}
 use Rattle.city_live.specs.Watched.{with_name}
+use Rattle.city_live.proofs.Telling.{told_more}
 
 abbrev Named : Type 0
 Named = List ℕ × Arc (List ℕ) Global
@@ -71,3 +76,20 @@ pub named_removed : (test : List ℕ → Bool) (ws : List Named) → AreNamed ws
 named_removed test [] all = tt
 named_removed test (w ∷ ws) all =
     named_without (test w.0) w ws (remove_entry test ws) all (named_removed test ws all.1)
+
+-- ---- one after another is told
+
+abbrev pub IsToldSoFar : Arc Changed Global → Logged → Logged → List Named → List (List ℕ) → Type 0
+IsToldSoFar changed l m left all =
+    (done : List (List ℕ)) × AreTold done (Some changed) l m × (done ++ keys_of left ≡ all) × AreNamed left
+
+pub told_step : {changed : Arc Changed Global} {l m k : Logged} {left others : List Named} {all : List (List ℕ)}
+    {item : Named} → left ≡ item ∷ others → IsToldSoFar changed l m left all
+    → IsToldOne (arc_value item.1) (arc_value changed) m k → IsToldSoFar changed l k others all
+told_step {changed} {l} {m} {k} {left} {others} {all} {item} is t one =
+    let named : AreNamed (item ∷ others) = subst AreNamed is t.3 in (
+      t.0 ++ item.0 ∷ [],
+      told_more item.0 t.1 (subst (λ n. IsToldOne n (arc_value changed) m k) named.0 one),
+      append_assoc t.0 (item.0 ∷ []) (keys_of others) ∙ (ap (λ x. t.0 ++ keys_of x) (sym is) ∙ t.2),
+      named.1,
+    )

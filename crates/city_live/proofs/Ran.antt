@@ -13,6 +13,7 @@ use Rattle.city_session.specs.declared.acted.Acted.TheVariants as acts
 use Rattle.city_session.specs.Grown.{Grown, with_reply}
 use Rattle.city_session.specs.Live.{SessionState, grown_at}
 use Rattle.city_session.proofs.Recorded.{at_own, at_other}
+use Rattle.city_live.specs.Continuing.{GoesOn}
 use Rattle.city_live.specs.Heard.{answered_by, refused_at, script_told}
 use Rattle.city_live.specs.Running.{RunsTo}
 use Rattle.city_live.specs.SoFar.{ArePlain}

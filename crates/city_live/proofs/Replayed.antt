@@ -11,31 +11,20 @@ use Rattle.city_model.specs.declared.end.Outcome.{Outcome}
 use Rattle.city_model.specs.CityMap.{CityMap}
 use Rattle.city_model.specs.Marks.{Snapshot, unmarked}
 use Rattle.city_model.specs.Meaning.{Effect, effect, GoesOn, is_refusal}
-use Rattle.city_model.specs.Runs.{Scripted, Change, after_change, map_left, view_at_end, goes_to}
+use Rattle.city_model.specs.Runs.{Scripted, map_left, view_at_end, goes_to}
 use Rattle.city_model.specs.Standing.{Held, Answered, IsTraceUnderLocks}
 use Rattle.city_model.proofs.History.{Next}
-use Rattle.std.specs.Arc.{arc_value}
-use Rattle.std.specs.declared.sync.Arc.{Arc}
-use Rattle.std.specs.declared.alloc.Global.{Global}
-use Rattle.city_txn.specs.declared.txn_core.Prepared.{Prepared}
-use Rattle.city_txn.specs.declared.txn_core.Prepared.TheVariants.{Ready}
-use Rattle.city_txn.specs.Changing.{IsChangeOf, IsPrepared}
-use Rattle.city_txn.specs.CoreState.{committed, view, is_open, snapshot, held}
+use Rattle.city_txn.specs.CoreState.{committed, view, snapshot, held}
 use Rattle.city_session.specs.Grown.{Grown}
 use Rattle.city_session.specs.Live.{SessionState, IsLive, grown_at}
 use Rattle.city_session.proofs.AsScripts.{leads_to}
 use Rattle.city_live.specs.declared.ghosts.event.Event.{Event}
-use Rattle.city_live.specs.declared.answer.Changed.{Changed}
-use Rattle.city_live.specs.declared.talks.ends.Preparing.{Preparing}
-use Rattle.city_live.specs.declared.talks.ends.Preparing.TheVariants as preparing
 use Rattle.city_live.specs.declared.task.Task.{Task}
 use Rattle.city_live.specs.declared.task.Task.TheVariants as task
-use Rattle.city_live.specs.Ending.{IsAllowed, IsNumbered, IsMade, IsReady, IsUntoldReady}
-use Rattle.city_live.specs.Heard.{Talk, heard, answered_by}
-use Rattle.city_live.specs.SoFar.{AreHeard, talk_of, IsSoFar, IsKept, AreSoFar, ArePlain}
+use Rattle.city_live.specs.Heard.{answered_by}
+use Rattle.city_live.specs.SoFar.{AreHeard, IsSoFar, IsKept, AreSoFar, ArePlain}
 use Rattle.city_live.specs.Noting.{Noted, firsts}
 use Rattle.city_live.specs.Replaying.{replayed, Notes, NotesCommands, NotesWork, NotesCommit}
-use Rattle.city_live.specs.Serving.{Served}
 use Rattle.city_live.specs.Works.{Working, work_at, IsAtCommit, MayCommit, commands_as, commands_noted}
 use Rattle.city_live.proofs.Worked.{some_same, told_plainly}
 
@@ -167,52 +156,3 @@ unkept (Some w) before e = record {
   noted = sym (nothing_more before);
   one = λ h. absurd (false≢true (ap is_some (sym e) ∙ h));
 }
-
--- ---- a commit that is ready
-
-pub untold_ready : (x : Served) (stamp next : ℕ) (p : Preparing) → IsUntoldReady stamp next p x.session
-    → next ≡ x.version + 1 → x.watchers ≡ [] → IsReady stamp p x
-untold_ready x stamp next (preparing.Ready changed n) r counted nobody = (
-  subst (λ o. IsAllowed stamp o x.session) (sym r.0) r.2,
-  subst (λ o. IsNumbered stamp n o x) (sym r.0) (inr (r.1 ∙ counted, nobody)),
-)
-untold_ready x stamp next (preparing.Refused cause) r counted nobody = tt
-untold_ready x stamp next preparing.NoMemory r counted nobody = tt
-
--- the change that is shared has the hand and the name of the work
-pub made : {s : SessionState} {works : List (ℕ × Working)} {es : List Event} → AreHeard s works es → (stamp : ℕ)
-    (w : Working) → work_at works stamp ≡ Some w → (c : Changed) → arc_value c.by ≡ w.by → c.name ≡ w.name
-    → (x : Served) → x.events ≡ es → IsMade stamp c.change c.version c x
-made {s} r stamp w there c by name x same =
-    let is_talk : (k : Talk) → (heard x.events).talks stamp ≡ Some k → talk_of (grown_at s.growing stamp) w ≡ k =
-    λ k e. some_same _ k (sym (r.talks stamp ∙ ap (option_map (talk_of (grown_at s.growing stamp))) there)
-    ∙ (ap (λ l. (heard l).talks stamp) (sym same) ∙ e)) in
-    record {
-      change = refl;
-      version = refl;
-      by = λ k e. by ∙ ap (λ (y : Talk). y.by) (is_talk k e);
-      name = λ k e. name ∙ ap (λ (y : Talk). y.name) (is_talk k e);
-    }
-
-nothing_done : (m n : CityMap) (change : Change) → after_change m change ≡ n → change ≡ [] → n ≡ m
-nothing_done m n change makes none = sym makes ∙ ap (after_change m) none
-
-module _ (s : SessionState) (stamp : ℕ) (change : Change) (p : Prepared) (is : p ≡ Ready change)
-    (prepared : IsPrepared s.core stamp p) where
-  of_change : IsChangeOf s.core stamp change
-  of_change = subst (IsPrepared s.core stamp) is prepared
-
-  -- it wrote nothing
-  pub wrote_nothing : change ≡ [] → view s.core stamp ≡ committed s.core
-  wrote_nothing none = nothing_done (committed s.core) (view s.core stamp) change of_change.makes_view none
-
-  pub allowed_of : is_open s.core stamp ≡ true → IsAllowed stamp None s
-  allowed_of o = record { opened = o; lawful = of_change.lawful.1; leads = tt }
-
-  pub allowed_so : is_open s.core stamp ≡ true → (c : Arc Changed Global) → (arc_value c).change ≡ change
-      → IsAllowed stamp (Some c) s
-  allowed_so o c e = record {
-    opened = o;
-    lawful = of_change.lawful.1;
-    leads = ap (after_change (committed s.core)) e ∙ of_change.makes_view;
-  }

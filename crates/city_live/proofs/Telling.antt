@@ -21,7 +21,7 @@ use Rattle.city_live.specs.declared.ghosts.event.Event.{Event}
 use Rattle.city_live.specs.declared.ghosts.event.Event.TheVariants as events
 use Rattle.city_live.specs.Coming.{Came, IsAnswerFor}
 use Rattle.city_live.specs.Coming.{answered_by as left_by_answer}
-use Rattle.city_live.specs.Ending.{IsTelling, AreTellings, AreTellingsOf, AreTold, IsToldOne, EndsAs, Leads}
+use Rattle.city_live.specs.Ending.{IsChangeTo, IsTelling, AreTellings, AreTellingsOf, AreTold, IsToldOne, EndsAs, Leads}
 use Rattle.city_live.specs.Ending.{IsNumbered}
 use Rattle.city_live.specs.Heard.{Talk, heard, closed_of, model_of, IsSeenAt, IsSeenIn, what_said, stamp_of, IsFor}
 use Rattle.city_live.specs.Heard.{came_after}
@@ -30,7 +30,7 @@ use Rattle.city_live.specs.Serving.{Served, Logged, IsSaid, is_coming, told_by, 
 use Rattle.city_live.specs.SoFar.{AreHeard, talk_of}
 use Rattle.city_live.specs.Watched.{Watched, Telling, at_rest, IsUntold, IsToldToAll, IsCommitFit, AreWatched}
 use Rattle.city_live.specs.Works.{Working, work_at}
-use Rattle.city_live.proofs.Followed.{served, one_alone, none_alone, told_both}
+use Rattle.city_live.proofs.Followed.{served, one_alone, none_alone, one_more, told_both}
 use Rattle.city_live.proofs.Hearing.{heard_unlabelled, came_more}
 use Rattle.city_live.proofs.Finished.{talk_there, ended_closed, ended_so}
 use Rattle.city_live.proofs.Watching.{telling_then, watched_tellings, watched_from_there, watched_done}
@@ -178,17 +178,18 @@ counted_so stamp next (Some c) x n e = absurd (omega (arith, n.0, e))
 
 -- told of its commit behind them, its hand hears what is right
 pub watched_commit : {s u : SessionState} {works : List (ℕ × Working)} {log mid logged : Logged}
-    {noted : Option (List Noted)} {first version : ℕ} {names : List (List ℕ)} → AreHeard s works log.events
+    {first version : ℕ} {names : List (List ℕ)} → AreHeard s works log.events
     → AreWatched s.start first log.events (at_rest version names) → IsLive s → IsLive u
     → (stamp next : ℕ) (w : Working) → work_at works stamp ≡ Some w → (h : HasEnded stamp true s u)
     → committed u.core ≡ view s.core stamp → (o : Option (Arc Changed Global)) → Leads s stamp o
-    → IsNumbered stamp next o (served s log noted first version names) → AreTold names o log mid
+    → (noted : Option (List Noted)) → IsNumbered stamp next o (served s log noted first version names)
+    → AreTold names o log mid
     → (a : Answer) → IsSaid (Some stamp) a mid logged → (e : Ended) → a.what ≡ told.Ended e → e.name ≡ w.name
     → ((g : Grown) → grown_at s.growing stamp ≡ Some g → e.since ≡ g.since)
     → EndsAs w.task e.replies e.outcome true → e.version ≡ next
     → AreWatched u.start first logged.events (at_rest e.version names)
-watched_commit {s} {u} {works} {log} {mid} {logged} {noted} {first} {version} {names} r q l m stamp next w there h makes
-    o leads n t a said e is name since ends counted =
+watched_commit {s} {u} {works} {log} {mid} {logged} {first} {version} {names} r q l m stamp next w there h makes o
+    leads noted n t a said e is name since ends counted =
     let k = talk_of (Some h.ended) w in
     let behind : AreHeard s works mid.events =
     subst (AreHeard s works) (sym t.events) (heard_tellings log.events r names o t.more t.tellings) in
@@ -205,12 +206,25 @@ watched_commit {s} {u} {works} {log} {mid} {logged} {noted} {first} {version} {n
 
 -- ---- one watcher after another
 
-pub told_nobody : (c : Arc Changed Global) (l : Logged) → AreTold [] (Some c) l l
-told_nobody c l = record {
-  more = [];
-  events = sym (append-nil l.events);
-  answers = sym (append-nil l.answers);
-  tellings = tt;
+-- one is told, or memory is short
+pub said_one : {name : List ℕ} {c : Changed} {l m : Logged} (a : Answer) → IsChangeTo name c a → IsSaid None a l m
+    → IsToldOne name c l m
+said_one {l = l} a is said = record {
+  event = events.Says None a said.is_told;
+  telling = is;
+  events = said.events;
+  answers = said.answers;
+}
+
+pub missed_one : {l m : Logged} {seen noted : List Event} (hand : Arc (List ℕ) Global) (c : Arc Changed Global)
+    → seen ≡ l.events
+    → noted ≡ seen ++ events.Says None (record { hand = hand; tag = None; what = told.Changed c }) false ∷ []
+    → m.events ≡ noted → m.answers ≡ l.answers → IsToldOne (arc_value hand) (arc_value c) l m
+missed_one {l} {m} hand c seen noted after answers = record {
+  event = events.Says None (record { hand = hand; tag = None; what = told.Changed c }) false;
+  telling = record { hand = refl; tag = refl; shared = c; same = refl; what = refl };
+  events = one_more (events.Says None (record { hand = hand; tag = None; what = told.Changed c }) false) seen noted after;
+  answers = answers ∙ sym (append-nil l.answers);
 }
 
 tellings_more : (done : List (List ℕ)) (c : Changed) (more : List Event) (n : List ℕ) (e : Event)

@@ -145,14 +145,14 @@ module _ {start : CityValue} {first : ℕ} {log logged : Logged} {w : Watched}
       → AreWatched start first logged.events (at_rest w.version w.watchers)
   watched_undone undone none same =
       ending (end_uncommitted _ undone start (heard log.events).ended e w k none same) _
-      (ap (λ b. at_rest (if b gives e.version else w.version) w.watchers) undone)
+      (ap (λ b. at_rest (if b then e.version else w.version) w.watchers) undone)
 
   pub watched_done : is_committed e.outcome ≡ true
       → IsEndFit true start (heard log.events).ended e w k
       → AreWatched start first logged.events (at_rest e.version w.watchers)
   watched_done done fit =
       ending (subst (λ b. IsEndFit b start (heard log.events).ended e w k) (sym done) fit) _
-      (ap (λ b. at_rest (if b gives e.version else w.version) w.watchers) done)
+      (ap (λ b. at_rest (if b then e.version else w.version) w.watchers) done)
 
 -- ---- a change is told
 

@@ -1,7 +1,7 @@
 //! What is said.
-ghost use Rattle.std.specs.Prelude.{◌≡◌, []};
+ghost use Rattle.std.specs.Prelude.{◌≡◌, [], IfSome};
 ghost use Rattle.std.specs.Arc.{arc_value};
-ghost use Rattle.city_live.specs.Ending.{IsToldOne};
+ghost use Rattle.city_live.specs.Ending.{IsChangeTo, IsToldOne};
 ghost use Rattle.city_live.specs.Serving.{IsSaid};
 
 use crate::answer::{Answer, Changed, Name, What};
@@ -84,20 +84,12 @@ impl Log {
     pub fn tell(&mut self, hand: &Name, changed: &Arc<Changed>)
         ensures { IsToldOne (arc_value hand.now) (arc_value changed.now) self.old self.new }
     {
-        match (Arc::try_clone(hand), Arc::try_clone(changed)) {
-            (Ok(hand), Ok(changed)) => {
-                let what = What::Changed(changed);
-                self.says(
-                    None,
-                    Answer {
-                        hand,
-                        tag: None,
-                        what,
-                    },
-                );
-            }
-            _ => self.events = self.events.misses(hand, changed),
-        }
+        let Some(answer) = change_to(hand, changed) else {
+            let noted = self.events().misses(hand, changed);
+            self.note(noted);
+            return;
+        };
+        self.says(None, answer);
     }
 
     /// Gives the answers out. Doesn't allocate.
@@ -108,4 +100,18 @@ impl Log {
     {
         replace(&mut self.answers, Vec::new(alloc))
     }
+}
+
+/// The answer that tells a hand of a change. `None` if memory runs out.
+fn change_to(hand: &Name, changed: &Arc<Changed>) -> Option<Answer>
+    ensures { IfSome result (IsChangeTo (arc_value hand.now) (arc_value changed.now)) }
+{
+    let hand = Arc::try_clone(hand).ok()?;
+    let changed = Arc::try_clone(changed).ok()?;
+    let what = What::Changed(changed);
+    Some(Answer {
+        hand,
+        tag: None,
+        what,
+    })
 }

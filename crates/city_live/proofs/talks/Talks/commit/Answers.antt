@@ -29,7 +29,7 @@ invariant_of-self-2 g c =
           c.args.version c.in-Some.work there c.commit.ensures.ended c.commit.ensures.city c.args.changed
           (subst (λ (v : Served). Leads v.session c.args.stamp c.args.changed) (sym c.self.view_is)
           c.requires.allowed.leads)
-          (subst (IsNumbered c.args.stamp c.args.version c.args.changed) (sym c.self.view_is) c.requires.numbered)
+          _ (subst (IsNumbered c.args.stamp c.args.version c.args.changed) (sym c.self.view_is) c.requires.numbered)
           c.tell_all.ensures _ c.says.ensures _ refl c.into_parts-hand.ensures.name c.since_of-since.ensures ends refl,
     )
 
