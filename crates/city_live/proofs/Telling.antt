@@ -223,7 +223,8 @@ pub missed_one : {l m : Logged} {seen noted : List Event} (hand : Arc (List ℕ)
 missed_one {l} {m} hand c seen noted after answers = record {
   event = events.Says None (record { hand = hand; tag = None; what = told.Changed c }) false;
   telling = record { hand = refl; tag = refl; shared = c; same = refl; what = refl };
-  events = one_more (events.Says None (record { hand = hand; tag = None; what = told.Changed c }) false) seen noted after;
+  events = one_more (events.Says None (record { hand = hand; tag = None; what = told.Changed c }) false) seen noted
+      after;
   answers = answers ∙ sym (append-nil l.answers);
 }
 

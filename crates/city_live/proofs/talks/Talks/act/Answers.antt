@@ -13,8 +13,8 @@ invariant_of-self g c =
     let what = what_before c.args.stamp c.in-Some.command.now c.in-Replied.reply c.in-Replied.ensures
     c.what_of-what.result c.what_of-what.ensures in (
       heard_replied c.self.invariant.0 c.args.stamp (arc_value c.in-Some.hand) c.in-Some.command.now c.in-Some.ensures
-          what.0 what.1 c.in-Replied.reply c.in-Replied.ensures _ refl c.is_done-is_done.result c.is_done-is_done.ensures
-          c.reply-tag.ensures.works c.reply-tag.ensures.tag
+          what.0 what.1 c.in-Replied.reply c.in-Replied.ensures _ refl c.is_done-is_done.result
+          c.is_done-is_done.ensures c.reply-tag.ensures.works c.reply-tag.ensures.tag
           what.2 c.says.ensures,
       watched_from_there c.in-Replied.ensures.start
           (watched_plain c.self.invariant.1 _ _ c.says.ensures

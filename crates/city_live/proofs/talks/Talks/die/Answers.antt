@@ -14,7 +14,8 @@ invariant_of-self-2 g c = (
       c.take.ensures.left
       _ c.abort.ensures.ended _ c.into_parts-hand.ensures.hand c.into_parts-hand.ensures.tag c.says.ensures
       c.args.blocked refl
-      (ap is_whole_at (sym c.in-Some.is ∙ c.take.ensures.taken) ∙ (sym c.is_script.ensures ∙ c.if-is_script.false)) refl,
+      (ap is_whole_at (sym c.in-Some.is ∙ c.take.ensures.taken) ∙
+      (sym c.is_script.ensures ∙ c.if-is_script.false)) refl,
   watched_from_there c.abort.ensures.ended.start (watched_plain c.self.invariant.1 _ _ c.says.ensures tt),
 )
 

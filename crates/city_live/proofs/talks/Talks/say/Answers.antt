@@ -18,7 +18,8 @@ pub invariant_of-self : goal.invariant_of-self
 invariant_of-self g c = (
   subst (λ es. AreHeard c.self.inside.session c.self.inside.table es) (sym c.says.ensures.events)
       (heard_unlabelled c.self.invariant.0 _ refl
-      (subst (λ (v : Served). IsSeenAt v.session.start v.session.closed c.args.what) (sym c.self.view_is) c.requires.seen)
+      (subst (λ (v : Served). IsSeenAt v.session.start v.session.closed c.args.what) (sym c.self.view_is)
+      c.requires.seen)
       (subst (λ (h : List ℕ). IsAnswerFor h c.args.tag c.args.what (heard c.self.inside.log.events).came)
       (sym c.in-Ok.ensures)
       (subst (λ (v : Served). IsAnswerFor (arc_value c.args.hand.now) c.args.tag c.args.what (came_in v))

@@ -20,13 +20,16 @@ pub invariant_of-self-2 : goal.invariant_of-self-2
 invariant_of-self-2 g c = (
   subst (λ es. AreHeard c.self.inside.session c.self.inside.table es) (sym c.says.ensures.events)
       (heard_unlabelled c.self.invariant.0 _ refl tt
-      (subst (λ (h : List ℕ). IsAnswerFor h c.args.tag (told.Watching c.self.inside.version) (heard c.self.inside.log.events).came)
+      (subst (λ (h : List ℕ). IsAnswerFor h c.args.tag (told.Watching c.self.inside.version)
+      (heard c.self.inside.log.events).came)
       (sym c.in-Ok.ensures)
-      (subst (λ (v : Served). IsAnswerFor (arc_value c.args.hand.now) c.args.tag (told.Watching c.self.inside.version) (came_in v))
+      (subst (λ (v : Served). IsAnswerFor (arc_value c.args.hand.now) c.args.tag
+      (told.Watching c.self.inside.version) (came_in v))
       (sym c.self.view_is) (watching_for c.self.inside.version c.requires)))),
   subst (λ l. AreWatched c.self.inside.session.start c.self.inside.first c.says.new.self.events
       (at_rest c.self.inside.version l))
-      (ap (with_name c.self.inside.watchers) c.in-Ok.ensures ∙ sym (ok_of c.add.result c.add.ensures.added (sym c.is_err.ensures.value ∙ c.if-is_err.false)))
+      (ap (with_name c.self.inside.watchers) c.in-Ok.ensures
+      ∙ sym (ok_of c.add.result c.add.ensures.added (sym c.is_err.ensures.value ∙ c.if-is_err.false)))
       (watched_joins c.self.invariant.1 None _ c.says.ensures refl),
 )
 
