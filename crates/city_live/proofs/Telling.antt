@@ -187,7 +187,7 @@ pub watched_commit : {s u : SessionState} {works : List (ℕ × Working)} {log m
     → (a : Answer) → IsSaid (Some stamp) a mid logged → (e : Ended) → a.what ≡ told.Ended e → e.name ≡ w.name
     → ((g : Grown) → grown_at s.growing stamp ≡ Some g → e.since ≡ g.since)
     → EndsAs w.task e.replies e.outcome true → e.version ≡ next
-    → AreWatched u.start first logged.events (at_rest e.version names)
+    → AreWatched u.start first logged.events (at_rest next names)
 watched_commit {s} {u} {works} {log} {mid} {logged} {first} {version} {names} r q l m stamp next w there h makes o
     leads noted n t a said e is name since ends counted =
     let k = talk_of (Some h.ended) w in
@@ -196,13 +196,13 @@ watched_commit {s} {u} {works} {log} {mid} {logged} {first} {version} {names} r 
     let fit = commit_fit (served s log noted first version names) l m stamp next h makes k e
     (ended_closed r stamp w there h.ended h.is_there true e name (since h.ended h.is_there) ends) counted
     (talk_there r stamp w there h.ended h.is_there) o leads n in
-    watched_from_there h.start
+    watched_from_there h.start (subst (λ v. AreWatched s.start first logged.events (at_rest v names)) counted
     (watched_done
     (subst (λ x. AreWatched s.start first x (told_then names o version)) (sym t.events)
     (watched_told q o t.more t.tellings))
     stamp a said e is k (talk_there behind stamp w there h.ended h.is_there)
     (ended_so w.task e.replies e.outcome true ends)
-    (subst (λ cs. IsCommitFit s.start cs k e version names (telling_of names o)) (sym behind.ended) fit))
+    (subst (λ cs. IsCommitFit s.start cs k e version names (telling_of names o)) (sym behind.ended) fit)))
 
 -- ---- one watcher after another
 

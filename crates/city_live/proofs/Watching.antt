@@ -140,19 +140,24 @@ module _ {start : CityValue} {first : ℕ} {log logged : Logged} {w : Watched}
       (of_talk (IsEndFit (is_committed e.outcome) start (heard log.events).ended e w) _ k talk fit))
       (ap (λ x. after_answer (arc_value a.hand) x w) is ∙ gives)
 
-  -- without a commit
-  pub watched_undone : is_committed e.outcome ≡ false → w.telling ≡ None → e.version ≡ w.version
-      → AreWatched start first logged.events (at_rest w.version w.watchers)
-  watched_undone undone none same =
-      ending (end_uncommitted _ undone start (heard log.events).ended e w k none same) _
-      (ap (λ b. at_rest (if b then e.version else w.version) w.watchers) undone)
-
   pub watched_done : is_committed e.outcome ≡ true
       → IsEndFit true start (heard log.events).ended e w k
       → AreWatched start first logged.events (at_rest e.version w.watchers)
   watched_done done fit =
       ending (subst (λ b. IsEndFit b start (heard log.events).ended e w k) (sym done) fit) _
       (ap (λ b. at_rest (if b then e.version else w.version) w.watchers) done)
+
+-- without a commit
+pub watched_undone : {start : CityValue} {first : ℕ} {log logged : Logged} {version : ℕ} {names : List (List ℕ)}
+    → AreWatched start first log.events (at_rest version names) → (stamp : ℕ) (a : Answer)
+    → IsSaid (Some stamp) a log logged → (e : Ended) → a.what ≡ told.Ended e → (k : Talk)
+    → (heard log.events).talks stamp ≡ Some k → is_committed e.outcome ≡ false → e.version ≡ version
+    → AreWatched start first logged.events (at_rest version names)
+watched_undone {start} {first} {log} {logged} {version} {names} r stamp a said e is k talk undone same =
+    ending r stamp a said e is k talk
+    (end_uncommitted (is_committed e.outcome) undone start (heard log.events).ended e (at_rest version names) k refl
+    same)
+    (at_rest version names) (ap (λ b. at_rest (if b then e.version else version) names) undone)
 
 -- ---- a change is told
 

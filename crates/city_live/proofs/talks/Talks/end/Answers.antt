@@ -21,7 +21,7 @@ invariant_of-self-2 g c =
       watched_from_there h.start
           (watched_undone c.self.invariant.1 c.args.stamp _ c.says.ensures _ refl _
           (talk_there c.self.invariant.0 c.args.stamp c.in-Some.work there h.ended h.is_there)
-          (ended_so c.in-Some.work.task c.ended_by-replies.result.0 c.ended_by-replies.result.1 false ends) refl refl),
+          (ended_so c.in-Some.work.task c.ended_by-replies.result.0 c.ended_by-replies.result.1 false ends) refl),
     )
 
 pub returns : goal.returns
