@@ -1,5 +1,5 @@
 -- Requests and their answers: what fits, and what doesn't.
-use Rattle.std.specs.Prelude.{◌≡◌, ◌++◌, ◌∷◌, ℕ, List, [], Bool, true, false, Option, None, Some, refl}
+use Rattle.std.specs.Prelude.{◌≡◌, ◌++◌, ◌∷◌, ℕ, List, [], true, false, Option, None, Some, refl}
 use Rattle.std.proofs.Common.{codes}
 use Rattle.std.specs.Arc.{arc_value}
 use Rattle.std.specs.declared.sync.Arc.{Arc}
@@ -10,10 +10,7 @@ use Rattle.city_model.specs.declared.command.Command.TheVariants.{Commit, Abort,
 use Rattle.city_model.specs.declared.command.Reply.{Reply}
 use Rattle.city_model.specs.declared.command.Reply.TheVariants as replies
 use Rattle.city_model.specs.declared.end.Outcome.TheVariants as outcomes
-use Rattle.city_session.specs.Grown.{Grown, Closed}
-use Rattle.city_live.specs.declared.answer.Answer.{Answer}
 use Rattle.city_live.specs.declared.answer.Blocked.{Blocked}
-use Rattle.city_live.specs.declared.answer.Fault.TheVariants as faults
 use Rattle.city_live.specs.declared.answer.What.{What}
 use Rattle.city_live.specs.declared.answer.What.TheVariants as told
 use Rattle.city_live.specs.declared.ghosts.event.Event.{Event}

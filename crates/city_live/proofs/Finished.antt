@@ -1,32 +1,23 @@
 -- What is said where works begin, go on and end.
-use Rattle.std.specs.Prelude.{◌≡◌, ◌==◌, ◌<◌, ◌≤◌, ◌++◌, ◌∷◌, ℕ, List, [], Bool, true, false, Option, None, Some}
-use Rattle.std.specs.Prelude.{All}
-use Rattle.std.specs.Prelude.{Result, Ok, Err, OnOk, is_err, suc, option_map, is_some, refl, if◌then◌else◌, slice_get}
-use Rattle.std.specs.Prelude.{length, get_or}
+use Rattle.std.specs.Prelude.{◌≡◌, ◌<◌, ◌≤◌, ◌++◌, ◌∷◌, ℕ, List, [], Bool, true, false, Option, None, Some}
+use Rattle.std.specs.Prelude.{Result, Ok, Err, OnOk, is_err, option_map, is_some, refl, length}
 use Rattle.std.proofs.Common.{sym, ◌∙◌, ap, subst, arith, inl, inr}
 use Rattle.std.proofs.lemmas.Bool.{false≢true, cases_eq, ne_eqb, eq-eqb}
-use Rattle.std.proofs.lemmas.List.{append-nil, append_assoc}
-use Rattle.std.proofs.lemmas.List.Elements.{All-append}
+use Rattle.std.proofs.lemmas.List.{append-nil}
 use Rattle.std.specs.Arc.{arc_value}
-use Rattle.std.specs.declared.sync.Arc.{Arc}
-use Rattle.std.specs.declared.alloc.Global.{Global}
 use Rattle.city_model.specs.declared.command.Cause.{Cause}
 use Rattle.city_model.specs.declared.command.Command.{Command}
 use Rattle.city_model.specs.declared.command.Reply.{Reply}
 use Rattle.city_model.specs.declared.command.Reply.TheVariants as replies
-use Rattle.city_model.specs.Meaning.{is_refusal}
-use Rattle.city_model.specs.Scripts.{is_end}
+use Rattle.city_model.specs.declared.end.Outcome.{Outcome}
 use Rattle.city_model.specs.declared.end.Outcome.TheVariants as outcomes
-use Rattle.city_model.specs.Runs.{Scripted, after_change}
-use Rattle.city_txn.specs.CoreState.{committed, view}
-use Rattle.city_session.specs.Acting.{GrowsTo, IsActed, IsBegun, HasEnded, IsForgotten, stamps_after, stamp_for, told_after}
-use Rattle.city_session.specs.declared.acted.Acted.TheVariants as acts
-use Rattle.city_session.specs.Grown.{Grown, Closed, with_reply}
+use Rattle.city_model.specs.Runs.{Scripted}
+use Rattle.city_session.specs.Acting.{GrowsTo, IsBegun, HasEnded, IsForgotten, stamps_after, stamp_for}
+use Rattle.city_session.specs.Grown.{Grown}
 use Rattle.city_session.specs.Live.{SessionState, grown_at, IsLive}
-use Rattle.city_session.proofs.Recorded.{grows_same, at_own, at_other}
+use Rattle.city_session.proofs.Recorded.{grows_same}
 use Rattle.city_live.specs.declared.answer.Answer.{Answer}
 use Rattle.city_live.specs.declared.answer.Blocked.{Blocked}
-use Rattle.city_live.specs.declared.answer.Changed.{Changed}
 use Rattle.city_live.specs.declared.answer.Ended.{Ended}
 use Rattle.city_live.specs.declared.answer.Fault.TheVariants as faults
 use Rattle.city_live.specs.declared.answer.What.{What}
@@ -35,25 +26,19 @@ use Rattle.city_live.specs.declared.ghosts.event.Event.{Event}
 use Rattle.city_live.specs.declared.ghosts.event.Event.TheVariants as events
 use Rattle.city_live.specs.declared.task.Task.{Task}
 use Rattle.city_live.specs.declared.task.Task.TheVariants as task
-use Rattle.city_model.specs.CityMap.{CityValue}
-use Rattle.city_live.specs.Coming.{Came, OfCame, IsBegunFor, IsAnswerFor}
-use Rattle.city_live.specs.Coming.{answered_by as left_by_answer}
-use Rattle.city_live.specs.Continuing.{Continues, GoesOn}
-use Rattle.city_live.specs.Ending.{EndsAs, IsTelling, IsTellingOf, AreTold, Leads, told_replies}
-use Rattle.city_live.specs.Heard.{talk_of, begun_talk, AreSoFar, IsSoFar, AreHeard, IsKept, ArePlain}
-use Rattle.city_live.specs.Heard.{script_told, Talk, after_fault}
-use Rattle.city_live.specs.Heard.{answered_by, refused_at, is_committed, closed_of, IsEndOf, IsStep, model_of}
-use Rattle.city_live.specs.Heard.{script_in}
-use Rattle.city_live.specs.Heard.{since_so_far, told_so_far, IsFitWhat, after_what, closed_by_what, or_none, cause_of}
-use Rattle.city_live.specs.Heard.{IsOutcome, IsSeenAt, IsSeenIn, what_said, stamp_of, IsFor, came_after, heard}
+use Rattle.city_live.specs.Coming.{OfCame, IsBegunFor}
+use Rattle.city_live.specs.Continuing.{Continues}
+use Rattle.city_live.specs.Ending.{EndsAs, told_replies}
+use Rattle.city_live.specs.Heard.{Talk, heard, begun_talk, script_told, script_in, since_so_far, answered_by}
+use Rattle.city_live.specs.Heard.{is_committed, closed_of, IsEndOf, IsFitWhat, after_what, closed_by_what, or_none}
+use Rattle.city_live.specs.Heard.{cause_of, IsOutcome, after_fault}
+use Rattle.city_live.specs.SoFar.{talk_of, told_so_far, AreSoFar, IsSoFar, AreHeard, IsKept, ArePlain}
 use Rattle.city_live.specs.Running.{Begins, RunsTo}
-use Rattle.city_live.specs.Serving.{Logged, IsSaid, told_in, is_coming}
+use Rattle.city_live.specs.Serving.{Logged, IsSaid}
 use Rattle.city_live.specs.Works.{Working, work_at, WorksTo, SameWorks, is_whole, is_whole_at, IsScriptAt}
 use Rattle.city_live.specs.Works.{without_script, with_script, IsAtCommit, MayCommit, first_of, IsFresh, none_kept}
-use Rattle.city_live.proofs.Continued.{begun, acted, goes_then}
-use Rattle.city_live.proofs.Worked.{one_reply, some_same, told_plainly}
-use Rattle.city_live.proofs.Followed.{told_both}
-use Rattle.city_live.proofs.Hearing.{work_own, work_other, heard_event, heard_silently, heard_unlabelled, came_more}
+use Rattle.city_live.proofs.Continued.{begun}
+use Rattle.city_live.proofs.Hearing.{work_own, work_other, heard_event, heard_silently}
 
 -- the same works, with the one of the stamp named
 pub works_same : (stamp : ℕ) (w : Working) (works others : List (ℕ × Working)) → work_at works stamp ≡ Some w
@@ -281,6 +266,26 @@ far_there {s} r stamp w there g is =
     subst (λ o. AreSoFar o (grown_at s.growing stamp)) there (r.so_far stamp) in
     subst (IsSoFar w.task) is all.0
 
+-- the talk of a work whose transaction is this one
+pub talk_there : {s : SessionState} {works : List (ℕ × Working)} {es : List Event} → AreHeard s works es → (stamp : ℕ)
+    (w : Working) → work_at works stamp ≡ Some w → (g : Grown) → grown_at s.growing stamp ≡ Some g
+    → (heard es).talks stamp ≡ Some (talk_of (Some g) w)
+talk_there {s} r stamp w there g is =
+    r.talks stamp ∙ (ap (option_map (talk_of (grown_at s.growing stamp))) there ∙ ap (λ o. Some (talk_of o w)) is)
+
+pub ended_closed : {s : SessionState} {works : List (ℕ × Working)} {es : List Event} → AreHeard s works es
+    → (stamp : ℕ) (w : Working) → work_at works stamp ≡ Some w → (g : Grown) → grown_at s.growing stamp ≡ Some g
+    → (is_kept : Bool) (e : Ended) → e.name ≡ w.name → e.since ≡ g.since → EndsAs w.task e.replies e.outcome is_kept
+    → closed_of (talk_of (Some g) w) e ≡ (g, is_kept)
+ended_closed r stamp w there g is is_kept e name since ends =
+    (ended_as g w.by w.name w.task w.tag w.kept is_kept e (far_there r stamp w there g is) name since ends).1
+
+-- it tells whether the writes are kept
+pub ended_so : (t : Task) (replies : Option (List Reply)) (outcome : Outcome) (is_kept : Bool)
+    → EndsAs t replies outcome is_kept → is_committed outcome ≡ is_kept
+ended_so (task.Script s rs cause) replies outcome is_kept ends = ends.3
+ended_so (task.Single asked) replies outcome is_kept ends = ends.1
+
 module _ {s u : SessionState} {works others : List (ℕ × Working)} {log logged : Logged}
     (r : AreHeard s works log.events)
     (stamp : ℕ) (w : Working) (there : work_at works stamp ≡ Some w) (left : WorksTo stamp None works others)
@@ -312,8 +317,8 @@ module _ {s u : SessionState} {works others : List (ℕ × Working)} {log logged
       → ((g : Grown) → grown_at s.growing stamp ≡ Some g → e.since ≡ g.since)
       → EndsAs w.task e.replies e.outcome is_kept → AreHeard u others logged.events
   heard_ended e what name since ends =
-      let parts = ended_as h.ended w.by w.name w.task w.tag w.kept is_kept e (far_there r stamp w there h.ended h.is_there)
-      name (since h.ended h.is_there) ends in
+      let parts = ended_as h.ended w.by w.name w.task w.tag w.kept is_kept e
+      (far_there r stamp w there h.ended h.is_there) name (since h.ended h.is_there) ends in
       over (told.Ended e) what parts.0 (ap (λ c. c ∷ []) parts.1) refl
 
 -- a script whose commit can't be noted is undone, and told so
@@ -347,170 +352,9 @@ pub committing : (o : Option Working) (w : Working) → MayCommit o → o ≡ So
     → EndsAs w.task (told_replies w.task) outcomes.Committed true
 committing o w may e = at_commit w.task (subst MayCommit e may)
 
--- ---- the watchers
-
-telling_seen : (start : CityValue) (ended : List Closed) (c : Changed) (e : Event) → IsTelling c e
-    → IsStep start ended c
-    → (stamp_of e ≡ None) × IsSeenIn start ended (what_said e)
-telling_seen start ended c (events.Comes hand tag r) t step = absurd t
-telling_seen start ended c (events.Says None a is_told) t step =
-    (refl, subst (IsSeenAt start ended) (sym t.0.what) (subst (IsStep start ended) (sym t.0.same) step))
-telling_seen start ended c (events.Says (Some n) a is_told) t step = absurd t
-telling_seen start ended c (events.Begins n w) t step = absurd t
-telling_seen start ended c (events.Asks n hand tag s) t step = absurd t
-telling_seen start ended c (events.Requests n hand tag) t step = absurd t
-
--- it is no request, nor an answer to one
-is_change : (hand : List ℕ) (tag : Option (List ℕ)) (what : What) (c : Arc Changed Global) → what ≡ told.Changed c
-    → tag ≡ None → (o : Option Came) → IsAnswerFor hand tag what o × (left_by_answer what o ≡ o)
-is_change hand tag what c is none o =
-    (subst (λ w. IsAnswerFor hand tag w o) (sym is) none, ap (λ w. left_by_answer w o) is)
-
-telling_for : (c : Changed) (e : Event) → IsTelling c e
-    → ((o : Option Came) → IsFor e o × (came_after e o ≡ o)) × (is_coming e ≡ false)
-telling_for c (events.Comes hand tag r) t = absurd t
-telling_for c (events.Says None a is_told) t =
-    (is_change (arc_value a.hand) a.tag a.what t.0.shared t.0.what t.1, refl)
-telling_for c (events.Says (Some n) a is_told) t = absurd t
-telling_for c (events.Begins n w) t = absurd t
-telling_for c (events.Asks n hand tag s) t = absurd t
-telling_for c (events.Requests n hand tag) t = absurd t
-
-tellings_for : (o : Option (Arc Changed Global)) (e : Event) → IsTellingOf o e
-    → ((p : Option Came) → IsFor e p × (came_after e p ≡ p)) × (is_coming e ≡ false)
-tellings_for None e t = absurd t
-tellings_for (Some c) e t = telling_for (arc_value c) e t
-
-pub came_tellings : (es : List Event) (o : Option (Arc Changed Global)) (more : List Event) → All (IsTellingOf o) more
-    → (heard (es ++ more)).came ≡ (heard es).came
-came_tellings es o [] all = ap (λ l. (heard l).came) (append-nil es)
-came_tellings es o (e ∷ more) all =
-    ap (λ l. (heard l).came) (sym (append_assoc es (e ∷ []) more))
-    ∙ (came_tellings (es ++ e ∷ []) o more (λ k d l. all (suc k) d (omega (arith, l)))
-    ∙ (came_more es e ∙ ((tellings_for o e (all 0 e (omega arith))).0 (heard es).came).1))
-
-pub alone_tellings : (o : Option (Arc Changed Global)) (more : List Event) → All (IsTellingOf o) more
-    → All (λ e. is_coming e ≡ false) more
-alone_tellings o more all k d l = (tellings_for o (get_or more k d) (all k d l)).1
-
-abbrev pub IsStepIf : CityValue → List Closed → Option (Arc Changed Global) → Type 0
-IsStepIf start ended None = Unit {0}
-IsStepIf start ended (Some c) = IsStep start ended (arc_value c)
-
-tellings_seen : (start : CityValue) (ended : List Closed) (o : Option (Arc Changed Global)) → IsStepIf start ended o
-    → (e : Event) → IsTellingOf o e → (stamp_of e ≡ None) × IsSeenIn start ended (what_said e)
-tellings_seen start ended None step e t = absurd t
-tellings_seen start ended (Some c) step e t = telling_seen start ended (arc_value c) e t step
-
-pub heard_tellings : {s : SessionState} {works : List (ℕ × Working)} (es : List Event) → AreHeard s works es
-    → (o : Option (Arc Changed Global)) → IsStepIf s.start s.closed o → (more : List Event) → All (IsTellingOf o) more
-    → AreHeard s works (es ++ more)
-heard_tellings {s} {works} es r o step [] all = subst (AreHeard s works) (sym (append-nil es)) r
-heard_tellings {s} {works} es r o step (e ∷ more) all =
-    let seen = tellings_seen s.start s.closed o step e (all 0 e (omega arith)) in
-    subst (AreHeard s works) (append_assoc es (e ∷ []) more)
-    (heard_tellings (es ++ e ∷ [])
-    (heard_unlabelled r e seen.0 seen.1 ((tellings_for o e (all 0 e (omega arith))).0 (heard es).came).0) o step more
-    (λ k d l. all (suc k) d (omega (arith, l))))
-
-steps : {s u : SessionState} (stamp : ℕ) (c : Changed) → IsLive s → IsLive u
-    → after_change (committed s.core) c.change ≡ view s.core stamp → committed u.core ≡ view s.core stamp
-    → (h : HasEnded stamp true s u) → IsStep s.start s.closed c
-steps {s} {u} stamp c l m leads makes h = record {
-  next = h.ended;
-  leads = ap (λ x. after_change x c.change) (sym l.city) ∙ (leads ∙ (sym makes ∙ (m.city
-      ∙ (ap (λ cs. model_of u.start cs) h.closed ∙ ap (λ (st : CityValue). model_of st
-      (s.closed ++ (h.ended, true) ∷ [])) h.start))));
-}
-
-pub steps_if : {s u : SessionState} (stamp : ℕ) (o : Option (Arc Changed Global)) → IsLive s → IsLive u
-    → Leads s stamp o
-    → committed u.core ≡ view s.core stamp → HasEnded stamp true s u → IsStepIf s.start s.closed o
-steps_if stamp None l m leads makes h = tt
-steps_if stamp (Some c) l m leads makes h = steps stamp (arc_value c) l m leads makes h
-
-pub told_none : (P : Event → Type 0) (l : Logged) → AreTold P l l
-told_none P l = record {
-  more = [];
-  events = sym (append-nil l.events);
-  answers = sym (append-nil l.answers);
-  all = λ k d h. absurd (omega (arith, h));
-}
-
-pub told_more : {P : Event → Type 0} {l m n : Logged} → AreTold P l m → AreTold P m n → AreTold P l n
-told_more {P} {l} {m} {n} a b = record {
-  more = a.more ++ b.more;
-  events = b.events ∙ (ap (λ x. x ++ b.more) a.events ∙ append_assoc l.events a.more b.more);
-  answers = b.answers ∙ (ap (λ x. x ++ told_in b.more) a.answers
-      ∙ (append_assoc l.answers (told_in a.more) (told_in b.more)
-      ∙ ap (λ x. l.answers ++ x) (sym (told_both a.more b.more))));
-  all = All-append P a.more b.more a.all b.all;
-}
-
 pub begins_on : {stamp : ℕ} {kept : Option ℕ} {s u : SessionState} → Begins stamp kept s u → Continues s u
 begins_on {stamp} b = begun stamp b.taken b.begun
 
 pub ok_of : {A E P : Type 0} (r : Result A E) → OnOk r P → is_err r ≡ false → P
 ok_of (Ok a) h e = h
 ok_of (Err x) h e = absurd (false≢true (sym e))
-
--- ---- a script's commands, one by one
-
-reply_more : (o : Option Grown) (command : Command) (reply : Reply) (g : Grown)
-    → option_map (told_after command (acts.Replied reply)) o ≡ Some g
-    → (before : Grown) × (o ≡ Some before) × (g.told ≡ before.told ++ (command, reply) ∷ [])
-reply_more None command reply g e = absurd (cc)
-reply_more (Some b) command reply g e =
-    (b, refl, ap (λ (x : Grown). x.told) (some_same g (with_reply command reply b) (sym e)))
-
-refused_here : (o : Option Command) (command : Command) (cause : Cause) → o ≡ Some command → is_end command ≡ false
-    → refused_at o (Some cause) ≡ (command, replies.Refused cause) ∷ []
-refused_here o command cause is goes =
-    ap (λ x. refused_at x (Some cause)) is
-    ∙ ap (λ b. if b then [] else (command, replies.Refused cause) ∷ []) goes
-
-plain_more : (rs : List Reply) (r : Reply) → ArePlain rs → is_refusal r ≡ false → ArePlain (rs ++ r ∷ [])
-plain_more [] r p h = (h, tt)
-plain_more (x ∷ rs) r p h = (p.0, plain_more rs r p.1 h)
-
-module _ {stamp : ℕ} {cs : List Command} {rs : List Reply} {s t u : SessionState} (a : RunsTo stamp cs rs None s t)
-  where
-    goes_on : (command : Command) (reply : Reply) → IsActed stamp command (acts.Replied reply) t u → GoesOn stamp s u
-    goes_on command reply h = goes_then stamp a.goes (acted stamp command (acts.Replied reply) a.goes.opened h)
-
-    told_now : (command : Command) (reply : Reply) → IsActed stamp command (acts.Replied reply) t u → (g : Grown)
-        → grown_at u.growing stamp ≡ Some g → g.told ≡ answered_by cs rs ++ (command, reply) ∷ []
-    told_now command reply h g is =
-        let b = reply_more (grown_at t.growing stamp) command reply g
-        (sym (at_own stamp _ t.growing u.growing h.growing) ∙ is) in
-        b.2 ∙ ap (λ l. l ++ (command, reply) ∷ []) (a.told b.0 b.1 ∙ told_plainly cs rs)
-
-    others_now : (command : Command) (reply : Reply) → IsActed stamp command (acts.Replied reply) t u → (v : ℕ)
-        → (stamp == v) ≡ false → grown_at u.growing v ≡ grown_at s.growing v
-    others_now command reply h v ne = at_other stamp v _ t.growing u.growing h.growing ne ∙ a.others v ne
-
-    pub ran_refused : {now : List Reply} → now ≡ rs → (command : Command) (reply : Reply) (cause : Cause)
-        → IsActed stamp command (acts.Replied reply) t u → reply ≡ replies.Refused cause
-        → slice_get cs (length rs) ≡ Some command → is_end command ≡ false → RunsTo stamp cs now (Some cause) s u
-    ran_refused {now} same command reply cause h is next goes = record {
-      goes = goes_on command reply h;
-      told = λ g e. told_now command reply h g e
-          ∙ (ap (λ r. answered_by cs rs ++ (command, r) ∷ []) is
-          ∙ (ap (λ l. answered_by cs rs ++ l) (sym (refused_here (slice_get cs (length rs)) command cause next goes))
-          ∙ ap (λ l. script_told cs l (Some cause)) (sym same)));
-      plain = subst ArePlain (sym same) a.plain;
-      others = others_now command reply h;
-    }
-
-    pub ran_replied : {now : List Reply} (command : Command) (reply : Reply) → now ≡ rs ++ reply ∷ []
-        → is_refusal reply ≡ false
-        → IsActed stamp command (acts.Replied reply) t u → slice_get cs (length rs) ≡ Some command
-        → RunsTo stamp cs now None s u
-    ran_replied {now} command reply same unrefused h next = record {
-      goes = goes_on command reply h;
-      told = λ g e. told_now command reply h g e
-          ∙ (sym (one_reply cs rs command reply next)
-          ∙ (sym (told_plainly cs (rs ++ reply ∷ [])) ∙ ap (λ l. script_told cs l None) (sym same)));
-      plain = subst ArePlain (sym same) (plain_more rs reply a.plain unrefused);
-      others = others_now command reply h;
-    }

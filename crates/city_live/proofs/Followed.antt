@@ -1,7 +1,6 @@
 -- More is said, step by step.
-use Rattle.std.specs.Prelude.{◌≡◌, ◌++◌, ◌∷◌, ℕ, List, [], Bool, false, Option, None, Some, refl, is_some, map, option_map}
-use Rattle.std.specs.Prelude.{All, Result, Ok, Err, OnErr}
-use Rattle.std.specs.Prelude.{get_or}
+use Rattle.std.specs.Prelude.{◌≡◌, ◌++◌, ◌∷◌, ℕ, List, [], Bool, false, Option, None, Some, refl, is_some, map}
+use Rattle.std.specs.Prelude.{All, Result, Ok, Err, OnErr, get_or, option_map}
 use Rattle.std.proofs.Common.{sym, ◌∙◌, ap, subst, arith}
 use Rattle.std.proofs.lemmas.List.{append-nil, append_assoc, map_push}
 use Rattle.std.proofs.lemmas.List.Elements.{All-append, All-push}
@@ -39,7 +38,7 @@ told_both [] fs = refl
 told_both (e ∷ es) fs =
     ap (λ l. told_by e ++ l) (told_both es fs) ∙ sym (append_assoc (told_by e) (told_in es) (told_in fs))
 
-none_alone : (P : Event → Type 0) → All P []
+pub none_alone : (P : Event → Type 0) → All P []
 none_alone P k d h = absurd (omega (arith, h))
 
 pub one_alone : (P : Event → Type 0) (e : Event) → P e → All P (e ∷ [])
@@ -53,6 +52,7 @@ goes_same s = record {
   alone = none_alone (λ e. is_coming e ≡ false);
   continues = continued.same s.session;
   notes = stays refl;
+  first = refl;
 }
 
 pub goes_then : {s t u : Served} → Proceeds s t → Proceeds t u → Proceeds s u
@@ -65,6 +65,7 @@ goes_then {s} {t} {u} a b = record {
   alone = All-append (λ e. is_coming e ≡ false) a.more b.more a.alone b.alone;
   continues = continued.then a.continues b.continues;
   notes = notes_then a.notes b.notes;
+  first = b.first ∙ a.first;
 }
 
 pub same : (s : Served) → Follows s s
@@ -100,6 +101,11 @@ still_end f h = record { request = h.request; came = f.came ∙ h.came; ends = h
 pub still_leaving : {s u : Served} {by : List ℕ} {tag : Option (List ℕ)} → Follows s u → IsLeaving by tag s
     → IsLeaving by tag u
 still_leaving {by = by} {tag = tag} f h = record { came = subst (OfCame (IsByeOf by tag)) (sym f.came) h.came }
+
+-- where nothing has changed
+pub still_same : {s u : Served} {by : List ℕ} {tag : Option (List ℕ)} {request : Request} → u ≡ s
+    → HasAsked by tag request s → HasAsked by tag request u
+still_same e h = record { came = ap came_in e ∙ h.came }
 
 pub asked_come : {s : Served} {by : List ℕ} {tag : Option (List ℕ)} {request : Request} → HasAsked by tag request s
     → HasCome by tag s
@@ -236,23 +242,43 @@ one_more e a b c = c ∙ (b ∙ ap (λ l. l ++ e ∷ []) a)
 
 -- ---- what a method leaves, by its parts
 
+-- a talks' value, by its parts
+abbrev pub served : SessionState → Logged → Option (List Noted) → ℕ → ℕ → List (List ℕ) → Served
+served session log noted first version watchers = record {
+  session = session;
+  events = log.events;
+  answers = log.answers;
+  noted = noted;
+  first = first;
+  version = version;
+  watchers = watchers;
+}
+
 module _ {s : Served} {session after : SessionState} {log : Logged} {before later : Option (List Noted)}
-    (is : record { session = session; events = log.events; answers = log.answers; noted = before } ≡ s)
+    {first version next : ℕ} {names others : List (List ℕ)}
+    (is : served session log before first version names ≡ s)
     (proceeds : Continues session after) (notes : Notes before later (committed session.core) (committed after.core))
   where
     -- these events are noted, with the answers that they tell
     pub noting : (logged : Logged) (more : List Event) → logged.events ≡ log.events ++ more
         → logged.answers ≡ log.answers ++ told_in more → All (λ e. is_coming e ≡ false) more
-        → Proceeds s (record { session = after; events = logged.events; answers = logged.answers; noted = later })
+        → Proceeds s (served after logged later first next others)
     noting logged more events answers alone =
-        subst (λ v. Proceeds v (record { session = after; events = logged.events; answers = logged.answers; noted = later })) is
-        (record { more = more; events = events; answers = answers; alone = alone; continues = proceeds; notes = notes })
+        subst (λ v. Proceeds v (served after logged later first next others)) is (record {
+          more = more;
+          events = events;
+          answers = answers;
+          alone = alone;
+          continues = proceeds;
+          notes = notes;
+          first = refl;
+        })
 
     -- the same, and the request isn't taken or answered
     pub noting_still : (logged : Logged) (more : List Event) → logged.events ≡ log.events ++ more
         → logged.answers ≡ log.answers ++ told_in more → All (λ e. is_coming e ≡ false) more
         → (heard (log.events ++ more)).came ≡ (heard log.events).came
-        → Follows s (record { session = after; events = logged.events; answers = logged.answers; noted = later })
+        → Follows s (served after logged later first next others)
     noting_still logged more events answers alone came = record {
       goes = noting logged more events answers alone;
       came = ap (λ l. (heard l).came) events ∙ (came ∙ ap came_in is);
@@ -260,7 +286,7 @@ module _ {s : Served} {session after : SessionState} {log : Logged} {before late
 
     -- an answer, of a script or a transaction or of none
     pub answering : (logged : Logged) (stamp : Option ℕ) (a : Answer) → IsSaid stamp a log logged
-        → Proceeds s (record { session = after; events = logged.events; answers = logged.answers; noted = later })
+        → Proceeds s (served after logged later first next others)
     answering logged stamp a said =
         noting logged (events.Says stamp a said.is_told ∷ []) said.events
         (said.answers ∙ ap (λ l. log.answers ++ l) (sym (append-nil (told_by (events.Says stamp a said.is_told)))))
@@ -268,7 +294,7 @@ module _ {s : Served} {session after : SessionState} {log : Logged} {before late
 
     -- an answer of a script or a transaction
     pub saying : (logged : Logged) (stamp : ℕ) (a : Answer) → IsSaid (Some stamp) a log logged
-        → Follows s (record { session = after; events = logged.events; answers = logged.answers; noted = later })
+        → Follows s (served after logged later first next others)
     saying logged stamp a said = record {
       goes = answering logged (Some stamp) a said;
       came = ap (λ l. (heard l).came) said.events
@@ -278,13 +304,13 @@ module _ {s : Served} {session after : SessionState} {log : Logged} {before late
     -- an event that is no answer
     pub quietly : (logged : Logged) (e : Event) → told_by e ≡ [] → is_coming e ≡ false
         → logged.events ≡ log.events ++ e ∷ [] → logged.answers ≡ log.answers
-        → Proceeds s (record { session = after; events = logged.events; answers = logged.answers; noted = later })
+        → Proceeds s (served after logged later first next others)
     quietly logged e none no_coming events answers =
         noting logged (e ∷ []) events
         (answers ∙ (sym (append-nil log.answers) ∙ ap (λ l. log.answers ++ l) (sym (ap (λ l. l ++ []) none))))
         (one_alone (λ e. is_coming e ≡ false) e no_coming)
 
-    pub silently : Follows s (record { session = after; events = log.events; answers = log.answers; noted = later })
+    pub silently : Follows s (served after log later first next others)
     silently = noting_still log [] (sym (append-nil log.events)) (sym (append-nil log.answers))
         (none_alone (λ e. is_coming e ≡ false)) (ap (λ l. (heard l).came) (append-nil log.events))
 
@@ -325,3 +351,27 @@ module _ {A B : Type 0} where
 pub on_err : {T E P : Type 0} (r : Result T E) → P → OnErr r P
 on_err (Ok x) p = tt
 on_err (Err x) p = p
+
+-- ---- what the methods of hands name
+
+pub ruleset serving = (goes_behind, goes_before, still_asked)
+
+pub ruleset leaving = (goes, goes_then, asked_come, still_come, asks_end, asked_leaving)
+
+pub ruleset opening = (goes, same, begun_take)
+
+pub ruleset refusing = (goes_then, asked_come, still_come)
+
+pub ruleset asking = (goes_before, goes_then, asked_come, still_come)
+
+pub ruleset committing = (goes_before, end_come, end_take)
+
+pub ruleset aborting = (goes, goes_then, end_come, still_come)
+
+pub ruleset giving_up = (then, goes, goes_behind, still_end, still_leaving)
+
+pub ruleset ending = (goes_before, end_take, still_leaving)
+
+pub ruleset showing = (city_seen, model_for, asked_come)
+
+pub ruleset looking = (objects_seen, look_for, asked_come)

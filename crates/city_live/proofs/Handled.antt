@@ -12,8 +12,8 @@ use Rattle.city_live.specs.declared.ghosts.event.Event.TheVariants as events
 use Rattle.city_live.specs.declared.request.Request.{Request}
 use Rattle.city_live.specs.Heard.{heard}
 use Rattle.city_live.specs.declared.ghosts.event.Event.{Event}
-use Rattle.city_live.specs.Serving.{Served, Arrives, HasAsked, Proceeds, IsHandled, told_in, is_coming, Sent, sent_by, sent_in}
-use Rattle.city_live.specs.Serving.{AreHandled}
+use Rattle.city_live.specs.Serving.{Served, Arrives, HasAsked, Proceeds, IsHandled, told_in, is_coming, Sent, sent_by}
+use Rattle.city_live.specs.Serving.{AreHandled, sent_in}
 use Rattle.city_live.proofs.Continued as continued
 use Rattle.city_live.proofs.Followed.{told_both}
 use Rattle.city_live.proofs.Replayed.{notes_then, stays_so}
@@ -27,8 +27,9 @@ arrived_asked {s} {u} {by} {tag} {request} a = record {
 
 pub handled : (by : List ℕ) (tag : Option (List ℕ)) (request : Request) (s t u v : Served) (answers : List Answer)
     → Arrives by tag request s t → Proceeds t u → answers ≡ u.answers → v.session ≡ u.session
-    → v.events ≡ u.events → v.answers ≡ [] → v.noted ≡ u.noted → IsHandled by tag request answers s v
-handled by tag request s t u v answers a f given session same none noted = record {
+    → v.events ≡ u.events → v.answers ≡ [] → v.noted ≡ u.noted → v.first ≡ u.first
+    → IsHandled by tag request answers s v
+handled by tag request s t u v answers a f given session same none noted first = record {
   more = f.more;
   events = same ∙ (f.events ∙ (ap (λ l. l ++ f.more) a.events
       ∙ append_assoc s.events (events.Comes by tag request ∷ []) f.more));
@@ -42,6 +43,7 @@ handled by tag request s t u v answers a f given session same none noted = recor
       (subst (λ o. Notes o u.noted (committed s.session.core) (committed u.session.core)) a.noted
       (subst (λ (x : SessionState). Notes t.noted u.noted (committed x.core) (committed u.session.core)) a.session
       f.notes)));
+  first = first ∙ (f.first ∙ a.first);
 }
 
 -- ---- requests, one after another
@@ -62,8 +64,8 @@ none_among (e ∷ es) all =
     ∙ none_among es (λ k d l. all (suc k) d (omega (arith, l)))
 
 pub handled_none : {s u : Served} (answers : List Answer) → answers ≡ s.answers → u.session ≡ s.session
-    → u.events ≡ s.events → u.answers ≡ [] → u.noted ≡ s.noted → AreHandled [] answers s u
-handled_none {s} {u} answers told session same none noted = record {
+    → u.events ≡ s.events → u.answers ≡ [] → u.noted ≡ s.noted → u.first ≡ s.first → AreHandled [] answers s u
+handled_none {s} {u} answers told session same none noted first = record {
   more = [];
   events = same ∙ sym (append-nil s.events);
   requests_are = refl;
@@ -71,6 +73,7 @@ handled_none {s} {u} answers told session same none noted = record {
   given = none;
   continues = subst (Continues s.session) (sym session) (continued.same s.session);
   notes = stays_so noted (ap (λ (x : SessionState). committed x.core) session);
+  first = first;
 }
 
 pub handled_more : {s t u : Served} {rs : List Sent} {xs ys zs : List Answer} (r : Sent) → AreHandled rs xs s t
@@ -89,4 +92,5 @@ handled_more {s} {t} {u} {rs} {xs} {ys} r a b both = record {
   given = b.given;
   continues = continued.then a.continues b.continues;
   notes = notes_then a.notes b.notes;
+  first = b.first ∙ a.first;
 }

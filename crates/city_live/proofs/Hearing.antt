@@ -10,9 +10,9 @@ use Rattle.city_session.specs.Live.{SessionState, grown_at}
 use Rattle.city_session.proofs.Recorded.{at_own, at_other}
 use Rattle.city_live.specs.declared.ghosts.event.Event.{Event}
 use Rattle.city_live.specs.Heard.{Talk, Heard, nothing, stamp_of, after_event, closed_by, IsFitAt, after_at, after}
-use Rattle.city_live.specs.Heard.{IsFitIn, heard_from, AreFitFrom, heard, AreFit, talk_of, AreSoFar, AreHeard, IsSeenIn}
+use Rattle.city_live.specs.Heard.{IsFitIn, heard_from, AreFitFrom, heard, AreFit, IsSeenIn}
+use Rattle.city_live.specs.SoFar.{talk_of, AreSoFar, AreHeard}
 use Rattle.city_live.specs.Heard.{what_said, came_after, IsFor}
-use Rattle.city_live.specs.Coming.{Came}
 use Rattle.city_live.specs.Works.{Working, work_at, WorksTo, SameWorks}
 
 -- ---- one event more

@@ -4,6 +4,10 @@ pub mod Finished
 pub mod Followed
 pub mod Handled
 pub mod Hearing
+pub mod Names
+pub mod Ran
 pub mod Replayed
 pub mod Saying
+pub mod Telling
+pub mod Watching
 pub mod Worked

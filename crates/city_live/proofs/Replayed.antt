@@ -11,25 +11,18 @@ use Rattle.city_model.specs.declared.end.Outcome.{Outcome}
 use Rattle.city_model.specs.CityMap.{CityMap}
 use Rattle.city_model.specs.Marks.{Snapshot, unmarked}
 use Rattle.city_model.specs.Meaning.{Effect, effect, GoesOn, is_refusal}
-use Rattle.city_model.specs.Runs.{Scripted, Change, after_change, map_left, view_at_end, goes_to}
+use Rattle.city_model.specs.Runs.{Scripted, map_left, view_at_end, goes_to}
 use Rattle.city_model.specs.Standing.{Held, Answered, IsTraceUnderLocks}
 use Rattle.city_model.proofs.History.{Next}
-use Rattle.std.specs.Arc.{arc_value}
-use Rattle.std.specs.declared.sync.Arc.{Arc}
-use Rattle.std.specs.declared.alloc.Global.{Global}
-use Rattle.city_txn.specs.declared.txn_core.Prepared.{Prepared}
-use Rattle.city_txn.specs.declared.txn_core.Prepared.TheVariants.{Ready}
-use Rattle.city_txn.specs.Changing.{IsChangeOf, IsPrepared}
-use Rattle.city_txn.specs.CoreState.{committed, view, is_open, snapshot, held, StandsUnderLocks}
-use Rattle.city_session.specs.Grown.{Grown, commands_in, unrefused}
+use Rattle.city_txn.specs.CoreState.{committed, view, snapshot, held}
+use Rattle.city_session.specs.Grown.{Grown}
 use Rattle.city_session.specs.Live.{SessionState, IsLive, grown_at}
 use Rattle.city_session.proofs.AsScripts.{leads_to}
 use Rattle.city_live.specs.declared.ghosts.event.Event.{Event}
-use Rattle.city_live.specs.declared.answer.Changed.{Changed}
 use Rattle.city_live.specs.declared.task.Task.{Task}
 use Rattle.city_live.specs.declared.task.Task.TheVariants as task
-use Rattle.city_live.specs.Ending.{IsAllowed, IsCounted}
-use Rattle.city_live.specs.Heard.{AreHeard, IsSoFar, IsKept, AreSoFar, ArePlain, answered_by, script_told}
+use Rattle.city_live.specs.Heard.{answered_by}
+use Rattle.city_live.specs.SoFar.{AreHeard, IsSoFar, IsKept, AreSoFar, ArePlain}
 use Rattle.city_live.specs.Noting.{Noted, firsts}
 use Rattle.city_live.specs.Replaying.{replayed, Notes, NotesCommands, NotesWork, NotesCommit}
 use Rattle.city_live.specs.Works.{Working, work_at, IsAtCommit, MayCommit, commands_as, commands_noted}
@@ -115,7 +108,8 @@ module _ {s : SessionState} {works : List (ℕ × Working)} {es : List Event} (r
       let far : AreSoFar (Some w) (Some g) =
       subst (λ o. AreSoFar (Some w) o) is (subst (λ o. AreSoFar o (grown_at s.growing stamp)) there (r.so_far stamp)) in
       ap (λ (x : Snapshot). x.map) (sym (noted_leads (held s.core stamp) (unmarked (committed s.core))
-      (snapshot s.core stamp) w.task w.kept g cs (subst MayCommit there may) far.0 far.1 (l.standing stamp g is).stands e))
+      (snapshot s.core stamp) w.task w.kept g cs (subst MayCommit there may) far.0 far.1
+      (l.standing stamp g is).stands e))
 
   -- its commit is noted, and then made
   commit_noted : (u : SessionState) (before after : Option (List Noted))
@@ -162,28 +156,3 @@ unkept (Some w) before e = record {
   noted = sym (nothing_more before);
   one = λ h. absurd (false≢true (ap is_some (sym e) ∙ h));
 }
-
--- ---- a commit that is ready
-
-nothing_done : (m n : CityMap) (change : Change) → after_change m change ≡ n → change ≡ [] → n ≡ m
-nothing_done m n change makes none = sym makes ∙ ap (after_change m) none
-
-module _ (s : SessionState) (stamp : ℕ) (change : Change) (p : Prepared) (is : p ≡ Ready change)
-    (prepared : IsPrepared s.core stamp p) where
-  of_change : IsChangeOf s.core stamp change
-  of_change = subst (IsPrepared s.core stamp) is prepared
-
-  pub counted_of : (before next : ℕ) → (next ≡ before → change ≡ []) → IsCounted stamp before next s
-  counted_of before next h = λ e.
-      nothing_done (committed s.core) (view s.core stamp) change of_change.makes_view (h e)
-
-  pub allowed_of : is_open s.core stamp ≡ true → IsAllowed stamp None s
-  allowed_of o = record { opened = o; lawful = of_change.lawful.1; leads = tt }
-
-  pub allowed_so : is_open s.core stamp ≡ true → (c : Arc Changed Global) → (arc_value c).change ≡ change
-      → IsAllowed stamp (Some c) s
-  allowed_so o c e = record {
-    opened = o;
-    lawful = of_change.lawful.1;
-    leads = ap (after_change (committed s.core)) e ∙ of_change.makes_view;
-  }

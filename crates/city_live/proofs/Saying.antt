@@ -31,12 +31,16 @@ use Rattle.city_live.specs.declared.ghosts.event.Event.{Event}
 use Rattle.city_live.specs.declared.ghosts.event.Event.TheVariants as events
 use Rattle.city_live.specs.declared.task.Task.{Task}
 use Rattle.city_live.specs.declared.task.Task.TheVariants as task
-use Rattle.city_live.specs.Heard.{Talk, IsFitWhat, after_what, closed_by_what, answered_talk, talk_of, AreSoFar}
-use Rattle.city_live.specs.Heard.{IsSoFar, IsKept, after_fault, IsFitFault}
+use Rattle.city_live.specs.Heard.{Talk, IsFitWhat, after_what, closed_by_what, answered_talk}
+use Rattle.city_live.specs.SoFar.{talk_of, AreSoFar}
+use Rattle.city_live.specs.Heard.{after_fault, IsFitFault}
+use Rattle.city_live.specs.SoFar.{IsSoFar, IsKept}
 use Rattle.city_live.specs.Coming.{OfCame, IsAskedFor, IsTakenFor}
 use Rattle.city_live.specs.Noting.{firsts, or_no_command}
-use Rattle.city_live.specs.Heard.{AreHeard, with_one, asked_in, script_in, since_so_far, since_of, told_so_far}
-use Rattle.city_live.specs.Heard.{told_of, asked_talk, heard}
+use Rattle.city_live.specs.Heard.{with_one, script_in, since_so_far}
+use Rattle.city_live.specs.SoFar.{AreHeard, asked_in, since_of, told_so_far}
+use Rattle.city_live.specs.Heard.{asked_talk, heard}
+use Rattle.city_live.specs.SoFar.{told_of}
 use Rattle.city_live.specs.Running.{IsWhatOf, IsWhatBehind}
 use Rattle.city_live.specs.Serving.{Logged, IsSaid}
 use Rattle.city_live.specs.Works.{Working, work_at, WorksTo, IsWorkOf, IsAskedAt, answered, with_asked, tag_at, tag_of}
@@ -211,7 +215,8 @@ what_before {s} {u} stamp command (replies.Refused cause) acted what h =
     let reply : Reply = replies.Refused cause in (
       h.0,
       λ g e. h.1 (with_reply command reply g)
-          (at_own stamp _ s.growing u.growing acted.growing ∙ ap (option_map (told_after command (acts.Replied reply))) e)
+          (at_own stamp _ s.growing u.growing acted.growing
+          ∙ ap (option_map (told_after command (acts.Replied reply))) e)
           ∙ one_more_refused g.told command reply refl,
       h.2,
     )

@@ -1,5 +1,5 @@
 -- What was said of scripts and transactions, as their hands heard it.
-use Rattle.std.specs.Prelude.{◌≡◌, ◌==◌, ◌<◌, ◌++◌, ℕ, List, [], ◌∷◌, Bool, true, false, Option, None, Some, All}
+use Rattle.std.specs.Prelude.{◌≡◌, ◌==◌, ◌++◌, ℕ, List, [], ◌∷◌, Bool, true, false, Option, None, Some, All}
 use Rattle.std.specs.Prelude.{length, option_map, if◌then◌else◌, slice_get, is_some}
 use Rattle.std.specs.Arc.{arc_value}
 use Rattle.city_model.specs.declared.command.Cause.{Cause}
@@ -11,13 +11,11 @@ use Rattle.city_model.specs.declared.end.Outcome.{Outcome}
 use Rattle.city_model.specs.declared.end.Outcome.TheVariants as outcomes
 use Rattle.city_model.specs.CityMap.{CityMap, CityValue, object_at}
 use Rattle.city_model.specs.Meaning.{is_refusal}
-use Rattle.city_model.specs.Runs.{Scripted, after_change, model_after}
+use Rattle.city_model.specs.Runs.{Scripted, model_after}
 use Rattle.city_model.specs.Scripts.{is_end}
 use Rattle.city_model.specs.Standing.{Answered}
-use Rattle.city_session.specs.Grown.{Grown, Closed, commands_in, unrefused, scripts_of, ends_of}
-use Rattle.city_session.specs.Live.{SessionState, grown_at}
+use Rattle.city_session.specs.Grown.{Grown, Closed, unrefused, scripts_of, ends_of}
 use Rattle.city_live.specs.declared.answer.Answer.{Answer}
-use Rattle.city_live.specs.declared.answer.Changed.{Changed}
 use Rattle.city_live.specs.declared.answer.Ended.{Ended}
 use Rattle.city_live.specs.declared.answer.Fault.{Fault}
 use Rattle.city_live.specs.declared.answer.Fault.TheVariants as faults
@@ -30,8 +28,7 @@ use Rattle.city_live.specs.declared.task.Task.TheVariants as task
 use Rattle.city_live.specs.Coming.{Came, just_came, with_stamp, taken, OfCame, IsBegunFor, IsAskedFor, IsTakenFor}
 use Rattle.city_live.specs.Coming.{IsAnswerFor}
 use Rattle.city_live.specs.Coming.{answered_by as left_by_answer}
-use Rattle.city_live.specs.Noting.{firsts}
-use Rattle.city_live.specs.Works.{Working, first_of, work_at}
+use Rattle.city_live.specs.Works.{Working, first_of}
 
 -- ---- what a hand heard of its script or transaction
 
@@ -258,20 +255,15 @@ IsFitAt (events.Asks t hand tag s) o = OfTalk (IsIdle (arc_value hand) s) o
 IsFitAt (events.Requests t hand tag) o = OfTalk (λ k. k.by ≡ arc_value hand) o
 IsFitAt (events.Says t a is_told) o = OfTalk (IsSaidTo a) o
 
--- ---- an answer of none: what is seen is the model after the ends so far
+-- ---- an answer of none: what is seen is the model after the ends so far; of changes see `Watched`
 
 abbrev pub model_of : CityValue → List Closed → CityMap
 model_of start closed = model_after (scripts_of closed) (object_at start.1) (ends_of closed)
 
--- the change leads from the model so far to the model after one more that is committed
-pub record IsStep (start : CityValue) (ended : List Closed) (changed : Changed) : Type 0 where
-  pub next : Grown
-  pub leads : after_change (model_of start ended) changed.change ≡ model_of start (ended ++ (next, true) ∷ [])
-
 abbrev pub IsSeenAt : CityValue → List Closed → What → Type 0
 IsSeenAt start ended (told.Look objects version) = All (λ o. o.1 ≡ model_of start ended o.0) objects
 IsSeenAt start ended (told.Model city version) = (city.0 ≡ start.0) × (object_at city.1 ≡ model_of start ended)
-IsSeenAt start ended (told.Changed c) = IsStep start ended (arc_value c)
+IsSeenAt start ended (told.Changed c) = Unit {0}
 IsSeenAt start ended (told.Watching version) = Unit {0}
 IsSeenAt start ended told.Unwatched = Unit {0}
 IsSeenAt start ended told.Bye = Unit {0}
@@ -339,64 +331,3 @@ heard es = heard_from nothing es
 
 abbrev pub AreFit : CityValue → List Event → Type 0
 AreFit start es = AreFitFrom start nothing es
-
--- ---- what is said, and a session
-
-abbrev pub since_of : Option Grown → ℕ
-since_of None = 0
-since_of (Some g) = g.since
-
-abbrev pub told_of : Option Grown → List Answered
-told_of None = []
-told_of (Some g) = g.told
-
-abbrev pub asked_in : Task → Option Command
-asked_in (task.Script s rs cause) = None
-asked_in (task.Single asked) = first_of asked
-
--- a whole script's replies are told at its end
-abbrev pub told_so_far : Task → List Answered → List Answered
-told_so_far (task.Script s rs cause) told = []
-told_so_far (task.Single asked) told = told
-
--- what its hand heard of a work, by the work and the open transaction of its stamp
-abbrev pub talk_of : Option Grown → Working → Talk
-talk_of o w = record {
-  by = w.by;
-  tag = w.tag;
-  name = w.name;
-  script = script_in w.task;
-  since = since_so_far w.task (since_of o);
-  told = told_so_far w.task (told_of o);
-  asked = asked_in w.task;
-}
-
--- none of the replies is a refusal
-abbrev pub ArePlain : List Reply → Type 0
-ArePlain [] = Unit {0}
-ArePlain (r ∷ rs) = (is_refusal r ≡ false) × ArePlain rs
-
--- a script's replies are those of its commands in its open transaction, and a transaction is open
-abbrev pub IsSoFar : Task → Option Grown → Type 0
-IsSoFar (task.Script s rs cause) None = (rs ≡ []) × (cause ≡ None)
-IsSoFar (task.Script s rs cause) (Some g) = (g.told ≡ script_told s.1 rs cause) × ArePlain rs
-IsSoFar (task.Single asked) None = ⊥
-IsSoFar (task.Single asked) (Some g) = Unit {0}
-
--- a transaction keeps for a journal what it was told, but for refused commands
-abbrev pub IsKept : Task → Option (List Scripted) → Option Grown → Type 0
-IsKept (task.Single asked) (Some ks) (Some g) = firsts ks ≡ commands_in (unrefused g.told)
-IsKept t ks o = Unit {0}
-
-abbrev pub AreSoFar : Option Working → Option Grown → Type 0
-AreSoFar None o = Unit {0}
-AreSoFar (Some w) o = IsSoFar w.task o × IsKept w.task w.kept o
-
--- Each event fits those before it; what was told of all that is over is what has ended in the session, in its order;
--- and what was told of each work is what its open transaction was told.
-pub record AreHeard (s : SessionState) (works : List (ℕ × Working)) (es : List Event) : Type 0 where
-  pub fit : AreFit s.start es
-  pub ended : (heard es).ended ≡ s.closed
-  pub talks : (t : ℕ) → (heard es).talks t ≡ option_map (talk_of (grown_at s.growing t)) (work_at works t)
-  pub so_far : (t : ℕ) → AreSoFar (work_at works t) (grown_at s.growing t)
-  pub given : (t : ℕ) → is_some (work_at works t) ≡ true → t < s.stamps

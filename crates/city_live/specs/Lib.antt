@@ -3,9 +3,12 @@ pub mod Continuing
 pub mod Ending
 pub mod Entering
 pub mod Heard
+pub mod Naming
 pub mod Noting
 pub mod Replaying
 pub mod Room
 pub mod Running
 pub mod Serving
+pub mod SoFar
+pub mod Watched
 pub mod Works

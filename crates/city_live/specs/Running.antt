@@ -10,7 +10,8 @@ use Rattle.city_session.specs.Live.{SessionState, grown_at}
 use Rattle.city_live.specs.declared.answer.What.{What}
 use Rattle.city_live.specs.declared.answer.What.TheVariants as told
 use Rattle.city_live.specs.Continuing.{GoesOn}
-use Rattle.city_live.specs.Heard.{script_told, ArePlain}
+use Rattle.city_live.specs.Heard.{script_told}
+use Rattle.city_live.specs.SoFar.{ArePlain}
 
 -- The open transaction was told these replies to its commands, and why the next was refused, if it was; the other
 -- transactions are as before.

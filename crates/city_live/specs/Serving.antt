@@ -13,18 +13,23 @@ use Rattle.city_live.specs.Coming.{Came, just_came, end_asked, with_stamp, OfCam
 use Rattle.city_live.specs.Heard.{Talk, heard, AreFit}
 use Rattle.city_live.specs.Noting.{Noted}
 use Rattle.city_live.specs.Replaying.{Notes}
+use Rattle.city_live.specs.Watched.{AreWatched, at_rest}
 
 -- the events so far, and the answers that aren't given out yet
 pub record Logged : Type 0 where
   pub events : List Event
   pub answers : List Answer
 
--- with what the journal has noted, if contracts see it
+-- The same, with what the journal has noted, if contracts see it; the version that the city was opened at, and the one
+-- so far; and who watches, in byte order.
 pub record Served : Type 0 where
   pub session : SessionState
   pub events : List Event
   pub answers : List Answer
   pub noted : Option (List Noted)
+  pub first : ℕ
+  pub version : ℕ
+  pub watchers : List (List ℕ)
 
 -- the answers that are told
 abbrev pub told_by : Event → List Answer
@@ -55,6 +60,7 @@ pub record Proceeds (s u : Served) : Type 0 where
   pub alone : All (λ e. is_coming e ≡ false) more
   pub continues : Continues s.session u.session
   pub notes : Notes s.noted u.noted (committed s.session.core) (committed u.session.core)
+  pub first : u.first ≡ s.first
 
 -- A request comes, and nothing else happens.
 pub record Arrives (by : List ℕ) (tag : Option (List ℕ)) (request : Request) (s u : Served) : Type 0 where
@@ -62,6 +68,9 @@ pub record Arrives (by : List ℕ) (tag : Option (List ℕ)) (request : Request)
   pub answers : u.answers ≡ s.answers
   pub session : u.session ≡ s.session
   pub noted : u.noted ≡ s.noted
+  pub first : u.first ≡ s.first
+  pub version : u.version ≡ s.version
+  pub watchers : u.watchers ≡ s.watchers
 
 -- the request that came last, until it is taken or answered
 abbrev pub came_in : Served → Option Came
@@ -104,17 +113,19 @@ pub record IsLeaving (by : List ℕ) (tag : Option (List ℕ)) (s : Served) : Ty
 
 -- What has ended is a serial history, and each was told what it would have been told there (IsLive); each event fits
 -- those before it; and what was told of all that is over is what has ended, in its order. What was told of a
--- transaction that goes on is what the session told it.
+-- transaction that goes on is what the session told it. The version and the watchers are those that were told, and each
+-- watcher was told of each change once, before the commit's hand.
 pub record IsServed (s : Served) : Type 0 where
   pub live : IsLive s.session
   pub fit : AreFit s.session.start s.events
   pub ended : (heard s.events).ended ≡ s.session.closed
   pub growing : (t : ℕ) (k : Talk) → (heard s.events).talks t ≡ Some k → k.script ≡ None
       → grown_at s.session.growing t ≡ Some (record { since = k.since; told = k.told })
+  pub watched : AreWatched s.session.start s.first s.events (at_rest s.version s.watchers)
 
 -- What came of a request of this hand, and of no other: these answers are given out, what was said and told meanwhile
--- and not given out before, and the session goes on. What the journal has noted meanwhile, run on the city before, gives
--- the city now.
+-- and not given out before, and the session goes on. What the journal has noted meanwhile, run on the city before,
+-- gives the city now.
 pub record IsHandled (by : List ℕ) (tag : Option (List ℕ)) (request : Request) (answers : List Answer) (s u : Served)
     : Type 0 where
   pub more : List Event
@@ -124,6 +135,7 @@ pub record IsHandled (by : List ℕ) (tag : Option (List ℕ)) (request : Reques
   pub given : u.answers ≡ []
   pub continues : Continues s.session u.session
   pub notes : Notes s.noted u.noted (committed s.session.core) (committed u.session.core)
+  pub first : u.first ≡ s.first
 
 -- ---- a list of requests
 
@@ -150,3 +162,4 @@ pub record AreHandled (requests : List Sent) (answers : List Answer) (s u : Serv
   pub given : u.answers ≡ []
   pub continues : Continues s.session u.session
   pub notes : Notes s.noted u.noted (committed s.session.core) (committed u.session.core)
+  pub first : u.first ≡ s.first

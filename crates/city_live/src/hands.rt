@@ -6,7 +6,7 @@ ghost use Rattle.city_model.specs.Relations.{IsLawful};
 ghost use Rattle.city_txn.specs.CoreState.{committed};
 ghost use Rattle.city_live.specs.declared.request.Request.TheVariants as requests;
 ghost use Rattle.city_live.specs.Coming.{end_asked};
-ghost use Rattle.city_live.specs.Serving.{Follows, Proceeds, IsHandled, IsServed};
+ghost use Rattle.city_live.specs.Serving.{Proceeds, IsHandled, IsServed};
 ghost use Rattle.city_live.specs.Serving.{HasCome, HasAsked, IsLeaving, AreHandled};
 
 use crate::answer::{Answer, Fault, Name};
@@ -25,7 +25,7 @@ use city_model::command::Command;
 use city_model::id_list::is_same_id;
 use city_model::script::Script;
 use std::alloc::Global;
-use std::collections::{BTreeMap, BTreeSet};
+use std::collections::BTreeSet;
 use std::marker::Model;
 use std::sync::Arc;
 
@@ -53,10 +53,7 @@ struct Sender {
 pub struct Hands<J: Journal> {
     alloc: Global,
     talks: Talks<J>,
-    /// The number of commits with writes.
-    version: u64,
     roster: Roster,
-    watchers: BTreeMap<Text, Name>,
     waiting: Waiting,
     /// The stamps due to be tried again.
     due: BTreeSet<u64>,
@@ -88,13 +85,14 @@ impl<J: Journal> Hands<J> {
         ensures events { result.events ≡ [] }
         ensures answers { result.answers ≡ [] }
         ensures noted { result.noted ≡ J.noted journal }
+        ensures first { result.first ≡ version }
+        ensures version { result.version ≡ version }
+        ensures watchers { result.watchers ≡ [] }
     {
         Hands {
             alloc,
-            talks: Talks::open(alloc, city, journal),
-            version,
+            talks: Talks::open(alloc, city, version, journal),
             roster: Roster::new(alloc),
-            watchers: BTreeMap::new(alloc),
             waiting: Waiting::new(alloc),
             due: BTreeSet::new(alloc),
             all_due: false,
@@ -102,7 +100,9 @@ impl<J: Journal> Hands<J> {
     }
 
     /// Whatever the hands have asked for, in any order: what has ended is a serial history, what each hand was told of
-    /// it is what it would have been told there, and what it was told of what is open is what that was told.
+    /// it is what it would have been told there, and what it was told of what is open is what that was told. Each
+    /// watcher was told of each change once, before the hand that made it was told of its commit, and all versions that
+    /// were told are right.
     pub fn are_served(&self)
         ensures { IsServed self.now }
     {
@@ -110,8 +110,10 @@ impl<J: Journal> Hands<J> {
     }
 
     /// The number of commits with writes. Doesn't allocate.
-    pub fn version(&self) -> u64 {
-        self.version
+    pub fn version(&self) -> u64
+        ensures { result ≡ self.now.version }
+    {
+        self.talks.version()
     }
 
     /// The journal. Doesn't allocate.
@@ -146,9 +148,9 @@ impl<J: Journal> Hands<J> {
         Ok(self.talks.take_answers())
     }
 
-    /// Handles requests, one after another, and gives all answers out in their order. What has ended by then is a serial
-    /// history, what each hand was told of it is what it would have been told there, and each change that was told leads
-    /// from the model before it to the model after it.
+    /// Handles requests, one after another, and gives all answers out in their order. What has ended by then is a
+    /// serial history, what each hand was told of it is what it would have been told there, and each change that was
+    /// told leads from the model before its commit to the model after it.
     ///
     /// If memory runs out, the first of them are done, and their answers are lost.
     pub fn handle_each(
@@ -179,7 +181,7 @@ impl<J: Journal> Hands<J> {
     }
 
     /// Does a request of a hand, and goes on with all works it was in the way of.
-    #[tactic(auto, using(crate::proofs::Followed::goes_behind, crate::proofs::Followed::goes_before, crate::proofs::Followed::still_asked))]
+    #[tactic(auto, using(crate::proofs::Followed::serving))]
     fn serve(&mut self, sender: &Sender, tag: Tag, request: Request)
         requires { HasAsked (arc_value sender.now.name) tag request self.old }
         ensures { Proceeds self.old self.new }
@@ -290,7 +292,7 @@ impl<J: Journal> Hands<J> {
     }
 
     /// Aborts a work of the hand, and forgets the hand.
-    #[tactic(auto, using(crate::proofs::Followed::goes, crate::proofs::Followed::goes_then, crate::proofs::Followed::asked_come, crate::proofs::Followed::still_come, crate::proofs::Followed::asks_end, crate::proofs::Followed::asked_leaving))]
+    #[tactic(auto, using(crate::proofs::Followed::leaving))]
     fn bye_open(&mut self, sender: &Sender, tag: Tag, stamp: u64)
         requires { HasAsked (arc_value sender.now.name) tag requests.Bye self.old }
         ensures { Proceeds self.old self.new }
@@ -310,11 +312,11 @@ impl<J: Journal> Hands<J> {
         requires { IsLeaving (arc_value sender.now.name) tag self.old }
         ensures { Proceeds self.old self.new }
     {
-        self.stop_watching(sender);
         if let Some(seat) = sender.seat {
+            self.roster.put_watch(seat, false);
             let _before = self.roster.put_at(seat, At::Idle);
         }
-        self.say_bye(sender, tag);
+        self.talks.say_bye(&sender.name, tag);
     }
 }
 

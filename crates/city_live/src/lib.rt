@@ -3,7 +3,7 @@
 //! - `hands`: the hands, and the effects of requests; `roster`, `hand`: the known hands, and one of them
 //! - `request`, `answer`: requests and answers
 //! - `talks`: the works on a session, and what is said of each
-//! - `table`, `work`, `task`: the works by their stamps; `log`: what is said
+//! - `table`, `work`, `task`: the works by their stamps; `log`: what is said; `watchers`: the hands that watch
 //! - `journal`: commits noted before they are made
 //! - `going`, `gone`: who holds a work back, and how far it came
 //! - `in_the_way`, `waiting`: locks in the way of a command, and the waiting by their reasons
@@ -24,6 +24,7 @@ mod table;
 mod talks;
 mod task;
 mod waiting;
+mod watchers;
 mod work;
 
 pub use answer::{Answer, Blocked, Changed, Ended, Fault, Name, What};

@@ -1,13 +1,16 @@
 //! What is said.
-ghost use Rattle.std.specs.Prelude.{◌≡◌, []};
+ghost use Rattle.std.specs.Prelude.{◌≡◌, [], IfSome};
+ghost use Rattle.std.specs.Arc.{arc_value};
+ghost use Rattle.city_live.specs.Ending.{IsChangeTo, IsToldOne};
 ghost use Rattle.city_live.specs.Serving.{IsSaid};
 
-use crate::answer::Answer;
+use crate::answer::{Answer, Changed, Name, What};
 use crate::ghosts::events::Events;
 use city_model::OutOfMemory;
 use std::alloc::Global;
 use std::marker::Model;
 use std::mem::replace;
+use std::sync::Arc;
 
 /// The answers that aren't given out yet; contracts see all events, too.
 #[derive(Drop)]
@@ -77,6 +80,18 @@ impl Log {
         }
     }
 
+    /// Tells a hand of a change, unless memory runs out. Where there is room, it doesn't allocate.
+    pub fn tell(&mut self, hand: &Name, changed: &Arc<Changed>)
+        ensures { IsToldOne (arc_value hand.now) (arc_value changed.now) self.old self.new }
+    {
+        let Some(answer) = change_to(hand, changed) else {
+            let noted = self.events().misses(hand, changed);
+            self.note(noted);
+            return;
+        };
+        self.says(None, answer);
+    }
+
     /// Gives the answers out. Doesn't allocate.
     pub fn take(&mut self, alloc: Global) -> Vec<Answer>
         ensures given { result.items ≡ self.old.answers }
@@ -85,4 +100,18 @@ impl Log {
     {
         replace(&mut self.answers, Vec::new(alloc))
     }
+}
+
+/// The answer that tells a hand of a change. `None` if memory runs out.
+fn change_to(hand: &Name, changed: &Arc<Changed>) -> Option<Answer>
+    ensures { IfSome result (IsChangeTo (arc_value hand.now) (arc_value changed.now)) }
+{
+    let hand = Arc::try_clone(hand).ok()?;
+    let changed = Arc::try_clone(changed).ok()?;
+    let what = What::Changed(changed);
+    Some(Answer {
+        hand,
+        tag: None,
+        what,
+    })
 }

@@ -14,15 +14,15 @@ ghost use Rattle.city_live.specs.Coming.{request_for, IsNamed};
 ghost use Rattle.city_live.specs.declared.request.Request.TheVariants as requests;
 ghost use Rattle.city_live.specs.Serving.{Follows, Proceeds, IsServed, Arrives, HasAsked, HasBegun, MayTake, IsLeaving};
 
-use crate::answer::{Answer, Fault, Name, What};
+use crate::answer::{Answer, Name};
 use crate::in_the_way::InTheWay;
 use crate::journal::Journal;
 use crate::log::Log;
 use crate::request::{Request, Tag};
 use crate::table::Table;
 use crate::task::Task;
+use crate::watchers::Watchers;
 use crate::work::{Place, Work};
-use city_members::copied::Copied;
 use city_members::text::Text;
 use city_model::OutOfMemory;
 use city_model::city::City;
@@ -30,7 +30,6 @@ use city_model::script::{Script, is_end};
 use city_session::Session;
 use std::alloc::Global;
 use std::marker::Model;
-use std::sync::Arc;
 
 mod ends;
 mod goes;
@@ -42,8 +41,9 @@ pub use ends::{Ending, Preparing};
 /// The works of hands on a session, and what is said of each.
 ///
 /// Whatever its methods are called for, in any order: what is said of a work is what the session told it, and what the
-/// journal notes leads to the same city. Contracts see the session, the events so far, the answers that aren't given out
-/// yet, and what the journal has noted.
+/// journal notes leads to the same city. Each commit's change is told to all that watch, before its hand is told its
+/// end. Contracts see the session, the events so far, the answers that aren't given out yet, what the journal has
+/// noted, the versions at the opening and by now, and who watches.
 #[derive(Drop)]
 pub struct Talks<J: Journal> {
     alloc: Global,
@@ -51,6 +51,11 @@ pub struct Talks<J: Journal> {
     table: Table,
     log: Log,
     journal: J,
+    /// The version at the opening, for contracts alone.
+    first: u64,
+    /// The number of commits with writes.
+    version: u64,
+    watchers: Watchers,
 }
 
 impl<J: Journal> Model for Talks<J> {
@@ -69,16 +74,21 @@ impl<J: Journal> Model for Talks<J> {
       events = h.log.events;
       answers = h.log.answers;
       noted = J.noted h.journal;
+      first = h.first;
+      version = h.version;
+      watchers = h.watchers;
     } };
 
-    ghost use Rattle.city_live.specs.Heard.{AreHeard};
+    ghost use Rattle.city_live.specs.SoFar.{AreHeard};
+    ghost use Rattle.city_live.specs.Watched.{AreWatched, at_rest};
 
-    ghost invariant = { λ h. AreHeard h.session h.table h.log.events };
+    ghost invariant = { λ h. AreHeard h.session h.table h.log.events
+        × AreWatched h.session.start h.first h.log.events (at_rest h.version h.watchers) };
 }
 
 impl<J: Journal> Talks<J> {
-    /// No works yet, on this city, with this journal. Doesn't allocate.
-    pub fn open(alloc: Global, city: City, journal: J) -> Talks<J>
+    /// No works yet, on this city, at this version, with this journal. Doesn't allocate.
+    pub fn open(alloc: Global, city: City, version: u64, journal: J) -> Talks<J>
         requires { IsLawful (object_at city.1) }
         ensures start { result.session.start ≡ city }
         ensures closed { result.session.closed ≡ [] }
@@ -86,6 +96,9 @@ impl<J: Journal> Talks<J> {
         ensures events { result.events ≡ [] }
         ensures answers { result.answers ≡ [] }
         ensures noted { result.noted ≡ J.noted journal }
+        ensures first { result.first ≡ version }
+        ensures version { result.version ≡ version }
+        ensures watchers { result.watchers ≡ [] }
     {
         Talks {
             alloc,
@@ -93,15 +106,25 @@ impl<J: Journal> Talks<J> {
             table: Table::new(alloc),
             log: Log::new(alloc),
             journal,
+            first: version,
+            version,
+            watchers: Watchers::new(alloc),
         }
     }
 
     /// The ended transactions are a serial history, and what was said of each is what it was told there; what was said
-    /// of an open one is what it was told.
+    /// of an open one is what it was told. Each watcher was told of each change once.
     pub fn are_served(&self)
         ensures { IsServed self.now }
     {
         self.session.is_live();
+    }
+
+    /// The number of commits with writes. Doesn't allocate.
+    pub fn version(&self) -> u64
+        ensures { result ≡ self.now.version }
+    {
+        self.version
     }
 
     /// The journal. Doesn't allocate.
@@ -160,6 +183,9 @@ impl<J: Journal> Talks<J> {
         ensures events { self.new.events ≡ self.old.events }
         ensures answers { self.new.answers ≡ [] }
         ensures noted { self.new.noted ≡ self.old.noted }
+        ensures first { self.new.first ≡ self.old.first }
+        ensures version { self.new.version ≡ self.old.version }
+        ensures watchers { self.new.watchers ≡ self.old.watchers }
     {
         self.log.take(self.alloc)
     }

@@ -1,10 +1,11 @@
 //! The work of a hand: a script, or a transaction with commands one by one.
-ghost use Rattle.std.specs.Prelude.{◌≡◌, None, Some, MatchOption, IfSome, IfNone, IsTrue, OnOk, OnErr, IfErr, false, option_map};
+ghost use Rattle.std.specs.Prelude.{◌≡◌, None, Some, MatchOption, IfSome, IfNone, IsTrue, OnOk, OnErr, IfErr, false};
+ghost use Rattle.std.specs.Prelude.{option_map};
 ghost use Rattle.std.specs.Arc.{arc_value};
 ghost use Rattle.city_live.specs.declared.task.Task.TheVariants as task;
 ghost use Rattle.city_live.specs.Entering.{commands_by};
-ghost use Rattle.city_live.specs.Works.{next_of, asking, requested, answered, again, is_whole, with_done, none_kept, replied};
-ghost use Rattle.city_live.specs.Works.{commands_noted, IsFresh};
+ghost use Rattle.city_live.specs.Works.{next_of, asking, requested, answered, again, is_whole, with_done, none_kept};
+ghost use Rattle.city_live.specs.Works.{replied, commands_noted, IsFresh};
 ghost use Rattle.city_live.specs.Room.{HasRoomForOne};
 ghost use Rattle.city_live.specs.Works.{after_taking, with_script, IsAtCommit};
 
@@ -247,7 +248,8 @@ impl Work {
         Ok(())
     }
 
-    /// Takes the tag of a request for all of it, if it is the hand's. Else false, and nothing changes. Doesn't allocate.
+    /// Takes the tag of a request for all of it, if it is the hand's. Else false, and nothing changes. Doesn't
+    /// allocate.
     #[tactic(auto, using(city_members::proofs::Ids::same_id_true))]
     pub fn request_by(&mut self, hand: &Name, tag: Tag) -> bool
         ensures taken { IsTrue result → (self.old.by ≡ arc_value hand.now) × (self.new ≡ requested tag self.old) }

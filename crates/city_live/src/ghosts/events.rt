@@ -1,8 +1,9 @@
 //! The events so far, for contracts only.
-ghost use Rattle.std.specs.Prelude.{◌≡◌, ◌++◌, ◌∷◌, []};
+ghost use Rattle.std.specs.Prelude.{◌≡◌, ◌++◌, ◌∷◌, [], None, false};
+ghost use Rattle.city_live.specs.declared.answer.What.TheVariants as told;
 ghost use Rattle.city_live.specs.declared.ghosts.event.Event.{Event};
 
-use crate::answer::{Answer, Name};
+use crate::answer::{Answer, Changed, Name};
 use crate::ghosts::event::Event;
 use crate::ghosts::no_rule::NoRule;
 use crate::request::{Request, Tag};
@@ -11,6 +12,7 @@ use city_members::text::Text;
 use city_model::script::Script;
 use logbook::{Opening as FirstEntries, Seen, Start};
 use std::marker::Model;
+use std::sync::Arc;
 
 /// The first entries of `Events::none`.
 pub struct NoEvents;
@@ -117,6 +119,27 @@ impl<'a> FirstEntries<WithAnswer<'a>, Event> for OneAnswer {
     ghost log = { λ count with. with.events.now ++ Event.Says with.stamp with.answer.now with.is_told ∷ [] };
 }
 
+/// Events, and a change that a watcher is not told.
+#[derive(Clone, Copy)]
+pub struct WithMissed<'a> {
+    events: &'a Events,
+    hand: &'a Name,
+    changed: &'a Arc<Changed>,
+}
+
+/// The first entries of `Events::misses`.
+pub struct OneMissed;
+
+impl<'a> FirstEntries<WithMissed<'a>, Event> for OneMissed {
+    ghost use Rattle.std.specs.Prelude.{◌++◌, ◌∷◌, [], None, false};
+    ghost use Rattle.city_live.specs.declared.answer.What.TheVariants as told;
+    ghost use Rattle.city_live.specs.declared.ghosts.event.Event.{Event};
+
+    ghost log = { λ count with. with.events.now
+        ++ Event.Says None (record { hand = with.hand.now; tag = None; what = told.Changed with.changed.now }) false
+        ∷ [] };
+}
+
 /// The events so far. It is zero-sized; contracts see them.
 #[derive(Drop)]
 pub struct Events {
@@ -213,6 +236,20 @@ impl Events {
             is_told,
         };
         let (seen, _pens) = Seen::open_row::<WithAnswer<'_>, OneAnswer>(&with, Start::alone(), 0);
+        Events { seen }
+    }
+
+    /// These, and that a watcher is not told of a change.
+    pub fn misses(&self, hand: &Name, changed: &Arc<Changed>) -> Events
+        ensures { result ≡ self.now
+            ++ Event.Says None (record { hand = hand.now; tag = None; what = told.Changed changed.now }) false ∷ [] }
+    {
+        let with = WithMissed {
+            events: self,
+            hand,
+            changed,
+        };
+        let (seen, _pens) = Seen::open_row::<WithMissed<'_>, OneMissed>(&with, Start::alone(), 0);
         Events { seen }
     }
 }

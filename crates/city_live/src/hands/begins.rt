@@ -58,7 +58,7 @@ impl<J: Journal> Hands<J> {
     }
 
     /// Begins a script or a transaction of a hand without one.
-    #[tactic(auto, using(crate::proofs::Followed::goes_then, crate::proofs::Followed::asked_come, crate::proofs::Followed::still_come))]
+    #[tactic(auto, using(crate::proofs::Followed::refusing))]
     fn begin_at(&mut self, sender: &Sender, seat: usize, tag: Tag, name: Text, task: Task)
         requires fresh { IsFresh task }
         requires named { IsNamed name task }
@@ -73,7 +73,7 @@ impl<J: Journal> Hands<J> {
     }
 
     /// Opens a work of a hand without one, under its kept age if it has one. If memory runs out, nothing changes.
-    #[tactic(auto, using(crate::proofs::Followed::goes, crate::proofs::Followed::same, crate::proofs::Followed::begun_take))]
+    #[tactic(auto, using(crate::proofs::Followed::opening))]
     fn open(
         &mut self,
         sender: &Sender,
@@ -125,7 +125,7 @@ impl<J: Journal> Hands<J> {
     }
 
     /// Does the first command of a script in the hand's transaction.
-    #[tactic(auto, using(crate::proofs::Followed::goes_before, crate::proofs::Followed::goes_then, crate::proofs::Followed::asked_come, crate::proofs::Followed::still_come))]
+    #[tactic(auto, using(crate::proofs::Followed::asking))]
     pub(super) fn act_by(&mut self, sender: &Sender, tag: Tag, script: Script)
         requires { HasAsked (arc_value sender.now.name) tag (requests.Do script) self.old }
         ensures { Proceeds self.old self.new }

@@ -1,7 +1,7 @@
 //! How scripts and transactions end.
 ghost use Rattle.std.specs.Prelude.{◌≡◌, true, false, IfErr, OnErr};
 ghost use Rattle.std.specs.Arc.{arc_value};
-ghost use Rattle.city_live.specs.Ending.{IsAllowed, IsCounted};
+ghost use Rattle.city_live.specs.Ending.{IsAllowed, IsNumbered};
 ghost use Rattle.city_live.specs.Serving.{Follows, Proceeds, AsksEnd, IsLeaving};
 
 use super::{Hands, Sender};
@@ -26,7 +26,7 @@ enum Committing {
 
 impl<J: Journal> Hands<J> {
     /// Commits the hand's transaction.
-    #[tactic(auto, using(crate::proofs::Followed::goes_before, crate::proofs::Followed::end_come, crate::proofs::Followed::end_take))]
+    #[tactic(auto, using(crate::proofs::Followed::committing))]
     pub(super) fn commit_by(&mut self, sender: &Sender, tag: Tag)
         requires { AsksEnd true (arc_value sender.now.name) tag self.old }
         ensures { Proceeds self.old self.new }
@@ -83,36 +83,28 @@ impl<J: Journal> Hands<J> {
     fn commit(&mut self, stamp: u64) -> Committing
         ensures { Follows self.old self.new }
     {
-        let before = self.version;
-        match self.talks.prepare(stamp, before, self.watchers.len()) {
-            Preparing::Ready(changed, version) => {
-                self.commit_ready(stamp, changed, before, version)
-            }
+        match self.talks.prepare(stamp) {
+            Preparing::Ready(changed, version) => self.commit_ready(stamp, changed, version),
             Preparing::Refused(cause) => Committing::Refused(cause),
             Preparing::NoMemory => Committing::NoMemory,
         }
     }
 
-    /// Commits a work that is ready, with these versions before and after it.
+    /// Commits a work that is ready, with this version after it.
     #[tactic(auto, using(crate::proofs::Followed::then, crate::proofs::Followed::same))]
     fn commit_ready(
         &mut self,
         stamp: u64,
         changed: Option<Arc<Changed>>,
-        before: u64,
         version: u64,
     ) -> Committing
         requires allowed { IsAllowed stamp changed self.old.session }
-        requires counted { IsCounted stamp before version self.old.session }
+        requires numbered { IsNumbered stamp version changed self.old }
         ensures { Follows self.old self.new }
     {
         self.release(stamp);
-        match self
-            .talks
-            .commit(stamp, changed, before, version, &self.watchers)
-        {
+        match self.talks.commit(stamp, changed, version) {
             Ok(seat) => {
-                self.version = version;
                 self.leave(seat);
                 Committing::Done
             }
@@ -122,7 +114,7 @@ impl<J: Journal> Hands<J> {
     }
 
     /// Aborts the hand's work.
-    #[tactic(auto, using(crate::proofs::Followed::goes, crate::proofs::Followed::goes_then, crate::proofs::Followed::end_come, crate::proofs::Followed::still_come))]
+    #[tactic(auto, using(crate::proofs::Followed::aborting))]
     pub(super) fn abort_by(&mut self, sender: &Sender, tag: Tag)
         requires { AsksEnd false (arc_value sender.now.name) tag self.old }
         ensures { Proceeds self.old self.new }
@@ -136,7 +128,7 @@ impl<J: Journal> Hands<J> {
     }
 
     /// Aborts a work, and answers its waiting request. If memory runs out, the tag comes back, and nothing changes.
-    #[tactic(auto, using(crate::proofs::Followed::then, crate::proofs::Followed::goes_behind, crate::proofs::Followed::still_end, crate::proofs::Followed::still_leaving, crate::proofs::Followed::goes))]
+    #[tactic(auto, using(crate::proofs::Followed::giving_up))]
     pub(super) fn give_up(&mut self, sender: &Sender, tag: Tag, stamp: u64) -> Result<(), Tag>
         requires { AsksEnd false (arc_value sender.now.name) tag self.old }
         ensures goes { Proceeds self.old self.new }
@@ -166,7 +158,7 @@ impl<J: Journal> Hands<J> {
     }
 
     /// Aborts a work, as its hand asks.
-    #[tactic(auto, using(crate::proofs::Followed::goes_before, crate::proofs::Followed::end_take, crate::proofs::Followed::still_leaving))]
+    #[tactic(auto, using(crate::proofs::Followed::ending))]
     fn end_for(&mut self, sender: &Sender, tag: Tag, stamp: u64)
         requires { AsksEnd false (arc_value sender.now.name) tag self.old }
         ensures goes { Proceeds self.old self.new }
@@ -186,7 +178,7 @@ impl<J: Journal> Hands<J> {
             return;
         }
         self.release(stamp);
-        let seat = self.talks.end(stamp, ending, self.version);
+        let seat = self.talks.end(stamp, ending);
         self.leave(seat);
     }
 

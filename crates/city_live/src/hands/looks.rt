@@ -3,10 +3,10 @@ ghost use Rattle.std.specs.Prelude.{◌≡◌, All, IfOk, map};
 ghost use Rattle.std.specs.Arc.{arc_value};
 ghost use Rattle.city_txn.specs.CoreState.{committed};
 ghost use Rattle.city_live.specs.declared.request.Request.TheVariants as requests;
-ghost use Rattle.city_live.specs.Serving.{Proceeds, HasAsked, IsLeaving};
+ghost use Rattle.city_live.specs.Serving.{Proceeds, HasAsked};
 
 use super::{Hands, Sender};
-use crate::answer::{Fault, Name, What};
+use crate::answer::{Fault, What};
 use crate::journal::Journal;
 use crate::request::Tag;
 use city_members::copied::Copied;
@@ -14,7 +14,6 @@ use city_members::sequence::Sequence;
 use city_members::text::Id;
 use city_model::OutOfMemory;
 use city_model::object::Object;
-use std::sync::Arc;
 
 impl<J: Journal> Hands<J> {
     /// Tells the hand of each change from now on.
@@ -30,84 +29,56 @@ impl<J: Journal> Hands<J> {
     }
 
     /// Tells the hand at a seat of each change from now on.
-    #[tactic(auto, using(crate::proofs::Followed::asked_come, crate::proofs::Followed::watching_for))]
+    #[tactic(auto, using(crate::proofs::Followed::asked_come, crate::proofs::Followed::still_same))]
     fn watch_at(&mut self, sender: &Sender, seat: usize, tag: Tag)
         requires { HasAsked (arc_value sender.now.name) tag requests.Watch self.old }
         ensures { Proceeds self.old self.new }
     {
-        match self.add_watcher(&sender.name) {
-            Ok(()) => {
-                self.roster.put_watch(seat, true);
-                self.talks
-                    .say(&sender.name, tag, What::Watching(self.version));
-            }
-            Err(OutOfMemory) => self.refuse(sender, tag, Fault::NoMemory),
+        match self.talks.watch(&sender.name, tag) {
+            Ok(()) => self.roster.put_watch(seat, true),
+            Err(tag) => self.refuse(sender, tag, Fault::NoMemory),
         }
     }
 
-    fn add_watcher(&mut self, hand: &Name) -> Result<(), OutOfMemory>
-        ensures { self.new ≡ self.old }
-    {
-        let key = hand.copy(self.alloc)?;
-        let name = Arc::try_clone(hand)?;
-        self.watchers.insert(key, name)?;
-        Ok(())
-    }
-
     /// Tells the hand of no change any more.
-    #[tactic(auto, using(crate::proofs::Followed::unwatched_for))]
     pub(super) fn unwatch(&mut self, sender: &Sender, tag: Tag)
         requires { HasAsked (arc_value sender.now.name) tag requests.Unwatch self.old }
         ensures { Proceeds self.old self.new }
     {
-        self.stop_watching(sender);
-        self.talks.say(&sender.name, tag, What::Unwatched);
-    }
-
-    /// Tells the hand that it is forgotten.
-    #[tactic(auto, using(crate::proofs::Followed::bye_for))]
-    pub(super) fn say_bye(&mut self, sender: &Sender, tag: Tag)
-        requires { IsLeaving (arc_value sender.now.name) tag self.old }
-        ensures { Proceeds self.old self.new }
-    {
-        self.talks.say(&sender.name, tag, What::Bye);
-    }
-
-    pub(super) fn stop_watching(&mut self, sender: &Sender)
-        ensures { self.new ≡ self.old }
-    {
         if let Some(seat) = sender.seat {
-            self.watchers.remove(&*sender.name);
             self.roster.put_watch(seat, false);
         }
+        self.talks.unwatch(&sender.name, tag);
     }
 
     /// Tells the committed city.
-    #[tactic(auto, using(crate::proofs::Followed::city_seen, crate::proofs::Followed::model_for, crate::proofs::Followed::asked_come))]
+    #[tactic(auto, using(crate::proofs::Followed::showing))]
     pub(super) fn show_model(&mut self, sender: &Sender, tag: Tag)
         requires { HasAsked (arc_value sender.now.name) tag requests.Model self.old }
         ensures { Proceeds self.old self.new }
     {
+        let version = self.talks.version();
         self.talks.session().is_live();
         match self.talks.session().committed_city() {
             Ok(city) => self
                 .talks
-                .say(&sender.name, tag, What::Model(city, self.version)),
+                .say(&sender.name, tag, What::Model(city, version)),
             Err(OutOfMemory) => self.refuse(sender, tag, Fault::NoMemory),
         }
     }
 
     /// Tells the committed objects of ids.
-    #[tactic(auto, using(crate::proofs::Followed::objects_seen, crate::proofs::Followed::look_for, crate::proofs::Followed::asked_come))]
+    #[tactic(auto, using(crate::proofs::Followed::looking))]
     pub(super) fn look(&mut self, sender: &Sender, tag: Tag, ids: Sequence<Id>)
         requires { HasAsked (arc_value sender.now.name) tag (requests.Look ids) self.old }
         ensures { Proceeds self.old self.new }
     {
+        let version = self.talks.version();
         self.talks.session().is_live();
         match self.committed(ids) {
             Ok(objects) => self
                 .talks
-                .say(&sender.name, tag, What::Look(objects, self.version)),
+                .say(&sender.name, tag, What::Look(objects, version)),
             Err(OutOfMemory) => self.refuse(sender, tag, Fault::NoMemory),
         }
     }

@@ -1,5 +1,4 @@
 //! How a work goes on.
-ghost use Rattle.std.specs.Prelude.{◌≡◌};
 ghost use Rattle.city_live.specs.Serving.{Follows};
 
 use super::Hands;

@@ -1,22 +1,22 @@
 //! How works end.
-ghost use Rattle.std.specs.Prelude.{◌≡◌, ◌<◌, ℕ, [], Some, true, IfOk, IfSome};
+ghost use Rattle.std.specs.Prelude.{◌≡◌, Some, true, IfOk};
 ghost use Rattle.city_txn.specs.CoreState.{is_open};
 ghost use Rattle.std.specs.Arc.{arc_value};
 ghost use Rattle.city_session.specs.Grown.{Grown};
 ghost use Rattle.city_session.specs.Live.{grown_at};
-ghost use Rattle.city_live.specs.Ending.{IsReady, IsAllowed, IsEnded, IsUnrefused, AreTold, IsTelling, told_replies};
-ghost use Rattle.city_live.specs.Ending.{IsTellingOf, IsCounted};
+ghost use Rattle.city_live.specs.Ending.{IsReady, IsUntoldReady, IsAllowed, IsNumbered, IsMade, IsEnded, IsUnrefused};
+ghost use Rattle.city_live.specs.Ending.{AreTold, told_replies};
 ghost use Rattle.city_live.specs.Serving.{Follows};
 
 use super::Talks;
 use super::notes::note_commit;
-use crate::answer::{Answer, Blocked, Changed, Ended, Fault, Name, What};
+use crate::answer::{Answer, Blocked, Changed, Ended, Fault, What};
 use crate::journal::{Journal, Unwritten};
 use crate::log::Log;
 use crate::task::Task;
+use crate::watchers::Watchers;
 use city_members::copied::Copied;
 use city_members::sequence::Sequence;
-use city_members::text::Text;
 use city_model::OutOfMemory;
 use city_model::change::Change;
 use city_model::command::{Cause, Reply};
@@ -24,7 +24,6 @@ use city_model::end::Outcome;
 use city_model::script::{Script, is_end};
 use city_session::{Session, Writes};
 use city_txn::Prepared;
-use std::collections::BTreeMap;
 use std::sync::Arc;
 
 /// The most answers of an end and of what follows at once, besides the watchers'.
@@ -81,49 +80,52 @@ impl<J: Journal> Talks<J> {
         Some(seat)
     }
 
-    /// Makes a commit ready, with room for all that it tells: so many watchers, its hand, and as much again.
-    pub fn prepare(&mut self, stamp: u64, version: u64, watchers: usize) -> Preparing
+    /// Makes a commit ready, with room for all that it tells: the watchers, its hand, and as much again.
+    pub fn prepare(&mut self, stamp: u64) -> Preparing
         ensures same { self.new ≡ self.old }
-        ensures ready { IsReady stamp version result self.new.session }
+        ensures ready { IsReady stamp result self.new }
     {
         if !self.session.is_open(stamp) || !self.table.may_commit(stamp) {
             return Preparing::NoMemory;
         }
-        if watchers == 0 && has_written(&self.session, stamp) {
-            let Some(version) = version.checked_add(1) else {
+        let is_unwatched = self.watchers.is_empty();
+        if is_unwatched && has_written(&self.session, stamp) {
+            let Some(next) = self.version.checked_add(1) else {
                 return Preparing::NoMemory;
             };
-            return untold(&self.session, stamp, version);
+            return untold(&self.session, stamp, next);
         }
         let change = match self.session.prepare(stamp) {
             Ok(Prepared::Ready(change)) => change,
             Ok(Prepared::Refused(cause)) => return Preparing::Refused(cause),
             Err(OutOfMemory) => return Preparing::NoMemory,
         };
-        let Some(next) = version_after(version, &change) else {
+        if change.len() == 0 {
+            return Preparing::Ready(None, self.version);
+        }
+        let Some(next) = self.version.checked_add(1) else {
             return Preparing::NoMemory;
         };
-        if watchers == 0 || next == version {
+        if is_unwatched {
             return Preparing::Ready(None, next);
         }
-        match self.shared(stamp, change, next, watchers) {
+        match self.shared(stamp, change, next) {
             Ok(changed) => Preparing::Ready(Some(changed), next),
             Err(OutOfMemory) => Preparing::NoMemory,
         }
     }
 
-    /// Shares a change for so many watchers, and makes room to tell them.
+    /// Shares a change for the watchers, and makes room to tell them.
     fn shared(
         &mut self,
         stamp: u64,
         change: Change,
         version: u64,
-        watchers: usize,
     ) -> Result<Arc<Changed>, OutOfMemory>
         ensures same { self.new ≡ self.old }
-        ensures changed { IfOk result (λ changed. (arc_value changed).change ≡ change) }
+        ensures changed { IfOk result (λ changed. IsMade stamp change version (arc_value changed) self.new) }
     {
-        let Some(room) = watchers.checked_add(ENDS_ANSWERS) else {
+        let Some(room) = self.watchers.len().checked_add(ENDS_ANSWERS) else {
             return Err(OutOfMemory);
         };
         self.log.reserve(room)?;
@@ -142,23 +144,22 @@ impl<J: Journal> Talks<J> {
         Ok(shared)
     }
 
-    /// Notes a commit in the journal, if it wrote, and only then commits the work, and tells the watchers of its change,
-    /// and then its hand. Returns the hand's seat. If the commit can't be noted, nothing changes.
+    /// Notes a commit in the journal, if it wrote, and only then commits the work, and tells the watchers of its
+    /// change, and then its hand. Returns the hand's seat. If the commit can't be noted, nothing changes.
     pub fn commit(
         &mut self,
         stamp: u64,
         changed: Option<Arc<Changed>>,
-        before: u64,
         version: u64,
-        watchers: &BTreeMap<Text, Name>,
     ) -> Result<Option<usize>, Unwritten>
         requires allowed { IsAllowed stamp changed self.old.session }
-        requires counted { IsCounted stamp before version self.old.session }
+        requires numbered { IsNumbered stamp version changed self.old }
         ensures { Follows self.old self.new }
     {
         if !self.table.may_commit(stamp) {
             return Ok(None);
         }
+        let before = self.version;
         note_commit(&mut self.journal, &self.table, stamp, before, version)?;
         let Some(work) = self.table.take(stamp) else {
             unreachable!()
@@ -168,7 +169,8 @@ impl<J: Journal> Talks<J> {
         self.session.is_live();
         self.session.commit(stamp);
         self.session.is_live();
-        tell_all(&mut self.log, watchers, changed);
+        tell_all(&mut self.log, &self.watchers, changed);
+        self.version = version;
         let (hand, name, task, tag) = work.into_parts();
         let ended = Ended {
             name,
@@ -183,7 +185,7 @@ impl<J: Journal> Talks<J> {
     }
 
     /// Undoes a work, and tells its hand its end. Returns the hand's seat.
-    pub fn end(&mut self, stamp: u64, ending: Ending, version: u64) -> Option<usize>
+    pub fn end(&mut self, stamp: u64, ending: Ending) -> Option<usize>
         ensures { Follows self.old self.new }
     {
         if !self.session.is_open(stamp) {
@@ -202,7 +204,7 @@ impl<J: Journal> Talks<J> {
             since,
             replies,
             outcome,
-            version,
+            version: self.version,
         };
         let what = What::Ended(ended);
         self.log.says(Some(stamp), Answer { hand, tag, what });
@@ -237,20 +239,10 @@ fn has_written(session: &Session, stamp: u64) -> bool {
     }
 }
 
-/// The version after a commit of this change, if there is one. Doesn't allocate.
-fn version_after(version: u64, change: &Change) -> Option<u64>
-    ensures { IfSome result (λ next. next ≡ version → change.now ≡ []) }
-{
-    if change.len() == 0 {
-        return Some(version);
-    }
-    version.checked_add(1)
-}
-
 /// Makes a commit ready whose change nobody is told, with this version after it.
 fn untold(session: &Session, stamp: u64, version: u64) -> Preparing
     requires { is_open session.now.core stamp ≡ true }
-    ensures { (before : ℕ) → before < version → IsReady stamp before result session.now }
+    ensures { IsUntoldReady stamp version result session.now }
 {
     match session.refusal(stamp) {
         Ok(None) => Preparing::Ready(None, version),
@@ -310,36 +302,10 @@ fn outcome_at(script: &Script, place: usize, ending: Ending) -> Outcome
 }
 
 /// Tells each watcher of a change, if there is one.
-fn tell_all(log: &mut Log, watchers: &BTreeMap<Text, Name>, changed: Option<Arc<Changed>>)
-    ensures { AreTold (IsTellingOf changed) log.old log.new }
+fn tell_all(log: &mut Log, watchers: &Watchers, changed: Option<Arc<Changed>>)
+    ensures { AreTold watchers.now changed log.old log.new }
 {
     if let Some(changed) = changed {
-        tell_each(log, watchers, &changed);
-    }
-}
-
-/// Tells each watcher of a change.
-fn tell_each(log: &mut Log, watchers: &BTreeMap<Text, Name>, changed: &Arc<Changed>)
-    ensures { AreTold (IsTelling (arc_value changed.now)) log.old log.new }
-{
-    for (_, hand) in watchers.iter() {
-        tell_change(log, hand, changed);
-    }
-}
-
-/// Tells a watcher of a change.
-fn tell_change(log: &mut Log, hand: &Name, changed: &Arc<Changed>)
-    ensures { AreTold (IsTelling (arc_value changed.now)) log.old log.new }
-{
-    if let (Ok(hand), Ok(changed)) = (Arc::try_clone(hand), Arc::try_clone(changed)) {
-        let what = What::Changed(changed);
-        log.says(
-            None,
-            Answer {
-                hand,
-                tag: None,
-                what,
-            },
-        );
+        watchers.tell(log, &changed);
     }
 }

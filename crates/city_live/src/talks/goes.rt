@@ -1,11 +1,12 @@
 //! How a work goes on.
-ghost use Rattle.std.specs.Prelude.{◌≡◌, ℕ, None, Some, true, false, not, length, IfOk, IfErr, IfNone};
+ghost use Rattle.std.specs.Prelude.{◌≡◌, None, Some, true, false, not, length, IfOk, IfErr, IfNone};
 ghost use Rattle.city_model.specs.declared.command.Reply.TheVariants as replies;
 ghost use Rattle.city_model.specs.Meaning.{is_refusal};
 ghost use Rattle.city_txn.specs.CoreState.{is_open};
 ghost use Rattle.city_session.specs.Grown.{Grown, unrefused};
 ghost use Rattle.city_session.specs.Live.{grown_at};
-ghost use Rattle.city_live.specs.Heard.{script_told, ArePlain};
+ghost use Rattle.city_live.specs.Heard.{script_told};
+ghost use Rattle.city_live.specs.SoFar.{ArePlain};
 ghost use Rattle.city_live.specs.Running.{RunsTo, IsWhatBehind};
 ghost use Rattle.city_live.specs.Serving.{Follows};
 

@@ -1,9 +1,11 @@
 //! What is said besides ends.
-ghost use Rattle.std.specs.Prelude.{◌≡◌};
+ghost use Rattle.std.specs.Prelude.{◌≡◌, IfErr, OnErr};
 ghost use Rattle.std.specs.Arc.{arc_value};
+ghost use Rattle.city_live.specs.declared.request.Request.TheVariants as requests;
 ghost use Rattle.city_live.specs.Coming.{IsAnswerFor};
 ghost use Rattle.city_live.specs.Heard.{IsSeenAt};
-ghost use Rattle.city_live.specs.Serving.{Follows, Proceeds, HasCome, came_in};
+ghost use Rattle.city_live.specs.Serving.{Follows, Proceeds, HasCome, HasAsked, IsLeaving, came_in};
+ghost use Rattle.city_live.specs.Watched.{IsShown};
 
 use super::Talks;
 use crate::answer::{Answer, Blocked, Fault, Name, What};
@@ -18,11 +20,73 @@ impl<J: Journal> Talks<J> {
     /// Answers a request by what is seen of what has ended.
     pub fn say(&mut self, hand: &Name, tag: Tag, what: What)
         requires seen { IsSeenAt self.old.session.start self.old.session.closed what }
+        requires shown { IsShown self.old.version what }
         requires answers { IsAnswerFor (arc_value hand.now) tag what (came_in self.old) }
         ensures { Proceeds self.old self.new }
     {
         if let Ok(hand) = Arc::try_clone(hand) {
             self.log.says(None, Answer { hand, tag, what });
+        }
+    }
+
+    /// Adds a watcher, and tells it so. If memory runs out, the tag comes back, and nothing changes.
+    pub fn watch(&mut self, hand: &Name, tag: Tag) -> Result<(), Tag>
+        requires { HasAsked (arc_value hand.now) tag requests.Watch self.old }
+        ensures goes { Proceeds self.old self.new }
+        ensures err { OnErr result (self.new ≡ self.old) }
+        ensures back { IfErr result (λ t. t ≡ tag) }
+    {
+        let Ok(name) = Arc::try_clone(hand) else {
+            return Err(tag);
+        };
+        if self.watchers.add(self.alloc, hand).is_err() {
+            return Err(tag);
+        }
+        let what = What::Watching(self.version);
+        self.log.says(
+            None,
+            Answer {
+                hand: name,
+                tag,
+                what,
+            },
+        );
+        Ok(())
+    }
+
+    /// Takes a watcher out, and tells it so.
+    pub fn unwatch(&mut self, hand: &Name, tag: Tag)
+        requires { HasAsked (arc_value hand.now) tag requests.Unwatch self.old }
+        ensures { Proceeds self.old self.new }
+    {
+        if let Ok(name) = Arc::try_clone(hand) {
+            self.watchers.remove(&**hand);
+            self.log.says(
+                None,
+                Answer {
+                    hand: name,
+                    tag,
+                    what: What::Unwatched,
+                },
+            );
+        }
+    }
+
+    /// Takes a watcher out that leaves, and tells it that it is forgotten.
+    pub fn say_bye(&mut self, hand: &Name, tag: Tag)
+        requires { IsLeaving (arc_value hand.now) tag self.old }
+        ensures { Proceeds self.old self.new }
+    {
+        if let Ok(name) = Arc::try_clone(hand) {
+            self.watchers.remove(&**hand);
+            self.log.says(
+                None,
+                Answer {
+                    hand: name,
+                    tag,
+                    what: What::Bye,
+                },
+            );
         }
     }
 

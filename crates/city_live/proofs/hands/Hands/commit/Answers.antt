@@ -1,4 +1,4 @@
 use Rattle.city_live.proofs.hands.Hands.commit.Goals as goal
 
-pub commit_ready-requires-clause-counted : goal.commit_ready-requires-clause-counted
-commit_ready-requires-clause-counted g c = c.in-Ready.ensures.ready.1
+pub commit_ready-requires-clause-numbered : goal.commit_ready-requires-clause-numbered
+commit_ready-requires-clause-numbered g c = c.in-Ready.ensures.ready.1

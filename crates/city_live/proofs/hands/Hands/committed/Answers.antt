@@ -1,4 +1,4 @@
-use Rattle.std.proofs.Common.{◌≡◌, ◌∙◌, [], ap, arith, subst, sym, All}
+use Rattle.std.proofs.Common.{◌≡◌, ◌∙◌, [], arith, subst, sym, All}
 use Rattle.std.proofs.lemmas.List.{nil_from_length}
 use Rattle.std.proofs.lemmas.List.Elements.{All-push}
 use Rattle.std.specs.Vec.Iter.{into_iter_items}
@@ -9,7 +9,8 @@ use Rattle.city_live.proofs.hands.Hands.committed.Goals as goal
 pub loop-id-init : goal.loop-id-init
 loop-id-init g c = (
   none_alone_of (λ o. o.1 ≡ committed c.args.self.now.session.core o.0) _ c.in_ok-objects.ensures,
-  ids_over _ _ c.in_ok-objects.ensures (c.into_iter-id-iterator.ensures.into_iter_gives.0 ∙ c.into_vec-id-items.ensures),
+  ids_over _ _ c.in_ok-objects.ensures
+      (c.into_iter-id-iterator.ensures.into_iter_gives.0 ∙ c.into_vec-id-items.ensures),
 )
 
 pub loop-id-preserved : goal.loop-id-preserved

@@ -10,7 +10,7 @@ loop-hand-init g c = (
   subst (λ (v : Served). AreHandled [] c.take_answers-all.result.items v c.take_answers-all.new.self) c.self.view_is
       (handled_none {s = c.self.inside.talks} {u = c.take_answers-all.new.self} c.take_answers-all.result.items
       c.take_answers-all.ensures.given c.take_answers-all.ensures.session c.take_answers-all.ensures.events
-      c.take_answers-all.ensures.answers c.take_answers-all.ensures.noted),
+      c.take_answers-all.ensures.answers c.take_answers-all.ensures.noted c.take_answers-all.ensures.first),
   c.into_iter-hand-iterator.ensures.into_iter_gives.0,
 )
 

@@ -9,6 +9,7 @@ use Rattle.city_live.proofs.Followed.{quietly, silently, one_more, begun_for, ca
 use Rattle.city_live.proofs.Finished.{heard_begins, begins_on, ok_of}
 use Rattle.city_live.specs.Serving.{Follows, came_in}
 use Rattle.city_live.proofs.Replayed.{stays}
+use Rattle.city_live.proofs.Watching.{watched_event, watched_from_there}
 use Rattle.city_live.proofs.talks.Talks.begin.Goals as goal
 use Rattle.city_live.proofs.talks.Talks.begin.Goals.{then-is_open, else-is_open}
 
@@ -27,16 +28,21 @@ pub returns-then-is_err-clause-goes : goal.returns-then-is_err-clause-goes
 returns-then-is_err-clause-goes g c = (returns-then-is_err-clause-err g c).goes
 
 pub invariant_of-self-2 : goal.invariant_of-self-2
-invariant_of-self-2 g c =
-    heard_begins c.self.invariant c.in_ok-stamp.stamp c.free-kept.result c.in_ok-stamp.ensures.begun
-    (λ t e. subst (λ o. IfSome o (λ v. work_at c.self.inside.table v ≡ None)) e c.free-kept.ensures)
-    c.new-work.result (subst (λ (w : Working). IsFresh w.task) (sym c.new-work.ensures) c.requires.fresh)
-    c.is_kept.result (ap (λ (w : Working). w.kept) c.new-work.ensures)
-    (ok_of c.add.result c.add.ensures.added (sym c.is_err.ensures.value ∙ c.if-is_err.false))
-    (begun_for c.new-work.result _ c.args.name c.args.task c.args.tag.now _ c.new-work.ensures c.requires.fresh c.requires.named
-    _ (ap came_in c.self.view_is ∙ c.requires.asked.came))
-    (one_more (events.Begins c.in_ok-stamp.stamp c.new-work.result) c.events.ensures c.begins-noted.ensures
-    c.note.ensures.events)
+invariant_of-self-2 g c = (
+  heard_begins c.self.invariant.0 c.in_ok-stamp.stamp c.free-kept.result c.in_ok-stamp.ensures.begun
+      (λ t e. subst (λ o. IfSome o (λ v. work_at c.self.inside.table v ≡ None)) e c.free-kept.ensures)
+      c.new-work.result (subst (λ (w : Working). IsFresh w.task) (sym c.new-work.ensures) c.requires.fresh)
+      c.is_kept.result (ap (λ (w : Working). w.kept) c.new-work.ensures)
+      (ok_of c.add.result c.add.ensures.added (sym c.is_err.ensures.value ∙ c.if-is_err.false))
+      (begun_for c.new-work.result _ c.args.name c.args.task c.args.tag.now _ c.new-work.ensures c.requires.fresh
+      c.requires.named _ (ap came_in c.self.view_is ∙ c.requires.asked.came))
+      (one_more (events.Begins c.in_ok-stamp.stamp c.new-work.result) c.events.ensures c.begins-noted.ensures
+      c.note.ensures.events),
+  watched_from_there c.in_ok-stamp.ensures.begun.begun.start
+      (watched_event c.self.invariant.1 (events.Begins c.in_ok-stamp.stamp c.new-work.result)
+      (one_more (events.Begins c.in_ok-stamp.stamp c.new-work.result) c.events.ensures c.begins-noted.ensures
+      c.note.ensures.events) refl refl),
+)
 
 pub returns-clause-begun : goal.returns-clause-begun
 returns-clause-begun g c = record {

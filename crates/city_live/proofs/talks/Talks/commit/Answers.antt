@@ -2,45 +2,53 @@ use Rattle.city_live.proofs.Followed as followed
 use Rattle.std.specs.Prelude.{true}
 use Rattle.std.proofs.Common.{refl, ◌∙◌, sym, ap, subst}
 use Rattle.city_model.specs.declared.end.Outcome.TheVariants as outcomes
-use Rattle.city_live.specs.Ending.{EndsAs, IsCounted, Leads, told_replies}
-use Rattle.city_live.specs.Heard.{AreHeard}
+use Rattle.city_live.specs.Ending.{EndsAs, IsNumbered, Leads, told_replies}
+use Rattle.city_live.specs.SoFar.{AreHeard}
 use Rattle.city_live.specs.Serving.{Served}
 use Rattle.city_live.proofs.Continued.{same, ended}
 use Rattle.city_live.proofs.Followed.{then, noting_still, saying, silently}
-use Rattle.city_live.proofs.Finished.{heard_ended, heard_tellings, steps_if, committing, came_tellings, alone_tellings}
+use Rattle.city_live.proofs.Finished.{heard_ended, committing}
 use Rattle.city_live.proofs.Replayed.{stays, commit_notes, stays_so}
+use Rattle.city_live.proofs.Telling.{heard_tellings, came_tellings, alone_tellings, watched_commit, counted_so}
 use Rattle.city_live.proofs.talks.Talks.commit.Goals as goal
 
 pub invariant_of-self-2 : goal.invariant_of-self-2
 invariant_of-self-2 g c =
     let there = sym c.take.ensures.taken ∙ c.in-Some.is in
-    heard_ended
-    (subst (AreHeard c.self.inside.session c.self.inside.table) (sym c.tell_all.ensures.events)
-    (heard_tellings c.self.inside.log.events c.self.invariant c.args.changed
-    (steps_if c.args.stamp c.args.changed c.is_live.ensures c.is_live-2.ensures
-    (subst (λ (v : Served). Leads v.session c.args.stamp c.args.changed) (sym c.self.view_is) c.requires.allowed.leads)
-    c.commit.ensures.city c.commit.ensures.ended)
-    c.tell_all.ensures.more c.tell_all.ensures.all))
-    c.args.stamp c.in-Some.work there c.take.ensures.left _ c.commit.ensures.ended _ c.into_parts-hand.ensures.hand
-    c.into_parts-hand.ensures.tag c.says.ensures _ refl c.into_parts-hand.ensures.name c.since_of-since.ensures
-    (subst (λ x. EndsAs c.in-Some.work.task x outcomes.Committed true)
+    let ends = subst (λ x. EndsAs c.in-Some.work.task x outcomes.Committed true)
     (sym (c.replies_of.ensures ∙ ap told_replies c.into_parts-hand.ensures.task))
-    (committing _ c.in-Some.work (c.may_commit.ensures c.if-not-may_commit.false) there))
+    (committing _ c.in-Some.work (c.may_commit.ensures c.if-not-may_commit.false) there) in (
+      heard_ended
+          (subst (AreHeard c.self.inside.session c.self.inside.table) (sym c.tell_all.ensures.events)
+          (heard_tellings c.self.inside.log.events c.self.invariant.0 c.self.inside.watchers c.args.changed
+          c.tell_all.ensures.more c.tell_all.ensures.tellings))
+          c.args.stamp c.in-Some.work there c.take.ensures.left _ c.commit.ensures.ended _
+          c.into_parts-hand.ensures.hand c.into_parts-hand.ensures.tag c.says.ensures _ refl
+          c.into_parts-hand.ensures.name c.since_of-since.ensures ends,
+      watched_commit c.self.invariant.0 c.self.invariant.1 c.is_live.ensures c.is_live-2.ensures c.args.stamp
+          c.args.version c.in-Some.work there c.commit.ensures.ended c.commit.ensures.city c.args.changed
+          (subst (λ (v : Served). Leads v.session c.args.stamp c.args.changed) (sym c.self.view_is)
+          c.requires.allowed.leads)
+          _ (subst (IsNumbered c.args.stamp c.args.version c.args.changed) (sym c.self.view_is) c.requires.numbered)
+          c.tell_all.ensures _ c.says.ensures _ refl c.into_parts-hand.ensures.name c.since_of-since.ensures ends refl,
+    )
 
 pub returns : goal.returns
 returns g c =
     let there = sym c.take.ensures.taken ∙ c.in-Some.is in
     (then)
-    (noting_still c.self.view_is (same c.self.inside.session) (stays refl) c.tell_all.new.log c.tell_all.ensures.more
-    c.tell_all.ensures.events c.tell_all.ensures.answers
-    (alone_tellings c.args.changed c.tell_all.ensures.more c.tell_all.ensures.all)
-    (came_tellings c.self.inside.log.events c.args.changed c.tell_all.ensures.more c.tell_all.ensures.all))
+    (noting_still {next = c.self.inside.version} {others = c.self.inside.watchers} c.self.view_is
+    (same c.self.inside.session) (stays refl) c.tell_all.new.log c.tell_all.ensures.more c.tell_all.ensures.events
+    c.tell_all.ensures.answers
+    (alone_tellings c.self.inside.watchers c.args.changed c.tell_all.ensures.more c.tell_all.ensures.tellings)
+    (came_tellings c.self.inside.log.events c.self.inside.watchers c.args.changed c.tell_all.ensures.more
+    c.tell_all.ensures.tellings))
     (saying refl (ended c.args.stamp _ c.commit.ensures.ended)
-    (commit_notes c.self.invariant c.is_live.ensures c.args.stamp c.in-Some.work there
-    (c.may_commit.ensures c.if-not-may_commit.false) c.commit.new.self c.args.before c.args.version _ _
+    (commit_notes c.self.invariant.0 c.is_live.ensures c.args.stamp c.in-Some.work there
+    (c.may_commit.ensures c.if-not-may_commit.false) c.commit.new.self c.self.inside.version c.args.version _ _
     c.commit.ensures.ended.ended c.commit.ensures.ended.is_there c.commit.ensures.city
-    (subst (λ (v : Served). IsCounted c.args.stamp c.args.before c.args.version v.session) (sym c.self.view_is)
-    c.requires.counted)
+    (counted_so c.args.stamp c.args.version c.args.changed _
+    (subst (IsNumbered c.args.stamp c.args.version c.args.changed) (sym c.self.view_is) c.requires.numbered))
     c.in_ok-note_commit.ensures.ok)
     c.says.new.self _ _ c.says.ensures)
 

@@ -7,16 +7,21 @@ use Rattle.city_live.specs.Serving.{Served, came_in, IsByeOf}
 use Rattle.std.specs.Arc.{arc_value}
 use Rattle.city_live.proofs.Saying.{heard_request}
 use Rattle.city_live.proofs.Replayed.{stays}
+use Rattle.city_live.proofs.Watching.{watched_event}
 use Rattle.city_live.proofs.talks.Talks.request.Goals as goal
 
 pub invariant_of-self-2 : goal.invariant_of-self-2
-invariant_of-self-2 g c =
-    heard_request c.self.invariant c.args.stamp c.args.hand.now c.args.tag (c.if-not-request.ensures.taken refl).0
-    (c.if-not-request.ensures.taken refl).1
-    (subst (λ (v : Served). OfCame (IsTakenFor c.args.stamp (arc_value c.args.hand.now) c.args.tag) (came_in v))
-    (sym c.self.view_is) c.requires.came)
-    (one_more (events.Requests c.args.stamp c.args.hand.now c.args.tag) c.events.ensures c.requests-noted.ensures
-    c.note.ensures.events)
+invariant_of-self-2 g c = (
+  heard_request c.self.invariant.0 c.args.stamp c.args.hand.now c.args.tag (c.if-not-request.ensures.taken refl).0
+      (c.if-not-request.ensures.taken refl).1
+      (subst (λ (v : Served). OfCame (IsTakenFor c.args.stamp (arc_value c.args.hand.now) c.args.tag) (came_in v))
+      (sym c.self.view_is) c.requires.came)
+      (one_more (events.Requests c.args.stamp c.args.hand.now c.args.tag) c.events.ensures c.requests-noted.ensures
+      c.note.ensures.events),
+  watched_event c.self.invariant.1 (events.Requests c.args.stamp c.args.hand.now c.args.tag)
+      (one_more (events.Requests c.args.stamp c.args.hand.now c.args.tag) c.events.ensures c.requests-noted.ensures
+      c.note.ensures.events) refl refl,
+)
 
 pub returns-clause-goes : goal.returns-clause-goes
 returns-clause-goes g c =

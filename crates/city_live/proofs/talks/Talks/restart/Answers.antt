@@ -1,5 +1,4 @@
 use Rattle.city_live.proofs.Followed as followed
-use Rattle.std.proofs.Common.{refl}
 use Rattle.city_live.proofs.Continued.{same, forgotten}
 use Rattle.city_live.proofs.Followed.{silently}
 use Rattle.city_live.proofs.Replayed.{stays}

@@ -1,15 +1,18 @@
 use Rattle.city_live.proofs.Followed as followed
 use Rattle.std.proofs.Common.{refl}
 use Rattle.city_live.proofs.Continued.{same}
-use Rattle.city_live.proofs.Followed.{saying, silently}
+use Rattle.city_live.proofs.Followed.{saying}
 use Rattle.city_live.proofs.Saying.{heard_cancelled}
 use Rattle.city_live.proofs.Replayed.{stays}
+use Rattle.city_live.proofs.Watching.{watched_plain}
 use Rattle.city_live.proofs.talks.Talks.tell_cancelled.Goals as goal
 
 pub invariant_of-self : goal.invariant_of-self
-invariant_of-self g c =
-    heard_cancelled c.self.invariant c.args.stamp _ c.answer-tag.ensures.works c.answer-tag.ensures.tag c.says.ensures
-    c.in-Some.ensures refl
+invariant_of-self g c = (
+  heard_cancelled c.self.invariant.0 c.args.stamp _ c.answer-tag.ensures.works c.answer-tag.ensures.tag c.says.ensures
+      c.in-Some.ensures refl,
+  watched_plain c.self.invariant.1 _ _ c.says.ensures tt,
+)
 
 pub returns : goal.returns
 returns g c = saying c.self.view_is (same c.self.inside.session) (stays refl) c.says.new.self _ _ c.says.ensures

@@ -1,7 +1,7 @@
 use Rattle.std.specs.Prelude.{slice_get}
 use Rattle.std.proofs.Common.{◌∙◌, sym, ap, ◌++◌, ◌∷◌, []}
 use Rattle.city_model.specs.Meaning.{is_refusal}
-use Rattle.city_live.proofs.Finished.{ran_refused, ran_replied}
+use Rattle.city_live.proofs.Ran.{ran_refused, ran_replied}
 use Rattle.city_live.proofs.Worked.{read_at}
 use Rattle.city_live.proofs.talks.goes.run.Goals as goal
 
