@@ -1,17 +1,19 @@
 //! Requests handled: a line, and what is answered.
-ghost use Rattle.std.specs.Prelude.{◌≡◌};
+ghost use Rattle.std.specs.Prelude.{◌≡◌, IfOk, true};
+ghost use Rattle.city_server.specs.Answered.{IsLineRead};
 
 use crate::input_lines::Skip;
 use crate::server::Server;
 use city_decimals::{DecimalsFault, encode};
 use city_journal::JournalFile;
-use city_lines::{Ask, Form, Line, LineError, LineFault, read_line};
+use city_lines::{Ask, Form, Line, LineError, LineFault, LineScratch, read_line};
 use city_live::{Answer, Fault, Request, Tag, What};
 use city_members::copied::Copied;
 use city_members::sequence::Sequence;
 use city_members::text::Text;
 use city_model::OutOfMemory;
 use city_serve::OutputFiles;
+use std::alloc::Global;
 
 impl<D: JournalFile + Drop> Server<'_, D> {
     /// Handles a line of the input, and adds what is answered to the lines that are to be written.
@@ -41,21 +43,14 @@ impl<D: JournalFile + Drop> Server<'_, D> {
 
     /// The request of a line. With numbers of any form it is that of the encoded line.
     fn line_of(&mut self, line: &[u8]) -> Result<Line, LineError>
+        ensures read { IfOk result (IsLineRead self.old.told.decimals line.now) }
         ensures told { self.new.told ≡ self.old.told }
     {
         let alloc = self.told.alloc;
         if !self.told.decimals {
             return read_line(alloc, line, &mut self.scratch);
         }
-        match encode(alloc, line) {
-            Ok(encoded) => read_line(alloc, encoded.as_slice(), &mut self.scratch),
-            // (it is refused for that, with the place)
-            Err(DecimalsFault::NotJson) => match read_line(alloc, line, &mut self.scratch) {
-                Err(error) => Err(error),
-                Ok(_) => Err(LineError::unnamed(LineFault::NotJson(line.len()))),
-            },
-            Err(DecimalsFault::OutOfMemory) => Err(LineError::unnamed(LineFault::NoMemory)),
-        }
+        encoded_line(alloc, line, &mut self.scratch)
     }
 
     /// Does what a line asks for.
@@ -106,7 +101,6 @@ impl<D: JournalFile + Drop> Server<'_, D> {
         request: Request,
         form: Form,
     ) -> Result<(), OutOfMemory> {
-        self.hands.are_served();
         match self.hands.handle(hand, tag, request) {
             Ok(answers) => self.tell_each(answers.as_slice(), form),
             Err(OutOfMemory) => self.refuse(None, None, LineFault::NoMemory),
@@ -161,7 +155,6 @@ impl<D: JournalFile + Drop> Server<'_, D> {
         tag: Tag,
         request: Request,
     ) -> Result<(), OutOfMemory> {
-        self.hands.are_served();
         match self.hands.handle(hand, tag, request) {
             Ok(answers) => {
                 if is_refused(&by, answers.as_slice()) {
@@ -208,6 +201,24 @@ impl<D: JournalFile + Drop> Server<'_, D> {
     {
         self.hands.journal_mut().forget(hand);
         self.awaited.forget(hand);
+    }
+}
+
+/// The request of a line once its numbers are encoded.
+fn encoded_line(alloc: Global, line: &[u8], scratch: &mut LineScratch) -> Result<Line, LineError>
+    ensures { IfOk result (IsLineRead true line.now) }
+{
+    match encode(alloc, line) {
+        Ok(encoded) => {
+            let read = read_line(alloc, encoded.as_slice(), scratch)?;
+            Ok(read)
+        }
+        // (it is refused for that, with the place)
+        Err(DecimalsFault::NotJson) => match read_line(alloc, line, scratch) {
+            Err(error) => Err(error),
+            Ok(_) => Err(LineError::unnamed(LineFault::NotJson(line.len()))),
+        },
+        Err(DecimalsFault::OutOfMemory) => Err(LineError::unnamed(LineFault::NoMemory)),
     }
 }
 

@@ -36,7 +36,6 @@ impl<D: JournalFile + Drop> Server<'_, D> {
         let Some(path) = self.output else {
             return self.refuse(Some(hand), tag, LineFault::NoOutput);
         };
-        self.hands.are_served();
         match self.hands.handle(hand, tag, Request::Model) {
             Ok(answers) => self.save_each(files, path, answers.as_slice()),
             Err(OutOfMemory) => self.refuse(None, None, LineFault::NoMemory),
