@@ -1,1 +1,7 @@
+pub mod Answering
+pub mod Breaking
 pub mod Cutting
+pub mod ExampleLines
+pub mod Handling
+pub mod Living
+pub mod Unsynced
