@@ -1,10 +1,12 @@
 //! The hands of one city.
 ghost use Rattle.std.specs.Prelude.{◌≡◌, ◌++◌, [], Some, true, false, IfOk, OnOk, OnErr};
 ghost use Rattle.std.specs.Arc.{arc_value};
+ghost use Rattle.std.specs.Borrow.{Lends, sem};
 ghost use Rattle.city_model.specs.CityMap.{object_at};
 ghost use Rattle.city_model.specs.Relations.{IsLawful};
 ghost use Rattle.city_txn.specs.CoreState.{committed};
 ghost use Rattle.city_live.specs.declared.request.Request.TheVariants as requests;
+ghost use Rattle.city_live.specs.contracts.hands.Hands.{the_row};
 ghost use Rattle.city_live.specs.Coming.{end_asked};
 ghost use Rattle.city_live.specs.Serving.{Proceeds, IsHandled, IsServed};
 ghost use Rattle.city_live.specs.Serving.{HasCome, HasAsked, IsLeaving, AreHandled};
@@ -123,8 +125,12 @@ impl<J: Journal> Hands<J> {
         self.talks.journal()
     }
 
-    /// The journal, to be written or saved. Doesn't allocate.
-    pub fn journal_mut(&mut self) -> &mut J {
+    /// The journal, to be written or saved. Nothing else changes by it. Doesn't allocate.
+    pub fn journal_mut(&mut self) -> &mut J
+        ensures value { J.noted result.now ≡ self.old.noted }
+        ensures* writes_back { sem 𝓛 (Lends (the_row J.row J.Journal) J.row self.entry result
+            (λ w. record self.old { noted = J.noted w })) }
+    {
         self.talks.journal_mut()
     }
 

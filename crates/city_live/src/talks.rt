@@ -1,6 +1,7 @@
 //! The works of hands on a session, and what is said of each.
 ghost use Rattle.std.specs.Prelude.{◌≡◌, List, ℕ, Option, [], None, Some, false, IfOk, IfErr, OnErr, IsTrue};
 ghost use Rattle.std.specs.Arc.{arc_value};
+ghost use Rattle.std.specs.Borrow.{Lends, sem};
 ghost use Rattle.city_model.specs.CityMap.{object_at};
 ghost use Rattle.city_model.specs.Relations.{IsLawful};
 ghost use Rattle.city_txn.specs.CoreState.{committed};
@@ -12,6 +13,7 @@ ghost use Rattle.city_live.specs.Works.{IsFresh};
 ghost use Rattle.city_live.specs.Running.{Begins};
 ghost use Rattle.city_live.specs.Coming.{request_for, IsNamed};
 ghost use Rattle.city_live.specs.declared.request.Request.TheVariants as requests;
+ghost use Rattle.city_live.specs.contracts.talks.Talks.{the_row};
 ghost use Rattle.city_live.specs.Serving.{Follows, Proceeds, IsServed, Arrives, HasAsked, HasBegun, MayTake, IsLeaving};
 
 use crate::answer::{Answer, Name};
@@ -134,8 +136,12 @@ impl<J: Journal> Talks<J> {
         &self.journal
     }
 
-    /// The journal, to be written or saved. Doesn't allocate.
-    pub fn journal_mut(&mut self) -> &mut J {
+    /// The journal, to be written or saved. Nothing else changes by it. Doesn't allocate.
+    pub fn journal_mut(&mut self) -> &mut J
+        ensures value { J.noted result.now ≡ self.old.noted }
+        ensures* writes_back { sem 𝓛 (Lends (the_row J.row J.Journal) J.row self.entry result
+            (λ w. record self.old { noted = J.noted w })) }
+    {
         &mut self.journal
     }
 

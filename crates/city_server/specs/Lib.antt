@@ -1,4 +1,6 @@
 pub mod Answered
+pub mod Asked
 pub mod Lines
+pub mod Lived
 pub mod Order
 pub mod Sessions

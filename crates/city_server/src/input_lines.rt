@@ -1,5 +1,5 @@
 //! Lines, put together of what a reader gives.
-ghost use Rattle.std.specs.Prelude.{◌≡◌, ◌++◌, ◌∷◌, [], List, ℕ, IsTrue, MatchOption, Some};
+ghost use Rattle.std.specs.Prelude.{◌≡◌, ◌++◌, ◌∷◌, [], List, ℕ, IsTrue, MatchOption, Some, false};
 ghost use Rattle.city_journal.specs.Lines.{IsLine};
 ghost use Rattle.city_server.specs.Lines.{HasBegun, IsTaken};
 
@@ -47,6 +47,7 @@ impl BegunLine {
         ensures none { IsTrue result → HasBegun self.now.skip self.now.kept.items [] }
         ensures only { IsTrue result → (begun : List ℕ) → HasBegun self.now.skip self.now.kept.items begun
             → begun ≡ [] }
+        ensures some { result ≡ false → HasBegun self.now.skip self.now.kept.items [] → ⊥ }
     {
         self.skip.is_none() && self.kept.is_empty()
     }

@@ -1,5 +1,7 @@
 //! The model saved.
-ghost use Rattle.std.specs.Prelude.{◌≡◌};
+ghost use Rattle.std.specs.Prelude.{◌≡◌, OnOk, Some};
+ghost use Rattle.city_server.specs.Asked.{EachTold, IsSaved, IsSaveTold, model_version};
+ghost use Rattle.city_server.specs.Sessions.{Adds};
 
 use crate::server::Server;
 use city_journal::{JournalFile, ModelSum};
@@ -32,11 +34,13 @@ impl<D: JournalFile + Drop> Server<'_, D> {
         files: &mut F,
         hand: Text,
         tag: Tag,
-    ) -> Result<(), OutOfMemory> {
+    ) -> Result<(), OutOfMemory>
+        ensures { OnOk result (Adds (IsSaved self.old.told.decimals self.old.told.line hand tag
+            self.old.hands self.new.hands) self.old.told self.new.told) }
+    {
         let Some(path) = self.output else {
             return self.refuse(Some(hand), tag, LineFault::NoOutput);
         };
-        self.hands.are_served();
         match self.hands.handle(hand, tag, Request::Model) {
             Ok(answers) => self.save_each(files, path, answers.as_slice()),
             Err(OutOfMemory) => self.refuse(None, None, LineFault::NoMemory),
@@ -49,7 +53,12 @@ impl<D: JournalFile + Drop> Server<'_, D> {
         files: &mut F,
         path: &str,
         answers: &[Answer],
-    ) -> Result<(), OutOfMemory> {
+    ) -> Result<(), OutOfMemory>
+        ensures told { OnOk result (Adds (EachTold (λ a.
+            IsSaveTold self.old.told.decimals self.old.told.line a (model_version a.what)) answers.now)
+            self.old.told self.new.told) }
+        ensures hands { self.new.hands ≡ self.old.hands }
+    {
         for answer in answers {
             self.save_by(files, path, answer)?;
         }
@@ -62,7 +71,11 @@ impl<D: JournalFile + Drop> Server<'_, D> {
         files: &mut F,
         path: &str,
         answer: &Answer,
-    ) -> Result<(), OutOfMemory> {
+    ) -> Result<(), OutOfMemory>
+        ensures told { OnOk result (Adds (IsSaveTold self.old.told.decimals self.old.told.line answer.now
+            (model_version answer.now.what)) self.old.told self.new.told) }
+        ensures hands { self.new.hands ≡ self.old.hands }
+    {
         match &answer.what {
             What::Model(city, version) => {
                 let saved = self.save(files, path, city, *version);
@@ -78,7 +91,11 @@ impl<D: JournalFile + Drop> Server<'_, D> {
         answer: &Answer,
         version: u64,
         saved: Result<(), Unsaved>,
-    ) -> Result<(), OutOfMemory> {
+    ) -> Result<(), OutOfMemory>
+        ensures told { OnOk result (Adds (IsSaveTold self.old.told.decimals self.old.told.line answer.now
+            (Some version)) self.old.told self.new.told) }
+        ensures hands { self.new.hands ≡ self.old.hands }
+    {
         let fault = match saved {
             Ok(()) => return self.told.tell_saved(&answer.hand, &answer.tag, version),
             Err(Unsaved::NoMemory) => LineFault::NoMemory,
@@ -97,7 +114,10 @@ impl<D: JournalFile + Drop> Server<'_, D> {
         path: &str,
         city: &City,
         version: u64,
-    ) -> Result<(), Unsaved> {
+    ) -> Result<(), Unsaved>
+        ensures told { self.new.told ≡ self.old.told }
+        ensures hands { self.new.hands ≡ self.old.hands }
+    {
         let mut text = self.told.model_text(city)?;
         let sum = ModelSum::of(text.as_slice());
         if text.push(b'\n').is_err() {
@@ -107,14 +127,14 @@ impl<D: JournalFile + Drop> Server<'_, D> {
             return Err(Unsaved::CannotWrite);
         };
         let is_new = self.saved != Some(version);
-        if is_new && self.note_save(&sum).is_err() {
+        if self.note_new(is_new, &sum).is_err() {
             files.give_up(new);
             return Err(Unsaved::CannotWrite);
         }
         if place(files, new, path).is_err() {
             return Err(Unsaved::CannotWrite);
         }
-        if is_new && self.hands.journal_mut().end_save(&sum, version).is_err() {
+        if self.end_new(is_new, &sum, version).is_err() {
             return Err(Unsaved::CannotWrite);
         }
         self.saved = Some(version);
@@ -124,9 +144,32 @@ impl<D: JournalFile + Drop> Server<'_, D> {
         Ok(())
     }
 
+    /// Notes a save in the journal, if it is a new one.
+    fn note_new(&mut self, is_new: bool, sum: &ModelSum) -> Result<(), Unwritten>
+        ensures told { self.new.told ≡ self.old.told }
+        ensures hands { self.new.hands ≡ self.old.hands }
+    {
+        if !is_new {
+            return Ok(());
+        }
+        self.note_save(sum)
+    }
+
+    /// Begins the journal anew over the model that was saved, if the save is a new one.
+    fn end_new(&mut self, is_new: bool, sum: &ModelSum, version: u64) -> Result<(), Unwritten>
+        ensures told { self.new.told ≡ self.old.told }
+        ensures hands { self.new.hands ≡ self.old.hands }
+    {
+        if !is_new {
+            return Ok(());
+        }
+        self.hands.journal_mut().end_save(sum, version)
+    }
+
     /// Notes a save in the journal, and brings that to the disk.
     fn note_save(&mut self, sum: &ModelSum) -> Result<(), Unwritten>
-        ensures { self.new.told ≡ self.old.told }
+        ensures told { self.new.told ≡ self.old.told }
+        ensures hands { self.new.hands ≡ self.old.hands }
     {
         let journal = self.hands.journal_mut();
         journal.begin_save(sum)?;

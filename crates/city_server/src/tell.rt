@@ -23,6 +23,7 @@ pub fn write_synced<D: JournalFile + Drop, W: Write>(
     ensures fault { IfErr result (IsWriteFault (GoesBy (MayTell D.seen D.may_leave) journal.old.file journal.new.file)
         (GoesBy (Stays D.seen D.may_leave) journal.old.file journal.new.file)
         answers.now (W.contents output.old.0) (W.contents output.new.0) output.new.1) }
+    ensures noted { journal.new.noted ≡ journal.old.noted }
 {
     if journal.sync().is_err() {
         return Err(LiveFault::JournalFile(ServeFault::Write));
