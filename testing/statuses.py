@@ -73,6 +73,7 @@ VERSION = "cityed 0.1.0\n"
 USAGE = (
     "\n\nUsage: cityed [--decimals] [--workers N] [--watch K] [--output FILE [--wait SECONDS]] [--atomic] [--explain] "
     "[MODEL SCRIPTS]\n"
+    "       cityed --report-only [--decimals] [--workers N] [--watch K] [--explain] [MODEL SCRIPTS]\n"
     "       cityed --check [--decimals] [--explain] MODEL [SCRIPTS]\n"
     "       cityed --live [--decimals] [--output FILE [--wait SECONDS]] [--journal FILE] MODEL\n\n"
     "For more information, try '--help'.\n"

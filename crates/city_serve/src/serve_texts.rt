@@ -86,6 +86,7 @@ pub fn serve_owned<R: Threads + Wait + Sync, G: Gate + Sync, W: Write>(
     let follows = Destination {
         file: None,
         atomic: false,
+        report_only: false,
         wait: 0,
     };
     let (delivered, _city) = serve_to(
