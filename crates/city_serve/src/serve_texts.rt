@@ -6,7 +6,7 @@ ghost use Rattle.city_writer.specs.document.Canonical.{city_text};
 ghost use Rattle.city_serve.specs.ServedTexts.{AreServed, AreServedBy, IsTextsFault, IsTextsFaultBy};
 ghost use Rattle.city_serve.specs.Decimals.{written_by, faults_by};
 ghost use Rattle.city_options.specs.RunOptions.{file_of};
-ghost use Rattle.city_serve.specs.Destinations.{IsDelivered, IsDeliveryFault};
+ghost use Rattle.city_serve.specs.Destinations.{IsDelivered, IsDeliveryFault, goes_nowhere};
 ghost use Rattle.city_serve.specs.Steps.{Step, Takes, delivering};
 
 use crate::deliver::{Delivered, deliver};
@@ -104,9 +104,9 @@ pub fn serve_owned<R: Threads + Wait + Sync, G: Gate + Sync, W: Write>(
 }
 
 /// As `serve_owned`, with the output to a destination: the report to the writer, and the model
-/// behind it or to a file. The file is replaced whole once the report is written, or stays as it
-/// was. `Changed` if a text was read from the file and it has another by then. The caller locks the
-/// file before it reads any text, and unlocks it.
+/// behind it, to a file or nowhere. The file is replaced whole once the report is written, or stays
+/// as it was. `Changed` if a text was read from the file and it has another by then. The caller locks
+/// the file before it reads any text, and unlocks it.
 ///
 /// The answer says whether the model was withheld: an atomic destination asks for that if a script
 /// ended refused or out of memory. Beside it is the final city, which with `decimals` is encoded.
@@ -131,7 +131,7 @@ pub fn serve_to<R: Threads + Wait + Sync, G: Gate + Sync, F: OutputFiles, W: Wri
         × (options.decimals ≡ false → is.model ≡ city_text d.1 ++ 10 ∷ [])) }
     ensures unfailed { OnOk result (writer.new.1 ≡ writer.old.1) }
     ensures steps { IfOk result (λ d. Takes (F.steps files.old) (F.steps files.new)
-        (delivering (file_of destination.entry) d.0.withheld)) }
+        (delivering (file_of destination.entry) (goes_nowhere destination.entry d.0.withheld))) }
     ensures fault { IfErr result (λ f. (steps : List Step)
         × IsDeliveryFault destination.entry options
         texts.old.document.bytes.items texts.old.scripts.bytes.items
