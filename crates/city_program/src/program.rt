@@ -64,6 +64,7 @@ pub fn run_program<
     errors: &mut Device<E>,
     terminal: bool,
 ) -> Status
+    requires { (input.old.1 ≡ false) × (output.old.1 ≡ false) }
     ensures { Ends terminal (drop 1 (map string_bytes words.now)) result
         (record {
           before = F.text files.old;
@@ -100,7 +101,8 @@ fn run_asked<T: Threads + Wait + Sync, G: Gate + Sync, F: OutputFiles, R: Read, 
     errors: &mut Device<E>,
     terminal: bool,
 ) -> Status
-    requires { HasOptions asked.now }
+    requires options { HasOptions asked.now }
+    requires fresh { output.old.1 ≡ false }
     ensures named { NamesScripts asked.now → result ≡ Status.Refused }
     ensures ended { EndsAsked terminal asked.now result
         (record {
@@ -264,7 +266,8 @@ fn answer<T: Threads + Wait + Sync, G: Gate + Sync, F: OutputFiles, R: Read, W: 
     input: &mut Device<R>,
     output: &mut Device<W>,
 ) -> Result<Answered, ServeFault>
-    requires { HasOptions asked.now }
+    requires options { HasOptions asked.now }
+    requires fresh { output.old.1 ≡ false }
     ensures answered { IfOk result (λ a. IsAnsweredAs
         (record {
           before = F.text files.old;
@@ -318,7 +321,8 @@ fn answer_inside<T: Threads + Wait + Sync, G: Gate + Sync, F: OutputFiles, R: Re
     input: &mut Device<R>,
     output: &mut Device<W>,
 ) -> Result<Answered, ServeFault>
-    requires { HasOptions asked.now }
+    requires options { HasOptions asked.now }
+    requires fresh { output.old.1 ≡ false }
     ensures answered { IfOk result (λ a. IsAnsweredAs
         (record {
           before = F.text files.old;

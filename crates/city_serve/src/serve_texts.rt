@@ -27,8 +27,8 @@ use std::thread::Threads;
 
 /// Runs the scripts of a text on a document, and writes the output.
 ///
-/// Workers are 1 to `MAX_WORKERS`, viewers 0 to `MAX_VIEWERS`. One worker without viewers runs the
-/// scripts in their order. The document is judged before the scripts. If the run has no output,
+/// Workers are 1 to `MAX_WORKERS`, viewers 0 to `MAX_VIEWERS`, and the writer hasn't failed yet, so
+/// `Write` comes only if it fails now. One worker without viewers runs the scripts in their order. The document is judged before the scripts. If the run has no output,
 /// nothing is written; if the writer fails, it has got the first bytes of the output. The answer
 /// has, for each viewer, the numbers of the changes it saw.
 pub fn serve_texts<R: Threads + Wait + Sync, W: Write>(
@@ -42,6 +42,7 @@ pub fn serve_texts<R: Threads + Wait + Sync, W: Write>(
 ) -> Result<Vec<Vec<u64>>, ServeFault>
     requires workers { (1 ≤ workers) × (workers ≤ max_workers) }
     requires viewers { viewers ≤ max_viewers }
+    requires fresh { writer.old.1 ≡ false }
     ensures served { IfOk result (λ seen. AreServed document.now scripts.now workers viewers seen.items
         (W.contents writer.old.0) (W.contents writer.new.0)) }
     ensures unfailed { OnOk result (writer.new.1 ≡ writer.old.1) }
@@ -75,7 +76,8 @@ pub fn serve_owned<R: Threads + Wait + Sync, G: Gate + Sync, W: Write>(
     writer: &mut Device<W>,
     options: Options,
 ) -> Result<Vec<Vec<u64>>, ServeFault>
-    requires { AreWithin options }
+    requires within { AreWithin options }
+    requires fresh { writer.old.1 ≡ false }
     ensures served { IfOk result (λ seen. AreServedBy (written_by options.decimals) document.items scripts.items
         options.workers options.viewers seen.items (W.contents writer.old.0) (W.contents writer.new.0)) }
     ensures unfailed { OnOk result (writer.new.1 ≡ writer.old.1) }
@@ -123,7 +125,8 @@ pub fn serve_to<R: Threads + Wait + Sync, G: Gate + Sync, F: OutputFiles, W: Wri
     writer: &mut Device<W>,
     options: Options,
 ) -> Result<(Delivered, City), ServeFault>
-    requires { AreWithin options }
+    requires within { AreWithin options }
+    requires fresh { writer.old.1 ≡ false }
     ensures delivered { IfOk result (λ d. (is : IsDelivered destination.entry options
         texts.old.document.bytes.items texts.old.scripts.bytes.items
         d.0.seen.items d.0.withheld (F.text files.old) (F.text files.new)
