@@ -83,6 +83,7 @@ NO_VIEWERS = "error: --watch takes a number from 0 to 4" + USAGE
 NO_SECONDS = "error: --wait takes a number of seconds from 1 to 86400" + USAGE
 NO_OUTPUT = "error: --wait takes an --output to wait for" + USAGE
 TWO_WAITS = "error: the argument '--wait <SECONDS>' cannot be used multiple times" + USAGE
+BESIDE_REPORT = "error: --report-only writes no model, and takes no --{}" + USAGE
 NAMED = "error: --output names SCRIPTS\n\nFor more information, try '--help'.\n"
 NO_SCRIPTS = "error: a MODEL was given without SCRIPTS" + USAGE
 TIP = "\n\n  tip: to pass '-w' as a value, use '-- -w'"
@@ -98,6 +99,13 @@ CALLS = [
     ([], EMPTY + "\n" + REFUSED, 0, REFUSED_LINE + EMPTY + "\n", ""),
     ([], DOCUMENT + "\n" + CHANGED, 0, CHANGED_LINE + DOCUMENT + "\n", ""),
     (["--atomic"], DOCUMENT + "\n" + CHANGED, 3, CHANGED_LINE, ""),
+    (["--report-only", "MODEL", "SCRIPTS"], "", 0, REPORT, ""),
+    (["--report-only"], DOCUMENT + "\n" + CHANGED, 0, CHANGED_LINE, ""),
+    (["--report-only", "--workers", "2", "--watch", "1"], EMPTY + "\n[]", 0, "", "viewer 0: 0\n"),
+    (["MODEL", "MISSING", "--report-only"], "", 1, "", "cityed: cannot read\n"),
+    (["--report-only", "-o", "NEW", "MODEL", "SCRIPTS"], "", 2, "", BESIDE_REPORT.format("output")),
+    (["--report-only", "--atomic", "MODEL", "SCRIPTS"], "", 2, "", BESIDE_REPORT.format("atomic")),
+    (["--report-only", "--check", "MODEL"], "", 2, "", "error: --check runs nothing, and takes no --report-only" + USAGE),
     (["--workers", "2", "--watch", "2"], EMPTY + "\n[]", 0, EMPTY + "\n", "viewer 0: 0\nviewer 1: 0\n"),
     ([], '{"type":"CityJSON"\n[]', 1, "", "cityed: model: 2 NotJson\n"),
     ([], EMPTY, 1, "", "cityed: scripts: 2 NotJson\n"),

@@ -11,7 +11,7 @@ use Rattle.city_program.specs.declared.status.Status.{Status}
 use Rattle.city_program.specs.Checks.{AreCheckLines, AreFirstOf, HasLines, OfFiles, reading_of}
 use Rattle.city_options.specs.CommandLines.{IsName, Line, IsLineOf, AnswersNames, AnswersOptions, AsksForText}
 use Rattle.city_options.specs.CommandLines.{HasOptions, IsShown, MeetsUnknownOption}
-use Rattle.city_serve.specs.Destinations.{Folder, IsDelivered, IsDeliveryFault, IsLockFault}
+use Rattle.city_serve.specs.Destinations.{Folder, IsDelivered, IsDeliveryFault, IsLockFault, goes_nowhere}
 use Rattle.city_serve.specs.Steps.{Step, Takes, delivering, under_lock}
 use Rattle.city_options.specs.RunOptions.{file_of, plain_options, plain_destination}
 use Rattle.city_serve.specs.FaultTexts.{fault_text}
@@ -77,9 +77,15 @@ reading (Asked.Files options destination model scripts) = reading_of model.now (
 reading (Asked.Check options model scripts) = reading_of model.now (option_map (λ t. t.now) scripts)
 reading _ = []
 
+-- the model of a request goes nowhere: the report alone is asked for, or the model is withheld
+abbrev pub is_nowhere : Asked → Bool → Bool
+is_nowhere (Asked.Input options destination) withheld = goes_nowhere destination withheld
+is_nowhere (Asked.Files options destination model scripts) withheld = goes_nowhere destination withheld
+is_nowhere _ withheld = withheld
+
 -- the steps of a request that is done, once its output file is locked
 abbrev pub steps_inside : Asked → Bool → List Step
-steps_inside asked withheld = reading asked ++ delivering (output_of asked) withheld
+steps_inside asked withheld = reading asked ++ delivering (output_of asked) (is_nowhere asked withheld)
 
 -- these steps were taken, the output file being locked before them and unlocked behind them
 abbrev pub TakesLocked : Asked → Streams → List Step → Type 0
