@@ -236,20 +236,22 @@ def full_device(program, folder):
 
 
 def on_terminal(program, folder):
-    """A standard error that is a terminal: a fault is explained there."""
-    ours, theirs = pty.openpty()
-    try:
-        ran = subprocess.run(
-            [program, "UNKNOWN", "SCRIPTS"], stdout=subprocess.PIPE, stderr=theirs, cwd=folder, timeout=LIMIT, check=False
-        )
-        told = os.read(ours, 65536).decode("utf-8").replace("\r\n", "\n")
-    finally:
-        os.close(theirs)
-        os.close(ours)
-    wanted = (1, b"", UNKNOWN_EXPLAINED.format("UNKNOWN", "cityed --check UNKNOWN SCRIPTS"))
-    if (ran.returncode, ran.stdout, told) != wanted:
-        raise Wrong(["UNKNOWN", "SCRIPTS", "2> TERMINAL"], (ran.returncode, ran.stdout, told), wanted)
-    return 1
+    """A standard error that is a terminal: a fault is explained there, and a check says if there is none."""
+    explained = UNKNOWN_EXPLAINED.format("UNKNOWN", "cityed --check UNKNOWN SCRIPTS")
+    calls = [(["UNKNOWN", "SCRIPTS"], 1, explained), (["--check", "MODEL", "SCRIPTS"], 0, "cityed: no faults\n")]
+    for arguments, status, wanted in calls:
+        ours, theirs = pty.openpty()
+        try:
+            ran = subprocess.run(
+                [program, *arguments], stdout=subprocess.PIPE, stderr=theirs, cwd=folder, timeout=LIMIT, check=False
+            )
+            told = os.read(ours, 65536).decode("utf-8").replace("\r\n", "\n")
+        finally:
+            os.close(theirs)
+            os.close(ours)
+        if (ran.returncode, ran.stdout, told) != (status, b"", wanted):
+            raise Wrong([*arguments, "2> TERMINAL"], (ran.returncode, ran.stdout, told), wanted)
+    return len(calls)
 
 
 def main():

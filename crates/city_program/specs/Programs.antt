@@ -208,15 +208,25 @@ IsToldFault false f text = (text ≡ fault_text f ++ 10 ∷ []) ⊎ (text ≡ me
 IsToldFault true f text =
     ((behind : List ℕ) × (text ≡ (fault_text f ++ 10 ∷ []) ++ behind)) ⊎ (text ≡ memory_line)
 
+-- the line of a check without a fault, for a terminal
+abbrev pub no_faults_line : List ℕ
+no_faults_line = codes "cityed: no faults\n"
+
+-- what standard error gets once a request is done: on a terminal the line of a check without a fault, and otherwise a
+-- line for each viewer
+abbrev pub done_text : Asked → Bool → List (Vec ℕ) → List ℕ
+done_text (Asked.Check options model scripts) true seen = no_faults_line
+done_text _ terminal seen = seen_lines 0 seen
+
 -- ---- how the program ends
 
--- the request is done, and standard error has got what each viewer saw
-pub record IsDone (asked : Asked) (withheld : Bool) (s : Streams) (told telling : Option (List ℕ)) (mute : Bool)
-    : Type 0 where
+-- the request is done, and standard error has got what each viewer saw, or on a terminal that a check found no fault
+pub record IsDone (terminal : Bool) (asked : Asked) (withheld : Bool) (s : Streams) (told telling : Option (List ℕ))
+    (mute : Bool) : Type 0 where
   pub seen : List (Vec ℕ)
   pub answered : IsAnswered s asked seen withheld
   pub steps : TakesLocked asked s (steps_inside asked withheld)
-  pub seen_told : IsTold told telling mute (seen_lines 0 seen)
+  pub is_told : IsTold told telling mute (done_text asked terminal seen)
 
 -- the request is done, and standard error has got what some viewers saw, and that memory ran out for the next
 pub record IsDoneToldInPart (asked : Asked) (s : Streams) (told telling : Option (List ℕ)) (mute : Bool)
@@ -258,8 +268,8 @@ pub record IsScriptsNamed (asked : Asked) (s : Streams) (told telling : Option (
 -- the promises at each status once it is known what is asked for, and whether standard error is a terminal: a fault is
 -- the answer's, or of memory for telling what viewers saw, after a complete answer
 abbrev pub EndsAsked : Bool → Asked → Status → Streams → Option (List ℕ) → Option (List ℕ) → Bool → Type 0
-EndsAsked terminal asked Status.Done s told telling mute = IsDone asked false s told telling mute
-EndsAsked terminal asked Status.Withheld s told telling mute = IsDone asked true s told telling mute
+EndsAsked terminal asked Status.Done s told telling mute = IsDone terminal asked false s told telling mute
+EndsAsked terminal asked Status.Withheld s told telling mute = IsDone terminal asked true s told telling mute
 EndsAsked terminal asked Status.Faulty s told telling mute = IsFoundFaulty asked s told telling mute
 EndsAsked terminal asked Status.Failed s told telling mute =
     IsFaulty terminal asked s told telling mute ⊎ IsDoneToldInPart asked s told telling mute
