@@ -73,6 +73,7 @@ VERSION = "cityed 0.1.0\n"
 USAGE = (
     "\n\nUsage: cityed [--decimals] [--workers N] [--watch K] [--output FILE [--wait SECONDS]] [--atomic] [--explain] "
     "[MODEL SCRIPTS]\n"
+    "       cityed --report-only [--decimals] [--workers N] [--watch K] [--explain] [MODEL SCRIPTS]\n"
     "       cityed --check [--decimals] [--explain] MODEL [SCRIPTS]\n"
     "       cityed --live [--decimals] [--output FILE [--wait SECONDS]] [--journal FILE] MODEL\n\n"
     "For more information, try '--help'.\n"
@@ -82,6 +83,7 @@ NO_VIEWERS = "error: --watch takes a number from 0 to 4" + USAGE
 NO_SECONDS = "error: --wait takes a number of seconds from 1 to 86400" + USAGE
 NO_OUTPUT = "error: --wait takes an --output to wait for" + USAGE
 TWO_WAITS = "error: the argument '--wait <SECONDS>' cannot be used multiple times" + USAGE
+BESIDE_REPORT = "error: --report-only writes no model, and takes no --{}" + USAGE
 NAMED = "error: --output names SCRIPTS\n\nFor more information, try '--help'.\n"
 NO_SCRIPTS = "error: a MODEL was given without SCRIPTS" + USAGE
 TIP = "\n\n  tip: to pass '-w' as a value, use '-- -w'"
@@ -97,6 +99,13 @@ CALLS = [
     ([], EMPTY + "\n" + REFUSED, 0, REFUSED_LINE + EMPTY + "\n", ""),
     ([], DOCUMENT + "\n" + CHANGED, 0, CHANGED_LINE + DOCUMENT + "\n", ""),
     (["--atomic"], DOCUMENT + "\n" + CHANGED, 3, CHANGED_LINE, ""),
+    (["--report-only", "MODEL", "SCRIPTS"], "", 0, REPORT, ""),
+    (["--report-only"], DOCUMENT + "\n" + CHANGED, 0, CHANGED_LINE, ""),
+    (["--report-only", "--workers", "2", "--watch", "1"], EMPTY + "\n[]", 0, "", "viewer 0: 0\n"),
+    (["MODEL", "MISSING", "--report-only"], "", 1, "", "cityed: cannot read\n"),
+    (["--report-only", "-o", "NEW", "MODEL", "SCRIPTS"], "", 2, "", BESIDE_REPORT.format("output")),
+    (["--report-only", "--atomic", "MODEL", "SCRIPTS"], "", 2, "", BESIDE_REPORT.format("atomic")),
+    (["--report-only", "--check", "MODEL"], "", 2, "", "error: --check runs nothing, and takes no --report-only" + USAGE),
     (["--workers", "2", "--watch", "2"], EMPTY + "\n[]", 0, EMPTY + "\n", "viewer 0: 0\nviewer 1: 0\n"),
     ([], '{"type":"CityJSON"\n[]', 1, "", "cityed: model: 2 NotJson\n"),
     ([], EMPTY, 1, "", "cityed: scripts: 2 NotJson\n"),
@@ -227,20 +236,22 @@ def full_device(program, folder):
 
 
 def on_terminal(program, folder):
-    """A standard error that is a terminal: a fault is explained there."""
-    ours, theirs = pty.openpty()
-    try:
-        ran = subprocess.run(
-            [program, "UNKNOWN", "SCRIPTS"], stdout=subprocess.PIPE, stderr=theirs, cwd=folder, timeout=LIMIT, check=False
-        )
-        told = os.read(ours, 65536).decode("utf-8").replace("\r\n", "\n")
-    finally:
-        os.close(theirs)
-        os.close(ours)
-    wanted = (1, b"", UNKNOWN_EXPLAINED.format("UNKNOWN", "cityed --check UNKNOWN SCRIPTS"))
-    if (ran.returncode, ran.stdout, told) != wanted:
-        raise Wrong(["UNKNOWN", "SCRIPTS", "2> TERMINAL"], (ran.returncode, ran.stdout, told), wanted)
-    return 1
+    """A standard error that is a terminal: a fault is explained there, and a check says if there is none."""
+    explained = UNKNOWN_EXPLAINED.format("UNKNOWN", "cityed --check UNKNOWN SCRIPTS")
+    calls = [(["UNKNOWN", "SCRIPTS"], 1, explained), (["--check", "MODEL", "SCRIPTS"], 0, "cityed: no faults\n")]
+    for arguments, status, wanted in calls:
+        ours, theirs = pty.openpty()
+        try:
+            ran = subprocess.run(
+                [program, *arguments], stdout=subprocess.PIPE, stderr=theirs, cwd=folder, timeout=LIMIT, check=False
+            )
+            told = os.read(ours, 65536).decode("utf-8").replace("\r\n", "\n")
+        finally:
+            os.close(theirs)
+            os.close(ours)
+        if (ran.returncode, ran.stdout, told) != (status, b"", wanted):
+            raise Wrong([*arguments, "2> TERMINAL"], (ran.returncode, ran.stdout, told), wanted)
+    return len(calls)
 
 
 def main():

@@ -4,8 +4,8 @@ use Rattle.city_options.proofs.LineFindings.{text_found, value}
 use Rattle.city_options.proofs.LineWalk.{End, at_end, cityed_rules, excess, model_next, over, top}
 use Rattle.city_options.specs.CommandLines.{AnswersCheck, AnswersCheckedNames, AnswersNames, AnswersOptions, AnswersRun}
 use Rattle.city_options.specs.CommandLines.{AsksForText, Atomic, Check, Decimals, Explain, Flag, IsLineOf, IsName}
-use Rattle.city_options.specs.CommandLines.{IsUnknownOption, IsWantOfMemory, Line, MeetsUnknownOption, Output, Valued}
-use Rattle.city_options.specs.CommandLines.{Wait, Watch, Workers, empty_line, ends, flag_name, gives_name, value_name}
+use Rattle.city_options.specs.CommandLines.{IsUnknownOption, IsWantOfMemory, Line, MeetsUnknownOption, Output}
+use Rattle.city_options.specs.CommandLines.{ReportOnly, Valued, Wait, Watch, Workers, empty_line, ends, flag_name, gives_name, value_name}
 use Rattle.city_options.specs.RunOptions.{plain_destination, plain_options}
 use Rattle.city_options.specs.declared.command_line.Asked.{Asked}
 use Rattle.city_options.specs.declared.command_line.LineFault.{LineFault}
@@ -89,7 +89,7 @@ pub names_answered : (names : List Text) (r : Answer) → ((line : Line) → IsL
     → All IsName names → AnswersNames plain_options plain_destination names r
 names_answered names r answered named =
     (answered _ (names_line names named)).0 plain_options plain_destination (refl, refl, refl, refl)
-    ((refl, refl, refl), λ none. refl)
+    ((refl, refl, refl, refl), λ none. refl, λ both. let wrong = both.0 in cc)
 
 -- an option that is unknown
 module _ (option : Text) (unknown : IsUnknownOption option) where
@@ -100,7 +100,7 @@ module _ (option : Text) (unknown : IsUnknownOption option) where
   no_rule =
       let o = λ (o : Valued). is_no (value_name o) (unknown.no_value o) in
       let f = λ (f : Flag). is_no (flag_name f) (unknown.no_flag f) in
-      rw (is_no _ unknown.no_help, is_no _ unknown.no_version, f Decimals, f Atomic, f Explain, f Check)
+      rw (is_no _ unknown.no_help, is_no _ unknown.no_version, f Decimals, f Atomic, f ReportOnly, f Explain, f Check)
       (rw (o Workers, o Watch, o Output, o Wait) refl)
 
   no_dashes : bytes_eq option (45 ∷ 45 ∷ []) ≡ false

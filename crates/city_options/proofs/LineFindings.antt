@@ -1,9 +1,9 @@
 -- Clap's findings in a line: its options and its first two names.
 use Rattle.city_options.proofs.LineWalk.{AreDistinct, Goes, Place, at_end, behind, cityed_rules, excess, line_goes}
 use Rattle.city_options.proofs.LineWalk.{model_next, none_next, put_last, row_of, rows_in, run, scripts_next, top}
-use Rattle.city_options.specs.CommandLines.{Atomic, Check, Decimals, Explain, Flag, IsLineOf, Line, Output, Valued}
-use Rattle.city_options.specs.CommandLines.{Wait, Watch, Workers, ends, flag_name, gives_flag, gives_name, gives_output}
-use Rattle.city_options.specs.CommandLines.{gives_value, value_name, with_flag, with_name, with_value}
+use Rattle.city_options.specs.CommandLines.{Atomic, Check, Decimals, Explain, Flag, IsLineOf, Line, Output, ReportOnly}
+use Rattle.city_options.specs.CommandLines.{Valued, Wait, Watch, Workers, ends, flag_name, gives_flag, gives_name}
+use Rattle.city_options.specs.CommandLines.{gives_output, gives_value, value_name, with_flag, with_name, with_value}
 use Rattle.city_options.specs.internal.CommandShape.{cityed_command}
 use Rattle.city_options.specs.internal.GivenLine.{flag_text}
 use Rattle.clap.specs.Faults.{built_fault, check_fault, default_fault, defaults_fault, entered_fault}
@@ -97,6 +97,7 @@ slots (value Output) = (refl, refl)
 slots (value Wait) = (refl, refl)
 slots (flag Decimals) = (refl, refl)
 slots (flag Atomic) = (refl, refl)
+slots (flag ReportOnly) = (refl, refl)
 slots (flag Check) = (refl, refl)
 slots (flag Explain) = (refl, refl)
 slots model = (refl, refl)
@@ -228,7 +229,7 @@ module _ {line : Line} {args : List Text} (is : IsLineOf line args) where
   line_fault =
       let held = (at_end goes.end).held in
       let right = defaults_right cityed_rules (settled cityed_rules held).rows
-      (refl, (refl, (refl, (refl, (refl, (refl, (refl, (refl, (refl, (refl, (refl, (refl, tt)))))))))))) in
+      (refl, (refl, (refl, (refl, (refl, (refl, (refl, (refl, (refl, (refl, (refl, (refl, (refl, tt))))))))))))) in
       ap ending at_last ∙ rw (goes.end.rests.0, right) (or_no_fault _ ∙ or_no_fault _)
 
   found_at : (s : Slot) → found (id s) (rows args)

@@ -12,7 +12,7 @@ use Rattle.city_options.specs.declared.command_line.Asked.{Asked}
 use Rattle.city_options.specs.declared.command_line.LineFault.{LineFault}
 use Rattle.city_options.specs.declared.options.Destination.{Destination}
 use Rattle.city_options.specs.declared.options.Options.{Options}
-use Rattle.city_options.specs.RunOptions.{AreWithin, file_of, max_wait}
+use Rattle.city_options.specs.RunOptions.{AreWithin, Contradicts, IsConsistent, file_of, max_wait}
 
 -- the word is no option: it doesn't begin with a hyphen
 abbrev pub IsName : List ℕ → Type 0
@@ -35,21 +35,23 @@ abbrev pub IsWait : Option (List ℕ) → ℕ → Type 0
 IsWait None n = n ≡ 0
 IsWait (Some text) n = IsCount 1 max_wait (Some text) n
 
--- the destination by the texts of --output and --wait, and by whether --atomic is given
-abbrev pub IsDestinationOf : Option (List ℕ) → Option (List ℕ) → Bool → Destination → Type 0
-IsDestinationOf output wait atomic destination =
-    (file_of destination ≡ output) × (destination.atomic ≡ atomic) × IsWait wait destination.wait
+-- the destination by the texts of --output and --wait, and by whether --atomic and --report-only are given
+abbrev pub IsDestinationOf : Option (List ℕ) → Option (List ℕ) → Bool → Bool → Destination → Type 0
+IsDestinationOf output wait atomic report_only destination =
+    (file_of destination ≡ output) × (destination.atomic ≡ atomic) × (destination.report_only ≡ report_only)
+    × IsWait wait destination.wait
 
--- a text is asked for, a run with such options, or a check with one worker and no viewer
+-- a text is asked for, a run with such options and such a destination, or a check with one worker and no viewer
 abbrev pub HasOptions : Asked → Type 0
-HasOptions (Asked.Input options destination) = AreWithin options
-HasOptions (Asked.Files options destination model scripts) = AreWithin options
+HasOptions (Asked.Input options destination) = AreWithin options × IsConsistent destination
+HasOptions (Asked.Files options destination model scripts) = AreWithin options × IsConsistent destination
 HasOptions (Asked.Check options model scripts) = (options.workers ≡ 1) × (options.viewers ≡ 0)
 HasOptions (Asked.Text text) = ⊤
 
 -- the same destination: a file of the same path, waited for as long, or none
 abbrev pub IsSameDestination : Destination → Destination → Type 0
-IsSameDestination a b = (file_of a ≡ file_of b) × (a.atomic ≡ b.atomic) × (a.wait ≡ b.wait)
+IsSameDestination a b =
+    (file_of a ≡ file_of b) × (a.atomic ≡ b.atomic) × (a.report_only ≡ b.report_only) × (a.wait ≡ b.wait)
 
 -- standard input is asked for, with these options, and output to there
 abbrev pub IsAskedInput : Options → Destination → Asked → Type 0
@@ -110,6 +112,7 @@ pub data Valued : Type 0 where
 pub data Flag : Type 0 where
   Decimals : Flag
   Atomic : Flag
+  ReportOnly : Flag
   Check : Flag
   Explain : Flag
 
@@ -123,6 +126,7 @@ value_name Wait = codes "wait"
 abbrev pub flag_name : Flag → List ℕ
 flag_name Decimals = codes "decimals"
 flag_name Atomic = codes "atomic"
+flag_name ReportOnly = codes "report-only"
 flag_name Check = codes "check"
 flag_name Explain = codes "explain"
 
@@ -186,11 +190,12 @@ pub data IsLineOf : Line → List (List ℕ) → Type 0 where
 abbrev pub AreLineOptions : Line → Options → Type 0
 AreLineOptions line = AreOptionsOf (line.value Workers) (line.value Watch) (line.has Decimals) (line.has Explain)
 
--- the destination of the line: no wait without a file
+-- the destination of the line: no wait without a file, and nothing for a model beside --report-only
 abbrev pub IsLineDestination : Line → Destination → Type 0
 IsLineDestination line destination =
-    IsDestinationOf (line.value Output) (line.value Wait) (line.has Atomic) destination
+    IsDestinationOf (line.value Output) (line.value Wait) (line.has Atomic) (line.has ReportOnly) destination
     × (line.value Output ≡ None → line.value Wait ≡ None)
+    × ¬ Contradicts (line.has ReportOnly) (line.value Output) (line.has Atomic)
 
 -- a run is asked for: the names are answered with the options and the destination of the line; if it gives no options
 -- or no destination, it is refused
@@ -203,7 +208,8 @@ AnswersRun line r =
 
 -- the line has an option for runs only
 abbrev pub HasRunOption : Line → Type 0
-HasRunOption line = ((o : Valued) × (line.value o ≢ None)) ⊎ (line.has Atomic ≡ true)
+HasRunOption line =
+    ((o : Valued) × (line.value o ≢ None)) ⊎ ((line.has Atomic ≡ true) ⊎ (line.has ReportOnly ≡ true))
 
 -- a check is asked for: the names are answered with the options of the line; with an option for runs only, it is
 -- refused

@@ -30,6 +30,8 @@ pub(crate) const WAIT: &str = "wait";
 
 pub(crate) const ATOMIC: &str = "atomic";
 
+pub(crate) const REPORT_ONLY: &str = "report-only";
+
 pub(crate) const CHECK: &str = "check";
 
 pub(crate) const EXPLAIN: &str = "explain";
@@ -39,6 +41,7 @@ pub const VERSION: &str = "0.1.0";
 
 const USAGE: &str = "\
 cityed [--decimals] [--workers N] [--watch K] [--output FILE [--wait SECONDS]] [--atomic] [--explain] [MODEL SCRIPTS]
+       cityed --report-only [--decimals] [--workers N] [--watch K] [--explain] [MODEL SCRIPTS]
        cityed --check [--decimals] [--explain] MODEL [SCRIPTS]
        cityed --live [--decimals] [--output FILE [--wait SECONDS]] [--journal FILE] MODEL";
 
@@ -122,10 +125,11 @@ impl From<OutOfMemory> for LineFault {
 /// An answer other than a text has 1 to `MAX_WORKERS` workers, 1 without `--workers`, and 0 to `MAX_VIEWERS` viewers, 0
 /// without `--watch`. It takes numbers of any form with `--decimals`, and explains a fault with `--explain`. Its
 /// destination has the FILE of `--output` or `-o`, if there is one, is waited for as many seconds as `--wait` says, 1 to
-/// `MAX_WAIT`, 0 without it, and is atomic with `--atomic`. With `--check` it is a check, of a MODEL and maybe of
-/// SCRIPTS. The options stand in any order, and names before, between and after them. Refused: a number outside these
-/// ranges, `--wait` without `--output`, a MODEL without SCRIPTS, a third name, and an option if it is unknown, comes
-/// twice or has no value; with `--check` a line without a MODEL, and an option for runs only.
+/// `MAX_WAIT`, 0 without it, is atomic with `--atomic`, and gets the report alone with `--report-only`. With `--check` it
+/// is a check, of a MODEL and maybe of SCRIPTS. The options stand in any order, and names before, between and after them.
+/// Refused: a number outside these ranges, `--wait` without `--output`, `--output` or `--atomic` beside `--report-only`, a
+/// MODEL without SCRIPTS, a third name, and an option if it is unknown, comes twice or has no value; with `--check` a line
+/// without a MODEL, and an option for runs only.
 pub fn asked_by<'a>(alloc: Global, words: &'a [String]) -> Result<Asked<'a>, LineFault>
     ensures names { All IsName (drop 1 (map string_bytes words.now))
         → AnswersNames plain_options plain_destination (drop 1 (map string_bytes words.now)) result }
@@ -160,10 +164,13 @@ fn output_command<'a>(alloc: Global) -> Result<Command<'a>, OutOfMemory>
 {
     let wait = "How long to wait where another run holds FILE, 1 to 86400 [default: not at all]";
     let atomic = "Write no model where a script is refused or out of memory, and end with status 3";
+    let report_only =
+        "Write the report alone, and no model anywhere: to read, or to try scripts out";
     run_command(alloc)?
         .arg(output_option(alloc))?
         .arg(value_option(alloc, WAIT, "SECONDS", wait))?
-        .arg(flag(alloc, ATOMIC, atomic))
+        .arg(flag(alloc, ATOMIC, atomic))?
+        .arg(flag(alloc, REPORT_ONLY, report_only))
 }
 
 /// The command line without the options for output.

@@ -1,7 +1,7 @@
 //! The request by the options and names of a command line.
 ghost use Rattle.std.specs.Prelude.{◌≤◌, ℕ, IfOk, MatchOption, MatchResult};
 ghost use Rattle.clap.specs.Words.{found_of};
-ghost use Rattle.city_options.specs.RunOptions.{AreWithin};
+ghost use Rattle.city_options.specs.RunOptions.{AreWithin, Contradicts, IsConsistent};
 ghost use Rattle.city_options.specs.CommandLines.{AnswersCheck, AnswersNames, AnswersOptions, AnswersRun};
 ghost use Rattle.city_options.specs.CommandLines.{AreLineOptions, HasOptions, HasRunOption, IsCount};
 ghost use Rattle.city_options.specs.CommandLines.{IsLineDestination, IsSameDestination, IsWait};
@@ -10,8 +10,8 @@ ghost use Rattle.city_options.specs.declared.options.Options.{Options};
 ghost use Rattle.city_options.specs.internal.GivenLine.{IsFound, line_of, names_of, text_of};
 
 use crate::command_line::{
-    ATOMIC, Asked, CHECK, DECIMALS, EXPLAIN, LineFault, MODEL, OUTPUT, SCRIPTS, WAIT, WATCH,
-    WORKERS,
+    ATOMIC, Asked, CHECK, DECIMALS, EXPLAIN, LineFault, MODEL, OUTPUT, REPORT_ONLY, SCRIPTS, WAIT,
+    WATCH, WORKERS,
 };
 use crate::options::{Destination, MAX_WAIT, Options};
 use city_board::MAX_VIEWERS;
@@ -30,6 +30,7 @@ pub(crate) struct Given<'a> {
     pub wait: Option<&'a str>,
     pub decimals: bool,
     pub atomic: bool,
+    pub report_only: bool,
     pub check: bool,
     pub explain: bool,
     pub model: Option<&'a str>,
@@ -47,6 +48,7 @@ pub(crate) fn given_in<'a>(matches: &ArgMatches<'a>) -> Given<'a>
         wait: matches.get_str(WAIT),
         decimals: matches.get_flag(DECIMALS),
         atomic: matches.get_flag(ATOMIC),
+        report_only: matches.get_flag(REPORT_ONLY),
         check: matches.get_flag(CHECK),
         explain: matches.get_flag(EXPLAIN),
         model: matches.get_str(MODEL),
@@ -109,6 +111,8 @@ fn of_run(given: &Given<'_>) -> Option<&'static str>
         Some("--check writes no model, and takes no --wait")
     } else if given.atomic {
         Some("--check writes no model, and takes no --atomic")
+    } else if given.report_only {
+        Some("--check runs nothing, and takes no --report-only")
     } else {
         None
     }
@@ -157,16 +161,19 @@ fn options_by<'a>(
     })
 }
 
-/// The destination of a run. Refuses a text that is no number of seconds, or outside the range, and
-/// a wait without a file.
+/// The destination of a run. Refuses a text that is no number of seconds, or outside the range, a
+/// wait without a file, and beside `--report-only` an option for a model.
 fn destination_by<'a>(
     alloc: Global,
     command: &mut Command<'a>,
     given: &Given<'a>,
 ) -> Result<Destination<'a>, LineFault>
-    ensures { MatchResult result (IsLineDestination (line_of given.now))
+    ensures { MatchResult result (λ to. IsLineDestination (line_of given.now) to × IsConsistent to)
         (λ _. (to : Destination) → ¬ IsLineDestination (line_of given.now) to) }
 {
+    if let Some(message) = of_model(given) {
+        return Err(mistake(alloc, command, ErrorKind::ArgumentConflict, message)?);
+    }
     let kind = ErrorKind::ValueValidation;
     let Some(wait) = seconds_by(given.wait) else {
         let message = "--wait takes a number of seconds from 1 to 86400";
@@ -179,8 +186,27 @@ fn destination_by<'a>(
     Ok(Destination {
         file: given.output,
         atomic: given.atomic,
+        report_only: given.report_only,
         wait,
     })
+}
+
+/// The mistake in the first option for a model, beside `--report-only`. `None` if there is none.
+fn of_model(given: &Given<'_>) -> Option<&'static str>
+    ensures { MatchOption result
+        (¬ Contradicts given.now.report_only (text_of given.now.output) given.now.atomic)
+        (λ _. Contradicts given.now.report_only (text_of given.now.output) given.now.atomic) }
+{
+    if !given.report_only {
+        return None;
+    }
+    if given.output.is_some() {
+        return Some("--report-only writes no model, and takes no --output");
+    }
+    if given.atomic {
+        return Some("--report-only writes no model, and takes no --atomic");
+    }
+    None
 }
 
 /// The number of seconds in a text, 1 to `MAX_WAIT`; 0 without a text. `None` if the text writes no
@@ -220,7 +246,7 @@ fn by_names<'a>(
 ) -> Result<Asked<'a>, LineFault>
     ensures names { (to : Destination) → IsSameDestination destination.entry to
         → AnswersNames options to (names_of (text_of given.now.model) (text_of given.now.scripts)) result }
-    ensures within { AreWithin options → IfOk result HasOptions }
+    ensures within { AreWithin options → IsConsistent destination.entry → IfOk result HasOptions }
 {
     match (given.model, given.scripts) {
         (Some(model), Some(scripts)) => Ok(Asked::Files(options, destination, model, scripts)),

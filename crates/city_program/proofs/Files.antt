@@ -4,7 +4,7 @@ use Rattle.city_program.proofs.Prelude.{refl, subst, sym}
 use Rattle.city_program.proofs.Prelude.{ap, Vec, Asked, ServeFault}
 use Rattle.std.proofs.Common.{Bor}
 use Rattle.city_serve.proofs.Taken.{takes_more}
-use Rattle.city_serve.specs.Destinations.{Folder, IsDeliveryFault}
+use Rattle.city_serve.specs.Destinations.{Folder, IsDeliveryFault, goes_nowhere}
 use Rattle.city_serve.specs.Steps.{Step, Takes, delivering}
 use Rattle.city_options.specs.RunOptions.{file_of}
 use Rattle.city_options.specs.declared.options.Destination.{Destination}
@@ -29,10 +29,11 @@ withheld_told false = refl
 pub files_done : (begun a b ended : Option (List Step)) (asked : Asked) (options : Options) (destination : Destination)
     (model scripts : Bor (List ℕ)) → asked ≡ Asked.Files options destination model scripts → (withheld : Bool)
     (status : Status) → status ≡ run_status withheld → Takes begun a (Step.Read model.now ∷ [])
-    → Takes a b (Step.Read scripts.now ∷ []) → Takes b ended (delivering (file_of destination) withheld)
+    → Takes a b (Step.Read scripts.now ∷ [])
+    → Takes b ended (delivering (file_of destination) (goes_nowhere destination withheld))
     → Takes begun ended (steps_inside asked (is_withheld_at status))
 files_done begun a b ended asked options destination model scripts asks withheld status is step next last =
-    let steps = delivering (file_of destination) withheld in
+    let steps = delivering (file_of destination) (goes_nowhere destination withheld) in
     let told : is_withheld_at status ≡ withheld = ap is_withheld_at is ∙ withheld_told withheld in
     let taken : Takes begun ended (steps_inside (Asked.Files options destination model scripts) withheld) =
     takes_more begun a ended (Step.Read model.now ∷ []) (Step.Read scripts.now ∷ steps) step

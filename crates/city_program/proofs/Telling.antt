@@ -6,10 +6,11 @@ use Rattle.std.proofs.Common.{arith, get_or, take}
 use Rattle.std.proofs.lemmas.List.{take_more, length-take-le}
 use Rattle.city_program.specs.declared.status.Status.{Status}
 use Rattle.city_serve.specs.FaultTexts.{fault_text}
-use Rattle.city_program.specs.Programs.{Streams, IsAnswered, IsTold, IsToldFault, IsUnanswered, is_explained}
-use Rattle.city_program.specs.Programs.{seen_lines, memory_line, TakesLocked, reading, steps_inside}
+use Rattle.city_program.specs.Programs.{Streams, IsAnswered, IsTold, IsToldFault, IsUnanswered, done_text, is_explained}
+use Rattle.city_program.specs.Programs.{seen_lines, memory_line, no_faults_line, TakesLocked, reading, steps_inside}
 use Rattle.city_serve.specs.Steps.{Takes}
 use Rattle.city_program.specs.internal.Telling.{IsToldAfter, IsFaultText, IsFound, IsAnsweredAs, is_withheld_at}
+use Rattle.city_program.specs.internal.Telling.{tells_no_faults}
 use Rattle.city_serve.proofs.KnownBytes.{appends_more}
 
 -- the lines of the first viewers, if all writes succeeded
@@ -66,6 +67,22 @@ told_fault false f behind text none (inr is) = inr is
 none_within : (viewer : ℕ) (seen : List (Vec ℕ)) → seen ≡ [] → viewer < length seen → ⊥
 none_within viewer seen none within = grind arith
 
+-- nothing but what viewers saw is told of a check without a fault that isn't on a terminal, and of a run
+plainly_done : (asked : Asked) (terminal : Bool) (seen : List (Vec ℕ))
+    → tells_no_faults Status.Done asked terminal ≡ false → seen_lines 0 seen ≡ done_text asked terminal seen
+plainly_done (Asked.Check options model scripts) true seen none = absurd (cc)
+plainly_done (Asked.Check options model scripts) false seen none = refl
+plainly_done (Asked.Input options destination) terminal seen none = refl
+plainly_done (Asked.Files options destination model scripts) terminal seen none = refl
+plainly_done (Asked.Text text) terminal seen none = refl
+
+plainly_withheld : (s : Streams) (asked : Asked) (terminal : Bool) (seen : List (Vec ℕ)) → IsAnswered s asked seen true
+    → seen_lines 0 seen ≡ done_text asked terminal seen
+plainly_withheld s (Asked.Check options model scripts) terminal seen is = let wrong = is.1 in absurd (cc)
+plainly_withheld s (Asked.Input options destination) terminal seen is = refl
+plainly_withheld s (Asked.Files options destination model scripts) terminal seen is = refl
+plainly_withheld s (Asked.Text text) terminal seen is = refl
+
 module _ (terminal : Bool) (s : Streams) (told telling : Option (List ℕ)) (mute : Bool) where
   found : (asked : Asked) (status : Status) (seen : List (Vec ℕ)) → IsFound s asked seen
       → TakesLocked asked s (steps_inside asked false)
@@ -100,16 +117,28 @@ module _ (terminal : Bool) (s : Streams) (told telling : Option (List ℕ)) (mut
           seen_told = failed.1;
         }))
 
-    pub ends_told : (ending status : Status) (seen : List (Vec ℕ)) → IsAnsweredAs s asked seen ending
-        → TakesLocked asked s (steps_inside asked (is_withheld_at ending))
+    pub ends_told : (ending status : Status) (seen : List (Vec ℕ)) → tells_no_faults ending asked terminal ≡ false
+        → IsAnsweredAs s asked seen ending → TakesLocked asked s (steps_inside asked (is_withheld_at ending))
         → IsSeenTold ending status told telling mute seen → EndsAsked terminal asked status s told telling mute
-    ends_told Status.Done status seen answered steps lines = ends_so Status.Done false status seen answered steps
-        (λ told. record { seen = seen; answered = answered; steps = steps; seen_told = told }) lines
-    ends_told Status.Withheld status seen answered steps lines = ends_so Status.Withheld true status seen answered
-        steps (λ told. record { seen = seen; answered = answered; steps = steps; seen_told = told }) lines
-    ends_told Status.Faulty status seen is steps lines = found asked status seen is steps lines
-    ends_told Status.Failed status seen answered steps lines = absurd answered
-    ends_told Status.Refused status seen answered steps lines = absurd answered
+    ends_told Status.Done status seen none answered steps lines =
+        let text = plainly_done asked terminal seen none in
+        ends_so Status.Done false status seen answered steps (λ are. record {
+          seen = seen;
+          answered = answered;
+          steps = steps;
+          is_told = subst (IsTold told telling mute) text are;
+        }) lines
+    ends_told Status.Withheld status seen none answered steps lines =
+        let text = plainly_withheld s asked terminal seen answered in
+        ends_so Status.Withheld true status seen answered steps (λ are. record {
+          seen = seen;
+          answered = answered;
+          steps = steps;
+          is_told = subst (IsTold told telling mute) text are;
+        }) lines
+    ends_told Status.Faulty status seen none is steps lines = found asked status seen is steps lines
+    ends_told Status.Failed status seen none answered steps lines = absurd answered
+    ends_told Status.Refused status seen none answered steps lines = absurd answered
 
     pub ends_faulty : (before : Bool) (f : ServeFault) → IsUnanswered s asked f
         → ((text : List ℕ) × IsToldFault (is_explained terminal asked) f text
@@ -122,3 +151,18 @@ module _ (terminal : Bool) (s : Streams) (told telling : Option (List ℕ)) (mut
       line_is = text.1;
       why = text.2.0;
     })
+
+  pub ends_faultless : (asked : Asked) (ending : Status) (seen : List (Vec ℕ)) → IsAnsweredAs s asked seen ending
+      → TakesLocked asked s (steps_inside asked (is_withheld_at ending))
+      → tells_no_faults ending asked terminal ≡ true → IsTold told telling mute no_faults_line
+      → EndsAsked terminal asked Status.Done s told telling mute
+  ends_faultless (Asked.Check options model scripts) Status.Done seen answered steps on line =
+      subst (λ t. EndsAsked t (Asked.Check options model scripts) Status.Done s told telling mute) (sym on)
+      (record { seen = seen; answered = answered; steps = steps; is_told = line })
+  ends_faultless (Asked.Input options destination) Status.Done seen answered steps on line = absurd (cc)
+  ends_faultless (Asked.Files options destination model scripts) Status.Done seen answered steps on line = absurd (cc)
+  ends_faultless (Asked.Text text) Status.Done seen answered steps on line = absurd (cc)
+  ends_faultless asked Status.Withheld seen answered steps on line = absurd (cc)
+  ends_faultless asked Status.Faulty seen answered steps on line = absurd (cc)
+  ends_faultless asked Status.Failed seen answered steps on line = absurd answered
+  ends_faultless asked Status.Refused seen answered steps on line = absurd answered

@@ -1,11 +1,13 @@
 -- The output of a check: a line for each fault of a model, and then for each of scripts.
-use Rattle.std.specs.Prelude.{◌≡◌, ◌≢◌, ℕ, Bool, true, false, List, [], ◌∷◌, ◌++◌, take, Option, Some, None, IfSome}
+use Rattle.std.specs.Prelude.{◌≡◌, ◌≢◌, ◌⊎◌, ℕ, Bool, true, false, List, [], ◌∷◌, ◌++◌, take, Option, Some, None, IfSome}
 use Rattle.city_doc.specs.declared.fault.ReadFault.{ReadFault}
 use Rattle.city_doc.specs.document.Accepted as model
 use Rattle.city_scripts.specs.declared.fault.ScriptFault.{ScriptFault}
 use Rattle.city_doc.specs.document.AllFaults as model_faults
+use Rattle.city_doc.specs.document.Faults.{DocumentFault}
 use Rattle.city_scripts.specs.AllFaults as script_faults
-use Rattle.city_diagnostics.specs.Lines.{AreLinesOf}
+use Rattle.city_scripts.specs.Faults.{ScriptTextFault}
+use Rattle.city_diagnostics.specs.Lines.{AreLinesOf, FirstLineIs}
 use Rattle.city_diagnostics.specs.ModelLines.{Tells}
 use Rattle.city_diagnostics.specs.ScriptLines.{TellsScript}
 use Rattle.city_serve.specs.Decimals.{IsGiven}
@@ -17,7 +19,8 @@ abbrev pub IsJudged : Bool → List ℕ → List ℕ → Type 0
 IsJudged true text judged = IsGiven text judged
 IsJudged false text judged = judged ≡ text
 
--- the lines of all faults of a model; none exactly if it is accepted
+-- the lines of all faults of a model; none exactly if it is accepted. The first tells a fault that a run answers, and
+-- any that it answers, unless memory runs out
 pub record AreModelLines (decimals : Bool) (text lines : List ℕ) : Type 0 where
   pub judged : List ℕ
   pub judged_is : IsJudged decimals text judged
@@ -26,8 +29,11 @@ pub record AreModelLines (decimals : Bool) (text lines : List ℕ) : Type 0 wher
   pub told : AreLinesOf Tells faults lines
   pub accepted : lines ≡ [] → model.IsAccepted judged
   pub none : model.IsAccepted judged → lines ≡ []
+  pub first : (lines ≡ []) ⊎ ((f : ReadFault) × DocumentFault judged f × FirstLineIs (Tells f) lines)
+  pub answered : (f : ReadFault) → DocumentFault judged f
+      → (f ≡ ReadFault.OutOfMemory) ⊎ FirstLineIs (Tells f) lines
 
--- the lines of all faults of scripts; none exactly if they are accepted
+-- the lines of all faults of scripts; none exactly if they are accepted. The first is as of a model
 pub record AreScriptsLines (decimals : Bool) (text lines : List ℕ) : Type 0 where
   pub judged : List ℕ
   pub judged_is : IsJudged decimals text judged
@@ -36,6 +42,9 @@ pub record AreScriptsLines (decimals : Bool) (text lines : List ℕ) : Type 0 wh
   pub told : AreLinesOf TellsScript faults lines
   pub accepted : lines ≡ [] → script_faults.IsAccepted judged
   pub none : script_faults.IsAccepted judged → lines ≡ []
+  pub first : (lines ≡ []) ⊎ ((f : ScriptFault) × ScriptTextFault judged f × FirstLineIs (TellsScript f) lines)
+  pub answered : (f : ScriptFault) → ScriptTextFault judged f
+      → (f ≡ ScriptFault.OutOfMemory) ⊎ FirstLineIs (TellsScript f) lines
 
 -- the lines of the scripts, if there are any
 abbrev pub AreLinesBehind : Bool → Option (List ℕ) → List ℕ → Type 0

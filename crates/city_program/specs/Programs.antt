@@ -11,7 +11,7 @@ use Rattle.city_program.specs.declared.status.Status.{Status}
 use Rattle.city_program.specs.Checks.{AreCheckLines, AreFirstOf, HasLines, OfFiles, reading_of}
 use Rattle.city_options.specs.CommandLines.{IsName, Line, IsLineOf, AnswersNames, AnswersOptions, AsksForText}
 use Rattle.city_options.specs.CommandLines.{HasOptions, IsShown, MeetsUnknownOption}
-use Rattle.city_serve.specs.Destinations.{Folder, IsDelivered, IsDeliveryFault, IsLockFault}
+use Rattle.city_serve.specs.Destinations.{Folder, IsDelivered, IsDeliveryFault, IsLockFault, goes_nowhere}
 use Rattle.city_serve.specs.Steps.{Step, Takes, delivering, under_lock}
 use Rattle.city_options.specs.RunOptions.{file_of, plain_options, plain_destination}
 use Rattle.city_serve.specs.FaultTexts.{fault_text}
@@ -77,9 +77,15 @@ reading (Asked.Files options destination model scripts) = reading_of model.now (
 reading (Asked.Check options model scripts) = reading_of model.now (option_map (λ t. t.now) scripts)
 reading _ = []
 
+-- the model of a request goes nowhere: the report alone is asked for, or the model is withheld
+abbrev pub is_nowhere : Asked → Bool → Bool
+is_nowhere (Asked.Input options destination) withheld = goes_nowhere destination withheld
+is_nowhere (Asked.Files options destination model scripts) withheld = goes_nowhere destination withheld
+is_nowhere _ withheld = withheld
+
 -- the steps of a request that is done, once its output file is locked
 abbrev pub steps_inside : Asked → Bool → List Step
-steps_inside asked withheld = reading asked ++ delivering (output_of asked) withheld
+steps_inside asked withheld = reading asked ++ delivering (output_of asked) (is_nowhere asked withheld)
 
 -- these steps were taken, the output file being locked before them and unlocked behind them
 abbrev pub TakesLocked : Asked → Streams → List Step → Type 0
@@ -202,15 +208,25 @@ IsToldFault false f text = (text ≡ fault_text f ++ 10 ∷ []) ⊎ (text ≡ me
 IsToldFault true f text =
     ((behind : List ℕ) × (text ≡ (fault_text f ++ 10 ∷ []) ++ behind)) ⊎ (text ≡ memory_line)
 
+-- the line of a check without a fault, for a terminal
+abbrev pub no_faults_line : List ℕ
+no_faults_line = codes "cityed: no faults\n"
+
+-- what standard error gets once a request is done: on a terminal the line of a check without a fault, and otherwise a
+-- line for each viewer
+abbrev pub done_text : Asked → Bool → List (Vec ℕ) → List ℕ
+done_text (Asked.Check options model scripts) true seen = no_faults_line
+done_text _ terminal seen = seen_lines 0 seen
+
 -- ---- how the program ends
 
--- the request is done, and standard error has got what each viewer saw
-pub record IsDone (asked : Asked) (withheld : Bool) (s : Streams) (told telling : Option (List ℕ)) (mute : Bool)
-    : Type 0 where
+-- the request is done, and standard error has got what each viewer saw, or on a terminal that a check found no fault
+pub record IsDone (terminal : Bool) (asked : Asked) (withheld : Bool) (s : Streams) (told telling : Option (List ℕ))
+    (mute : Bool) : Type 0 where
   pub seen : List (Vec ℕ)
   pub answered : IsAnswered s asked seen withheld
   pub steps : TakesLocked asked s (steps_inside asked withheld)
-  pub seen_told : IsTold told telling mute (seen_lines 0 seen)
+  pub is_told : IsTold told telling mute (done_text asked terminal seen)
 
 -- the request is done, and standard error has got what some viewers saw, and that memory ran out for the next
 pub record IsDoneToldInPart (asked : Asked) (s : Streams) (told telling : Option (List ℕ)) (mute : Bool)
@@ -252,8 +268,8 @@ pub record IsScriptsNamed (asked : Asked) (s : Streams) (told telling : Option (
 -- the promises at each status once it is known what is asked for, and whether standard error is a terminal: a fault is
 -- the answer's, or of memory for telling what viewers saw, after a complete answer
 abbrev pub EndsAsked : Bool → Asked → Status → Streams → Option (List ℕ) → Option (List ℕ) → Bool → Type 0
-EndsAsked terminal asked Status.Done s told telling mute = IsDone asked false s told telling mute
-EndsAsked terminal asked Status.Withheld s told telling mute = IsDone asked true s told telling mute
+EndsAsked terminal asked Status.Done s told telling mute = IsDone terminal asked false s told telling mute
+EndsAsked terminal asked Status.Withheld s told telling mute = IsDone terminal asked true s told telling mute
 EndsAsked terminal asked Status.Faulty s told telling mute = IsFoundFaulty asked s told telling mute
 EndsAsked terminal asked Status.Failed s told telling mute =
     IsFaulty terminal asked s told telling mute ⊎ IsDoneToldInPart asked s told telling mute

@@ -15,6 +15,10 @@ const IN_USE: &str = "another run writes it; --wait SECONDS waits for that one";
 /// What a person is told of an output file that isn't what was read.
 const CHANGED: &str = "another program changed it since it was read; it is as that program left it";
 
+/// What a person is told of a model on standard input that is no JSON: it may be one of several lines.
+const ONE_LINE: &str =
+    "on standard input the model has to be one line; as a file it may have several";
+
 /// Where a text comes from, or goes to.
 #[derive(Clone, Copy)]
 enum Named<'a> {
@@ -55,7 +59,10 @@ fn document(
     text: &Text,
     fault: &ReadFault,
 ) -> Result<String, OutOfMemory> {
-    let told = explain_document(alloc, text.bytes.as_slice(), text.is_given(), fault)?;
+    let mut told = explain_document(alloc, text.bytes.as_slice(), text.is_given(), fault)?;
+    if let (Asked::Input(..), ReadFault::NotJson) = (asked, fault) {
+        push_line(&mut told, "note", ONE_LINE)?;
+    }
     around(alloc, asked, model_name(asked), told.as_str())
 }
 

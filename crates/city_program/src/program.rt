@@ -9,7 +9,7 @@ ghost use Rattle.city_program.specs.Programs.{is_explained, IsUnanswered, IsUnan
 ghost use Rattle.city_program.specs.Programs.{HasOutputAndScripts, NamesScripts, output_of, steps_inside};
 ghost use Rattle.city_program.specs.Programs.{Ends, EndsAsked, memory_line};
 ghost use Rattle.city_program.specs.internal.Telling.{run_status, check_status, IsAnsweredAs, IsFaultText, IsToldAfter};
-ghost use Rattle.city_program.specs.internal.Telling.{IsSeenTold, is_withheld_at};
+ghost use Rattle.city_program.specs.internal.Telling.{IsSeenTold, is_check, is_withheld_at, tells_no_faults};
 ghost use Rattle.city_serve.specs.Steps.{Step, Takes, under_lock};
 
 use crate::check::check;
@@ -34,6 +34,9 @@ use std::thread::Threads;
 /// Told if memory runs out.
 pub(crate) const MEMORY_LINE: &str = "cityed: out of memory\n";
 
+/// Told on a terminal if a check finds no fault.
+const NO_FAULTS: &str = "cityed: no faults\n";
+
 /// Told if the output file is the scripts' file.
 const SCRIPTS_NAMED: &str =
     "error: --output names SCRIPTS\n\nFor more information, try '--help'.\n";
@@ -43,7 +46,7 @@ const SCRIPTS_NAMED: &str =
 /// Output gets everything served, or the requested text; an output file is replaced whole, or stays
 /// as it was. It is locked before any text is read, and unlocked at the end; a line whose output
 /// file is the scripts' file is refused. Errors get a line for each viewer once the output is
-/// written, or why there is none. A failure to write errors changes no status. The memory of the
+/// written, on a terminal a line if a check finds no fault, or why there is no output. A failure to write errors changes no status. The memory of the
 /// final city isn't given back: the process is taken to end.
 pub fn run_program<
     T: Threads + Wait + Sync,
@@ -64,6 +67,7 @@ pub fn run_program<
     errors: &mut Device<E>,
     terminal: bool,
 ) -> Status
+    requires { (input.old.1 ≡ false) × (output.old.1 ≡ false) }
     ensures { Ends terminal (drop 1 (map string_bytes words.now)) result
         (record {
           before = F.text files.old;
@@ -100,7 +104,8 @@ fn run_asked<T: Threads + Wait + Sync, G: Gate + Sync, F: OutputFiles, R: Read, 
     errors: &mut Device<E>,
     terminal: bool,
 ) -> Status
-    requires { HasOptions asked.now }
+    requires options { HasOptions asked.now }
+    requires fresh { output.old.1 ≡ false }
     ensures named { NamesScripts asked.now → result ≡ Status.Refused }
     ensures ended { EndsAsked terminal asked.now result
         (record {
@@ -125,10 +130,35 @@ fn run_asked<T: Threads + Wait + Sync, G: Gate + Sync, F: OutputFiles, R: Read, 
     match answer(
         rt, alloc, gate, seed, files, &mut texts, asked, input, output,
     ) {
-        Ok(answer) => tell_seen(alloc, answer.seen.as_slice(), answer.status, errors),
+        Ok(answer) => {
+            if tells_no_faults(terminal, asked, answer.status) {
+                tell(errors, NO_FAULTS);
+                return Status::Done;
+            }
+            tell_seen(alloc, answer.seen.as_slice(), answer.status, errors)
+        }
         Err(fault) => tell_unanswered(
             alloc, terminal, fault, asked, texts, files, input, output, errors,
         ),
+    }
+}
+
+/// Whether it is told that a check found no fault: on a terminal.
+fn tells_no_faults(terminal: bool, asked: &Asked<'_>, status: Status) -> bool
+    ensures { result ≡ tells_no_faults status asked.now terminal }
+{
+    match status {
+        Status::Done => is_check(asked) && terminal,
+        Status::Failed | Status::Faulty | Status::Refused | Status::Withheld => false,
+    }
+}
+
+fn is_check(asked: &Asked<'_>) -> bool
+    ensures { result ≡ is_check asked.now }
+{
+    match asked {
+        Asked::Check(_, _, _) => true,
+        Asked::Input(_, _) | Asked::Files(_, _, _, _) | Asked::Text(_) => false,
     }
 }
 
@@ -264,7 +294,8 @@ fn answer<T: Threads + Wait + Sync, G: Gate + Sync, F: OutputFiles, R: Read, W: 
     input: &mut Device<R>,
     output: &mut Device<W>,
 ) -> Result<Answered, ServeFault>
-    requires { HasOptions asked.now }
+    requires options { HasOptions asked.now }
+    requires fresh { output.old.1 ≡ false }
     ensures answered { IfOk result (λ a. IsAnsweredAs
         (record {
           before = F.text files.old;
@@ -318,7 +349,8 @@ fn answer_inside<T: Threads + Wait + Sync, G: Gate + Sync, F: OutputFiles, R: Re
     input: &mut Device<R>,
     output: &mut Device<W>,
 ) -> Result<Answered, ServeFault>
-    requires { HasOptions asked.now }
+    requires options { HasOptions asked.now }
+    requires fresh { output.old.1 ≡ false }
     ensures answered { IfOk result (λ a. IsAnsweredAs
         (record {
           before = F.text files.old;

@@ -53,7 +53,8 @@ fn add_options(word: &str, options: Options, said: &mut Written) {
     said.add(if options.explain { " explain" } else { "" });
 }
 
-/// Adds the output file of the model and the seconds to wait for it, if there are such, and a word for all or nothing.
+/// Adds the output file of the model and the seconds to wait for it, if there are such, and a word each for all or
+/// nothing and for the report alone.
 fn add_destination(destination: Destination<'_>, said: &mut Written) {
     if let Some(file) = destination.file {
         said.add(" output=");
@@ -64,6 +65,11 @@ fn add_destination(destination: Destination<'_>, said: &mut Written) {
         said.show(&destination.wait);
     }
     said.add(if destination.atomic { " atomic" } else { "" });
+    said.add(if destination.report_only {
+        " report-only"
+    } else {
+        ""
+    });
 }
 
 fn add_input(options: Options, destination: Destination<'_>, said: &mut Written) {

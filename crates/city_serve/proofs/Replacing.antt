@@ -95,45 +95,45 @@ module _ (path report model : List ℕ) (known : Bool) (contents : Option (List 
 
 -- ---- sending
 
--- a model that is withheld goes nowhere
+-- a model that goes nowhere
 module _ (report model : List ℕ) (before after : Folder) where
-  pub withheld_bytes : (file : Option (List ℕ)) → bytes_to_writer file true report model ≡ report
-  withheld_bytes None = refl
-  withheld_bytes (Some path) = refl
+  pub nowhere_bytes : (file : Option (List ℕ)) → bytes_to_writer file true report model ≡ report
+  nowhere_bytes None = refl
+  nowhere_bytes (Some path) = refl
 
-  pub withheld_placed : (file : Option (List ℕ)) → after ≡ before → IsPlaced file true model before after
-  withheld_placed None same = same
-  withheld_placed (Some path) same = same
+  pub nowhere_placed : (file : Option (List ℕ)) → after ≡ before → IsPlaced file true model before after
+  nowhere_placed None same = same
+  nowhere_placed (Some path) same = same
 
-  pub withheld_steps : (file : Option (List ℕ)) → delivering file true ≡ []
-  withheld_steps None = refl
-  withheld_steps (Some path) = refl
+  pub nowhere_steps : (file : Option (List ℕ)) → delivering file true ≡ []
+  nowhere_steps None = refl
+  nowhere_steps (Some path) = refl
 
-  withheld_cut : (file : Option (List ℕ)) (failed : Bool) (old new : Option (List ℕ)) (writer_failed : Bool)
+  nowhere_cut : (file : Option (List ℕ)) (failed : Bool) (old new : Option (List ℕ)) (writer_failed : Bool)
       (steps : List Step) (f : ServeFault) → IsWriterCut report before after old new writer_failed steps f
       → IsBrokenOff file true report model before after failed old new writer_failed steps f
-  withheld_cut None failed old new writer_failed steps f is = is
-  withheld_cut (Some path) failed old new writer_failed steps f is = is
+  nowhere_cut None failed old new writer_failed steps f is = is
+  nowhere_cut (Some path) failed old new writer_failed steps f is = is
 
 -- the writer is cut short, and no step is taken
-module _ (file : Option (List ℕ)) (withheld : Bool) (report model sent : List ℕ) (folder : Folder) (failed : Bool)
+module _ (file : Option (List ℕ)) (nowhere : Bool) (report model sent : List ℕ) (folder : Folder) (failed : Bool)
     (old new : Option (List ℕ)) (writer_failed : Bool) (a : Option (List Step)) (f : ServeFault)
     (is : (f ≡ ServeFault.Write) × AppendsSome old new sent × (writer_failed ≡ true)) where
   abbrev Cut : List Step → Type 0
-  Cut steps = IsBrokenOff file withheld report model folder folder failed old new writer_failed steps f
+  Cut steps = IsBrokenOff file nowhere report model folder folder failed old new writer_failed steps f
 
   cut : (bytes : List ℕ) → sent ≡ bytes → IsWriterCut bytes folder folder old new writer_failed [] f
   cut bytes same = (is.0, subst (AppendsSome old new) same is.1, refl, is.2, refl)
 
-  pub cut_where_withheld : withheld ≡ true → sent ≡ report → Broke Cut a a
-  cut_where_withheld held same = (
+  pub cut_nowhere : nowhere ≡ true → sent ≡ report → Broke Cut a a
+  cut_nowhere held same = (
     [],
     subst (λ b. IsBrokenOff file b report model folder folder failed old new writer_failed [] f) (sym held)
-        (withheld_cut report model folder folder file failed old new writer_failed [] f (cut report same)),
+        (nowhere_cut report model folder folder file failed old new writer_failed [] f (cut report same)),
     takes_none a,
   )
 
-  pub cut_without_file : withheld ≡ false → file ≡ None → sent ≡ report ++ model → Broke Cut a a
+  pub cut_without_file : nowhere ≡ false → file ≡ None → sent ≡ report ++ model → Broke Cut a a
   cut_without_file held none same = (
     [],
     subst (λ b. IsBrokenOff file b report model folder folder failed old new writer_failed [] f) (sym held)

@@ -9,7 +9,7 @@ use Rattle.city_options.specs.declared.options.Options.{Options}
 use Rattle.city_options.specs.RunOptions.{file_of, plain_destination}
 use Rattle.city_options.specs.declared.options.Destination.{Destination}
 use Rattle.city_serve.specs.Destinations.{Folder, IsBrokenOff, IsCutAt, IsCutShort, IsRunInParts, IsDelivered}
-use Rattle.city_serve.specs.Destinations.{IsDeliveryFault, bytes_to_writer, is_withheld}
+use Rattle.city_serve.specs.Destinations.{IsDeliveryFault, bytes_to_writer, goes_nowhere, is_withheld}
 use Rattle.city_serve.specs.Steps.{Step}
 use Rattle.city_desk.specs.declared.fault.RunFault.{RunFault}
 use Rattle.city_serve.specs.ServedTexts.{Written, Faults, WhereAlone, AreCutShortBy, IsTextsFaultBy}
@@ -78,11 +78,11 @@ module _ (options : Options) (document scripts : List ℕ) (before after : Folde
 -- a delivery that breaks off is no fault of the run
 module _ (report model : List ℕ) (before after : Folder) (files_failed : Bool) (old new : Option (List ℕ))
     (failed : Bool) (steps : List Step) where
-  never_run : (file : Option (List ℕ)) (withheld : Bool) (f : RunFault)
-      → IsBrokenOff file withheld report model before after files_failed old new failed steps (ServeFault.Run f) → ⊥
+  never_run : (file : Option (List ℕ)) (nowhere : Bool) (f : RunFault)
+      → IsBrokenOff file nowhere report model before after files_failed old new failed steps (ServeFault.Run f) → ⊥
   never_run (Some path) false f broken = broken
   never_run (Some path) true f broken = let wrong = broken.0 in cc
-  never_run None withheld f broken = let wrong = broken.0 in cc
+  never_run None nowhere f broken = let wrong = broken.0 in cc
 
 module _ (destination : Destination) (options : Options) (document scripts : List ℕ) (before after : Folder)
     (files_failed : Bool) (old new : Option (List ℕ)) (failed : Bool) (steps : List Step) where
@@ -90,7 +90,7 @@ module _ (destination : Destination) (options : Options) (document scripts : Lis
       → IsCutShort destination options document scripts before after files_failed old new failed steps f
       → IsDeliveryFault destination options document scripts before after files_failed old new failed steps f
   cut_fault (ServeFault.Run f) is = absurd (never_run is.report is.model before after files_failed old new failed steps
-      (file_of destination) (is_withheld destination is.ends) f is.broken)
+      (file_of destination) (goes_nowhere destination (is_withheld destination is.ends)) f is.broken)
   cut_fault ServeFault.Read is = is
   cut_fault ServeFault.Write is = is
   cut_fault ServeFault.InUse is = is

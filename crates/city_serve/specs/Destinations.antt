@@ -1,5 +1,5 @@
 -- The destination of a run's output: the report goes to a writer, and the model behind it or to a file.
-use Rattle.std.specs.Prelude.{◌≡◌, ◌≢◌, ◌⊎◌, ◌&&◌, ◌≤◌, ℕ, Bool, true, false, List, [], ◌∷◌, ◌++◌, length, take}
+use Rattle.std.specs.Prelude.{◌≡◌, ◌≢◌, ◌⊎◌, ◌&&◌, ◌||◌, ◌≤◌, ℕ, Bool, true, false, List, [], ◌∷◌, ◌++◌, length, take}
 use Rattle.std.specs.Prelude.{Option, Some, None, IfSome}
 use Rattle.std.specs.List.{list_any}
 use Rattle.std.specs.Global.{Vec}
@@ -32,9 +32,13 @@ outcome_failed (NoMemory number) = true
 abbrev pub has_failed : End → Bool
 has_failed end = outcome_failed end.outcome
 
--- the model goes nowhere: it was to be written only if no script failed, and one did
+-- the model is withheld: it was to be written only if no script failed, and one did
 abbrev pub is_withheld : Destination → List End → Bool
 is_withheld destination ends = destination.atomic && list_any has_failed ends
+
+-- the model goes nowhere: the report alone is asked for, or the model is withheld
+abbrev pub goes_nowhere : Destination → Bool → Bool
+goes_nowhere destination withheld = destination.report_only || withheld
 
 -- ---- files
 
@@ -48,10 +52,10 @@ IsReplaced path text before after =
     IfSome (after path) (λ all. all ≡ text)
     × ((other : List ℕ) → other ≢ path → after other ≡ before other)
 
--- the output file has the model, unless it is withheld; else all files are as they were
+-- the output file has the model, unless it goes nowhere; else all files are as they were
 abbrev pub IsPlaced : Option (List ℕ) → Bool → List ℕ → Folder → Folder → Type 0
 IsPlaced (Some path) false model before after = IsReplaced path model before after
-IsPlaced file withheld model before after = after ≡ before
+IsPlaced file nowhere model before after = after ≡ before
 
 -- a file isn't locked, since another run holds it, or since a step on it was refused
 abbrev pub IsLockFault : Bool → ServeFault → Type 0
@@ -66,7 +70,7 @@ IsLookFault files_failed f = (f ≡ ServeFault.Changed) ⊎ ((f ≡ ServeFault.W
 -- the writer gets the report, and the model behind it, unless the model goes to a file or nowhere
 abbrev pub bytes_to_writer : Option (List ℕ) → Bool → List ℕ → List ℕ → List ℕ
 bytes_to_writer None false report model = report ++ model
-bytes_to_writer file withheld report model = report
+bytes_to_writer file nowhere report model = report
 
 -- ---- replacing a file that breaks off: what the writer has got, the file, who failed, and the steps taken
 
@@ -125,8 +129,8 @@ abbrev pub IsBrokenOff : Option (List ℕ) → Bool → List ℕ → List ℕ �
     → Option (List ℕ) → Bool → List Step → ServeFault → Type 0
 IsBrokenOff (Some path) false report model before after files_failed old new writer_failed steps f =
     BreaksOff path report model before after files_failed old new writer_failed steps f
-IsBrokenOff file withheld report model before after files_failed old new writer_failed steps f =
-    IsWriterCut (bytes_to_writer file withheld report model) before after old new writer_failed steps f
+IsBrokenOff file nowhere report model before after files_failed old new writer_failed steps f =
+    IsWriterCut (bytes_to_writer file nowhere report model) before after old new writer_failed steps f
 
 -- ---- the output of a run, in its two parts
 
@@ -146,7 +150,7 @@ pub record IsRunInParts (options : Options) (document scripts : List ℕ) (ends 
   pub in_turn : WhereAlone options.workers options.viewers (AreInTurn 0 ends)
   pub report_is : report_by options.decimals ends report
 
--- the report and the model of the same run went to their destinations, or the model was withheld
+-- the report and the model of the same run went to their destinations, or the model went nowhere
 pub record IsDelivered (destination : Destination) (options : Options) (document scripts : List ℕ)
     (seen : List (Vec ℕ)) (withheld : Bool) (before after : Folder) (old new : Option (List ℕ)) : Type 0 where
   pub ends : List End
@@ -155,8 +159,8 @@ pub record IsDelivered (destination : Destination) (options : Options) (document
   pub run : IsRunInParts options document scripts ends report model
   pub looked : AreSeen options.viewers (commits_in ends) seen
   pub withheld_is : withheld ≡ is_withheld destination ends
-  pub written : Appends old new (bytes_to_writer (file_of destination) withheld report model)
-  pub placed : IsPlaced (file_of destination) withheld model before after
+  pub written : Appends old new (bytes_to_writer (file_of destination) (goes_nowhere destination withheld) report model)
+  pub placed : IsPlaced (file_of destination) (goes_nowhere destination withheld) model before after
 
 -- the delivery of a run breaks off
 pub record IsCutShort (destination : Destination) (options : Options) (document scripts : List ℕ)
@@ -166,8 +170,8 @@ pub record IsCutShort (destination : Destination) (options : Options) (document 
   pub report : List ℕ
   pub model : List ℕ
   pub run : IsRunInParts options document scripts ends report model
-  pub broken : IsBrokenOff (file_of destination) (is_withheld destination ends) report model before after files_failed
-      old new writer_failed steps f
+  pub broken : IsBrokenOff (file_of destination) (goes_nowhere destination (is_withheld destination ends)) report model
+      before after files_failed old new writer_failed steps f
 
 -- Write comes only if the writer or the files have failed, and Changed only of a file. If the run is at fault, nothing
 -- is written, and no step taken

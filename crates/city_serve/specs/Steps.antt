@@ -35,10 +35,10 @@ steps_if false step = []
 abbrev pub replacing : List ℕ → List Step
 replacing path = Created path ∷ Synced ∷ LookedAt path ∷ Renamed path ∷ FolderSynced path ∷ []
 
--- the steps of a delivery: the model may go to a file, unless it is withheld
+-- the steps of a delivery: the model may go to a file, unless it goes nowhere
 abbrev pub delivering : Option (List ℕ) → Bool → List Step
 delivering (Some path) false = replacing path
-delivering file withheld = []
+delivering file nowhere = []
 
 -- the output file is locked before all else, and unlocked at the end
 abbrev pub under_lock : Option (List ℕ) → List Step → List Step

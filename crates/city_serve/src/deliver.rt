@@ -6,7 +6,7 @@ ghost use Rattle.std.specs.Io.KnownBytes.{Appends};
 ghost use Rattle.city_serve.specs.declared.fault.ServeFault.{ServeFault};
 ghost use Rattle.city_options.specs.RunOptions.{file_of};
 ghost use Rattle.city_serve.specs.ServedTexts.{AppendsSome};
-ghost use Rattle.city_serve.specs.Destinations.{outcome_failed, has_failed, is_withheld, bytes_to_writer};
+ghost use Rattle.city_serve.specs.Destinations.{outcome_failed, has_failed, is_withheld, bytes_to_writer, goes_nowhere};
 ghost use Rattle.city_serve.specs.Destinations.{BreaksOff, IsBrokenOff, IsPlaced, IsReplaced};
 ghost use Rattle.city_serve.specs.Steps.{Step, Takes, delivering, replacing};
 ghost use Rattle.city_serve.specs.internal.Placing.{IsPut, IsSent, IsUnplaced};
@@ -29,8 +29,8 @@ pub struct Delivered {
     pub withheld: bool,
 }
 
-/// Writes a run's output to its destination: the report to the writer, and the model behind it or
-/// to its file. `Write` if the writer fails or a step on the file is refused, `Changed` if the file
+/// Writes a run's output to its destination: the report to the writer, and the model behind it, to
+/// its file, or nowhere. `Write` if the writer fails or a step on the file is refused, `Changed` if the file
 /// isn't what was read.
 pub(crate) fn deliver<F: OutputFiles, W: Write>(
     files: &mut F,
@@ -43,26 +43,30 @@ pub(crate) fn deliver<F: OutputFiles, W: Write>(
     ensures written { IfOk result (λ d.
         (d.seen ≡ output.seen) × (d.withheld ≡ is_withheld destination.entry output.ends)
         × Appends (W.contents writer.old.0) (W.contents writer.new.0)
-        (bytes_to_writer (file_of destination.entry) d.withheld (take output.report output.bytes.items)
-        (drop output.report output.bytes.items))
-        × IsPlaced (file_of destination.entry) d.withheld (drop output.report output.bytes.items)
+        (bytes_to_writer (file_of destination.entry) (goes_nowhere destination.entry d.withheld)
+        (take output.report output.bytes.items) (drop output.report output.bytes.items))
+        × IsPlaced (file_of destination.entry) (goes_nowhere destination.entry d.withheld)
+        (drop output.report output.bytes.items)
         (F.text files.old) (F.text files.new)
         × (writer.new.1 ≡ writer.old.1)
-        × Takes (F.steps files.old) (F.steps files.new) (delivering (file_of destination.entry) d.withheld)) }
+        × Takes (F.steps files.old) (F.steps files.new)
+        (delivering (file_of destination.entry) (goes_nowhere destination.entry d.withheld))) }
     ensures fault { IfErr result (λ f. (steps : List Step)
-        × IsBrokenOff (file_of destination.entry) (is_withheld destination.entry output.ends)
+        × IsBrokenOff (file_of destination.entry)
+        (goes_nowhere destination.entry (is_withheld destination.entry output.ends))
         (take output.report output.bytes.items) (drop output.report output.bytes.items)
         (F.text files.old) (F.text files.new) (F.have_failed files.new)
         (W.contents writer.old.0) (W.contents writer.new.0) writer.new.1 steps f
         × Takes (F.steps files.old) (F.steps files.new) steps) }
 {
     let withheld = destination.atomic && any_failed(output.ends.as_slice());
+    let nowhere = destination.report_only || withheld;
     let bytes = output.bytes.as_slice();
     send(
         files,
         seed,
         destination.file,
-        withheld,
+        nowhere,
         writer,
         bytes,
         output.report,
@@ -74,31 +78,31 @@ pub(crate) fn deliver<F: OutputFiles, W: Write>(
 }
 
 /// Sends the report, the bytes before a place, to the writer, and the model behind it to its file,
-/// if there is one, or after the report. A model that is withheld goes nowhere.
+/// if there is one, or after the report, or nowhere.
 fn send<F: OutputFiles, W: Write>(
     files: &mut F,
     seed: u64,
     file: Option<&str>,
-    withheld: bool,
+    nowhere: bool,
     writer: &mut Device<W>,
     bytes: &[u8],
     at: usize,
 ) -> Result<(), ServeFault>
     requires { at ≤ length bytes.now }
-    ensures sent { OnOk result (IsSent (option_map (λ s. s.now) file.entry) withheld
+    ensures sent { OnOk result (IsSent (option_map (λ s. s.now) file.entry) nowhere
         (take at bytes.now) (drop at bytes.now) (F.text files.old) (F.text files.new)
         (W.contents writer.old.0) (W.contents writer.new.0) writer.old.1 writer.new.1) }
     ensures steps { OnOk result (Takes (F.steps files.old) (F.steps files.new)
-        (delivering (option_map (λ s. s.now) file.entry) withheld)) }
+        (delivering (option_map (λ s. s.now) file.entry) nowhere)) }
     ensures fault { IfErr result (λ f. (steps : List Step)
-        × IsBrokenOff (option_map (λ s. s.now) file.entry) withheld
+        × IsBrokenOff (option_map (λ s. s.now) file.entry) nowhere
         (take at bytes.now) (drop at bytes.now)
         (F.text files.old) (F.text files.new) (F.have_failed files.new)
         (W.contents writer.old.0) (W.contents writer.new.0) writer.new.1 steps f
         × Takes (F.steps files.old) (F.steps files.new) steps) }
 {
     let (report, model) = bytes.split_at(at);
-    if withheld {
+    if nowhere {
         return write_all(writer, report);
     }
     match file {

@@ -75,7 +75,8 @@ pub fn serve_input<T: Threads + Wait + Sync, G: Gate + Sync, R: Read, W: Write>(
     writer: &mut Device<W>,
     options: Options,
 ) -> Result<Vec<Vec<u64>>, ServeFault>
-    requires { AreWithin options }
+    requires within { AreWithin options }
+    requires fresh { (reader.old.1 ≡ false) × (writer.old.1 ≡ false) }
     ensures served { IfOk result (λ seen. IfSome (R.remaining reader.old.0) (λ input.
         IsServedBy (written_by options.decimals) input options.workers options.viewers seen.items
         (W.contents writer.old.0) (W.contents writer.new.0))) }

@@ -6,7 +6,7 @@ ghost use Rattle.city_writer.specs.document.Canonical.{city_text};
 ghost use Rattle.city_serve.specs.ServedTexts.{AreServed, AreServedBy, IsTextsFault, IsTextsFaultBy};
 ghost use Rattle.city_serve.specs.Decimals.{written_by, faults_by};
 ghost use Rattle.city_options.specs.RunOptions.{file_of};
-ghost use Rattle.city_serve.specs.Destinations.{IsDelivered, IsDeliveryFault};
+ghost use Rattle.city_serve.specs.Destinations.{IsDelivered, IsDeliveryFault, goes_nowhere};
 ghost use Rattle.city_serve.specs.Steps.{Step, Takes, delivering};
 
 use crate::deliver::{Delivered, deliver};
@@ -27,8 +27,8 @@ use std::thread::Threads;
 
 /// Runs the scripts of a text on a document, and writes the output.
 ///
-/// Workers are 1 to `MAX_WORKERS`, viewers 0 to `MAX_VIEWERS`. One worker without viewers runs the
-/// scripts in their order. The document is judged before the scripts. If the run has no output,
+/// Workers are 1 to `MAX_WORKERS`, viewers 0 to `MAX_VIEWERS`, and the writer hasn't failed yet, so
+/// `Write` comes only if it fails now. One worker without viewers runs the scripts in their order. The document is judged before the scripts. If the run has no output,
 /// nothing is written; if the writer fails, it has got the first bytes of the output. The answer
 /// has, for each viewer, the numbers of the changes it saw.
 pub fn serve_texts<R: Threads + Wait + Sync, W: Write>(
@@ -42,6 +42,7 @@ pub fn serve_texts<R: Threads + Wait + Sync, W: Write>(
 ) -> Result<Vec<Vec<u64>>, ServeFault>
     requires workers { (1 ≤ workers) × (workers ≤ max_workers) }
     requires viewers { viewers ≤ max_viewers }
+    requires fresh { writer.old.1 ≡ false }
     ensures served { IfOk result (λ seen. AreServed document.now scripts.now workers viewers seen.items
         (W.contents writer.old.0) (W.contents writer.new.0)) }
     ensures unfailed { OnOk result (writer.new.1 ≡ writer.old.1) }
@@ -75,7 +76,8 @@ pub fn serve_owned<R: Threads + Wait + Sync, G: Gate + Sync, W: Write>(
     writer: &mut Device<W>,
     options: Options,
 ) -> Result<Vec<Vec<u64>>, ServeFault>
-    requires { AreWithin options }
+    requires within { AreWithin options }
+    requires fresh { writer.old.1 ≡ false }
     ensures served { IfOk result (λ seen. AreServedBy (written_by options.decimals) document.items scripts.items
         options.workers options.viewers seen.items (W.contents writer.old.0) (W.contents writer.new.0)) }
     ensures unfailed { OnOk result (writer.new.1 ≡ writer.old.1) }
@@ -86,6 +88,7 @@ pub fn serve_owned<R: Threads + Wait + Sync, G: Gate + Sync, W: Write>(
     let follows = Destination {
         file: None,
         atomic: false,
+        report_only: false,
         wait: 0,
     };
     let (delivered, _city) = serve_to(
@@ -103,9 +106,9 @@ pub fn serve_owned<R: Threads + Wait + Sync, G: Gate + Sync, W: Write>(
 }
 
 /// As `serve_owned`, with the output to a destination: the report to the writer, and the model
-/// behind it or to a file. The file is replaced whole once the report is written, or stays as it
-/// was. `Changed` if a text was read from the file and it has another by then. The caller locks the
-/// file before it reads any text, and unlocks it.
+/// behind it, to a file or nowhere. The file is replaced whole once the report is written, or stays
+/// as it was. `Changed` if a text was read from the file and it has another by then. The caller locks
+/// the file before it reads any text, and unlocks it.
 ///
 /// The answer says whether the model was withheld: an atomic destination asks for that if a script
 /// ended refused or out of memory. Beside it is the final city, which with `decimals` is encoded.
@@ -122,7 +125,8 @@ pub fn serve_to<R: Threads + Wait + Sync, G: Gate + Sync, F: OutputFiles, W: Wri
     writer: &mut Device<W>,
     options: Options,
 ) -> Result<(Delivered, City), ServeFault>
-    requires { AreWithin options }
+    requires within { AreWithin options }
+    requires fresh { writer.old.1 ≡ false }
     ensures delivered { IfOk result (λ d. (is : IsDelivered destination.entry options
         texts.old.document.bytes.items texts.old.scripts.bytes.items
         d.0.seen.items d.0.withheld (F.text files.old) (F.text files.new)
@@ -130,7 +134,7 @@ pub fn serve_to<R: Threads + Wait + Sync, G: Gate + Sync, F: OutputFiles, W: Wri
         × (options.decimals ≡ false → is.model ≡ city_text d.1 ++ 10 ∷ [])) }
     ensures unfailed { OnOk result (writer.new.1 ≡ writer.old.1) }
     ensures steps { IfOk result (λ d. Takes (F.steps files.old) (F.steps files.new)
-        (delivering (file_of destination.entry) d.0.withheld)) }
+        (delivering (file_of destination.entry) (goes_nowhere destination.entry d.0.withheld))) }
     ensures fault { IfErr result (λ f. (steps : List Step)
         × IsDeliveryFault destination.entry options
         texts.old.document.bytes.items texts.old.scripts.bytes.items

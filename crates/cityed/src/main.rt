@@ -5,8 +5,9 @@
 //! given back as they were written; `--workers` and `--watch` say how many workers run the scripts
 //! and how many viewers look on. Standard output gets a line for each script and the model,
 //! standard error one for each viewer. With `--output` the model goes to a file instead, replaced
-//! whole; with `--atomic` it goes nowhere if a script is refused or out of memory. With `--check`
-//! nothing is run: standard output gets a line for each fault of a model and of scripts. Status 1:
+//! whole; with `--atomic` it goes nowhere if a script is refused or out of memory, and with
+//! `--report-only` it always does. With `--check` nothing is run: standard output gets a line for each
+//! fault of a model and of scripts. Status 1:
 //! a fault, told on standard error, or faults found by a check; 2: a refused command line; 3: a
 //! withheld model. With `--live` the program holds a model, and answers requests of many hands,
 //! lines of JSON on standard input, by lines on standard output. A fault is explained with `--explain`, and if standard error is a terminal. All

@@ -31,7 +31,8 @@ run_command =
 -- with the options for output
 abbrev pub output_command : App
 output_command =
-    with_rule (with_rule (with_rule run_command output_rule) (option_rule (codes "wait"))) (flag_rule (codes "atomic"))
+    with_rule (with_rule (with_rule (with_rule run_command output_rule) (option_rule (codes "wait")))
+    (flag_rule (codes "atomic"))) (flag_rule (codes "report-only"))
 
 -- the command with all its options
 abbrev pub cityed_command : App

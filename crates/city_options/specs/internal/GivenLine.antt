@@ -3,7 +3,7 @@ use Rattle.std.specs.Prelude.{◌≡◌, ℕ, Bool, true, false, List, [], ◌�
 use Rattle.std.specs.Borrow.{Bor}
 use Rattle.clap.specs.Words.{first_value, one_text}
 use Rattle.clap.specs.declared.parser.matches.Found.{Found}
-use Rattle.city_options.specs.CommandLines.{Atomic, Check, Decimals, Explain, Flag, Line, Output, Valued}
+use Rattle.city_options.specs.CommandLines.{Atomic, Check, Decimals, Explain, Flag, Line, Output, ReportOnly, Valued}
 use Rattle.city_options.specs.CommandLines.{Wait, Watch, Workers, flag_name, value_name}
 use Rattle.city_options.specs.declared.given.Given.{Given}
 
@@ -19,6 +19,7 @@ value_given given Wait = text_of given.wait
 abbrev pub flag_given : Given → Flag → Bool
 flag_given given Decimals = given.decimals
 flag_given given Atomic = given.atomic
+flag_given given ReportOnly = given.report_only
 flag_given given Check = given.check
 flag_given given Explain = given.explain
 

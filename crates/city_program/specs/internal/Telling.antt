@@ -1,5 +1,5 @@
 -- The texts on standard error, step by step.
-use Rattle.std.specs.Prelude.{◌≡◌, ◌⊎◌, ℕ, Bool, true, false, List, [], ◌∷◌, ◌++◌, Option}
+use Rattle.std.specs.Prelude.{◌≡◌, ◌⊎◌, ◌&&◌, ℕ, Bool, true, false, List, [], ◌∷◌, ◌++◌, Option}
 use Rattle.std.specs.Global.{Vec}
 use Rattle.city_options.specs.declared.command_line.Asked.{Asked}
 use Rattle.city_serve.specs.declared.fault.ServeFault.{ServeFault}
@@ -41,6 +41,16 @@ is_withheld_at _ = false
 abbrev pub check_status : Bool → Status
 check_status true = Status.Faulty
 check_status false = Status.Done
+
+-- the request is a check
+abbrev pub is_check : Asked → Bool
+is_check (Asked.Check options model scripts) = true
+is_check _ = false
+
+-- it is told that a check found no fault: on a terminal
+abbrev pub tells_no_faults : Status → Asked → Bool → Bool
+tells_no_faults Status.Done asked terminal = is_check asked && terminal
+tells_no_faults _ asked terminal = false
 
 -- a check found faults
 abbrev pub IsFound : Streams → Asked → List (Vec ℕ) → Type 0

@@ -14,8 +14,8 @@ IsPut path known contents before after =
 -- the writer has got its bytes and hasn't failed, and the file has the model, if it is for one
 abbrev pub IsSent : Option (List ℕ) → Bool → List ℕ → List ℕ → Folder → Folder → Option (List ℕ) → Option (List ℕ)
     → Bool → Bool → Type 0
-IsSent file withheld report model before after old new failed_before failed =
-    Appends old new (bytes_to_writer file withheld report model) × IsPlaced file withheld model before after
+IsSent file nowhere report model before after old new failed_before failed =
+    Appends old new (bytes_to_writer file nowhere report model) × IsPlaced file nowhere model before after
     × (failed ≡ failed_before)
 
 -- the file isn't what was read, a step before the rename was refused, or the one behind it

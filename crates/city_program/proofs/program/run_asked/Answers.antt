@@ -1,16 +1,26 @@
-use Rattle.city_program.proofs.Prelude.{sym, subst, EndsAsked, IsSeenTold}
+use Rattle.city_program.proofs.Prelude.{sym, subst, ◌∙◌, EndsAsked, IsSeenTold}
 use Rattle.city_program.specs.Programs.{Streams}
-use Rattle.city_program.proofs.Telling.{ends_told, ends_faulty}
+use Rattle.city_program.proofs.Telling.{ends_faultless, ends_told, ends_faulty}
 use Rattle.city_program.proofs.program.run_asked.Goals as goal
 
-pub returns-in-Ok-clause-ended : goal.returns-in-Ok-clause-ended
-returns-in-Ok-clause-ended g c =
+pub returns-then-tells_no_faults-clause-ended : goal.returns-then-tells_no_faults-clause-ended
+returns-then-tells_no_faults-clause-ended g c =
+    let told = g.E.Write.contents c.args.errors.now.0 in
+    let telling = g.E.Write.contents c.tell-then-tells_no_faults.new.errors.0 in
+    let mute = c.tell-then-tells_no_faults.new.errors.1 in
+    let answer = c.in-Ok.answer in
+    ends_faultless c.args.terminal _ told telling mute c.args.asked.now answer.status answer.seen.items
+    c.in-Ok.ensures.answered c.in-Ok.ensures.steps (sym c.tells_no_faults.ensures ∙ c.if-tells_no_faults.true)
+    c.tell-then-tells_no_faults.ensures.0
+
+pub returns-else-tells_no_faults-clause-ended : goal.returns-else-tells_no_faults-clause-ended
+returns-else-tells_no_faults-clause-ended g c =
     let told = g.E.Write.contents c.args.errors.now.0 in
     let telling = g.E.Write.contents c.tell_seen.new.errors.0 in
     let mute = c.tell_seen.new.errors.1 in
     let answer = c.in-Ok.answer in
     ends_told c.args.terminal _ told telling mute c.args.asked.now answer.status c.tell_seen.result answer.seen.items
-    c.in-Ok.ensures.answered c.in-Ok.ensures.steps
+    (sym c.tells_no_faults.ensures ∙ c.if-tells_no_faults.false) c.in-Ok.ensures.answered c.in-Ok.ensures.steps
     (subst (IsSeenTold answer.status c.tell_seen.result told telling mute) c.as_slice.ensures.value
     c.tell_seen.ensures)
 
