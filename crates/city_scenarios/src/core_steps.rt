@@ -6,7 +6,7 @@ ghost use Rattle.city_model.specs.Scripts.{is_end};
 
 use crate::change::add_change;
 use crate::document::{add_city, add_read_fault};
-use crate::reply::{add_cause, add_reply};
+use crate::reply::{add_cause, add_object, add_reply, looked_at};
 use crate::steps::{TakesSteps, stamped, take_steps};
 use crate::written::Written;
 use city_doc::read_city;
@@ -36,7 +36,7 @@ fn play_over(alloc: Global, city: City, lines: &str, answer: &mut Written)
     }
 }
 
-/// A step is a stamp, and a word or a command.
+/// A step is a stamp, and a word, `seen` with an id, or a command.
 impl TakesSteps for Core {
     fn take_step(&mut self, alloc: Global, step: &str, said: &mut Written) {
         match stamped(step) {
@@ -54,7 +54,10 @@ fn call(core: &mut Core, alloc: Global, stamp: u64, does: &str, said: &mut Writt
         "prepare" => add_prepared(alloc, core.prepare(stamp), said),
         "refusal" => add_refusal(alloc, core.refusal(stamp), said),
         "commit" => commit(core, alloc, stamp, said),
-        _ => act_by(core, alloc, stamp, does, said),
+        _ => match looked_at(alloc, does, said) {
+            Some(id) => add_object(alloc, core.seen(stamp, &id), said),
+            None => act_by(core, alloc, stamp, does, said),
+        },
     }
 }
 

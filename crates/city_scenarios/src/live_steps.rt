@@ -5,6 +5,7 @@ ghost use Rattle.city_model.specs.Relations.{IsLawful};
 
 use crate::change::add_change;
 use crate::document::{add_city, add_read_fault};
+use crate::live_lists::add_lists;
 use crate::reply::{add_cause, add_reply};
 use crate::steps::{TakesSteps, take_steps};
 use crate::written::Written;
@@ -21,7 +22,8 @@ use city_model::script::Script;
 use city_scripts::read_scripts;
 use std::alloc::Global;
 
-/// Plays requests of hands over a document, and adds the answers to each.
+/// Plays requests of hands over a document, and adds the answers to each. The same requests are handled in lists of
+/// several too; other answers follow.
 pub fn play_live(alloc: Global, document: &[u8], lines: &str, answer: &mut Written) {
     match read_city(alloc, document) {
         Ok(city) => play_over(alloc, city, lines, answer),
@@ -32,25 +34,36 @@ pub fn play_live(alloc: Global, document: &[u8], lines: &str, answer: &mut Writt
 fn play_over(alloc: Global, city: City, lines: &str, answer: &mut Written)
     requires { IsLawful (object_at city.1) }
 {
+    let mut in_lists = Written::new(alloc);
+    if add_lists(alloc, &city, lines, &mut in_lists).is_err() {
+        answer.run_out();
+    }
     let mut hands = Hands::new(alloc, city, 0, NoJournal);
     take_steps(&mut hands, alloc, lines, answer);
+    answer.add_written(&in_lists);
 }
 
 /// A step is a hand, behind a slash the tag if there is one, and a request: a word, or a command.
 impl TakesSteps for Hands<NoJournal> {
     fn take_step(&mut self, alloc: Global, step: &str, said: &mut Written) {
-        let (from, does) = step.split_once(" ").unwrap_or((step, ""));
-        let (Ok(parts), Ok(request)) = (named(alloc, from), request_of(alloc, does)) else {
-            return said.run_out();
-        };
-        let Some(request) = request else {
-            return said.add("no request");
-        };
-        let (hand, tag) = parts;
-        match self.handle(hand, tag, request) {
-            Ok(answers) => add_answers(alloc, answers, said),
+        match request_in(alloc, step) {
+            Ok(Some((hand, tag, request))) => match self.handle(hand, tag, request) {
+                Ok(answers) => add_answers(alloc, answers, said),
+                Err(OutOfMemory) => said.run_out(),
+            },
+            Ok(None) => said.add("no request"),
             Err(OutOfMemory) => said.run_out(),
         }
+    }
+}
+
+/// The hand, the tag and the request of a step.
+pub fn request_in(alloc: Global, step: &str) -> Result<Option<(Text, Tag, Request)>, OutOfMemory> {
+    let (from, does) = step.split_once(" ").unwrap_or((step, ""));
+    let (hand, tag) = named(alloc, from)?;
+    match request_of(alloc, does)? {
+        Some(request) => Ok(Some((hand, tag, request))),
+        None => Ok(None),
     }
 }
 
@@ -126,7 +139,8 @@ fn add_answers(alloc: Global, answers: Vec<Answer>, said: &mut Written) {
     }
 }
 
-fn add_answer(alloc: Global, answer: Answer, said: &mut Written) {
+/// Adds an answer.
+pub fn add_answer(alloc: Global, answer: Answer, said: &mut Written) {
     let Answer { hand, tag, what } = answer;
     said.add(hand.as_str());
     if let Some(tag) = tag {

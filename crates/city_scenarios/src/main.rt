@@ -12,8 +12,8 @@
 //!   scripts one at a time; `canonical`: a model's canonical form
 //! - `serve`, `reader`, `writer`: from a device to a device; `program`, `folder`, `seen`: the program, over files that
 //!   are texts with names, and the line of a viewer; `known_texts`, `taken_steps`: what contracts know of these files
-//! - `steps`, `turns`: steps, a desk; `core_steps`, `session_steps`, `reply`, `change`: transactions; `locks`: a
-//!   lock table; `board`: viewers; `shelves`: a change made by hand
+//! - `steps`, `turns`: steps, a desk; `core_steps`, `session_steps`, `reply`, `change`: transactions; `live_steps`,
+//!   `live_lists`: hands; `locks`: a lock table; `board`: viewers; `shelves`: a change made by hand
 //! - `command_line`, `pool`: command lines parsed, and points numbered
 #![tactic(auto)]
 
@@ -33,6 +33,7 @@ mod file;
 mod folder;
 mod journals;
 mod known_texts;
+mod live_lists;
 mod live_steps;
 mod locks;
 mod members;

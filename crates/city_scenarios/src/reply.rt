@@ -1,11 +1,13 @@
-//! A reply or a cause by itself, as a report has it.
+//! A reply, a cause or an object by itself, as a report has it.
 use crate::written::Written;
 use city_doc::write_report;
+use city_members::copied::Copied;
 use city_members::sequence::Sequence;
-use city_members::text::Text;
+use city_members::text::{Id, Text};
 use city_model::OutOfMemory;
 use city_model::command::{Cause, Reply};
 use city_model::end::{End, Outcome};
+use city_model::object::Object;
 use std::alloc::Global;
 
 /// Adds a reply, as it stands in a report: a refusal as `add_cause`.
@@ -32,6 +34,29 @@ fn add_replies(alloc: Global, reply: Reply, said: &mut Written) {
 pub fn add_cause(alloc: Global, cause: Cause, said: &mut Written) {
     let (replies, outcome) = (Sequence::new(alloc), Outcome::Refused(0, cause));
     add_part(alloc, replies, outcome, ("{\"at\":0,", ",\"name\":"), said);
+}
+
+/// Adds an object, as the reply to a read has it, or `none`.
+pub fn add_object(alloc: Global, object: Option<&Object>, said: &mut Written) {
+    let Some(object) = object else {
+        return said.add("none");
+    };
+    match object.copy(alloc) {
+        Ok(object) => add_reply(alloc, Reply::Found(object), said),
+        Err(OutOfMemory) => said.run_out(),
+    }
+}
+
+/// The id in a step `seen ID`; `None` for any other step. Notes if memory runs out for it.
+pub fn looked_at(alloc: Global, does: &str, said: &mut Written) -> Option<Id> {
+    let id = does.strip_prefix("seen ")?;
+    match id.to_string(alloc) {
+        Ok(id) => Some(Text::new(id)),
+        Err(_) => {
+            said.run_out();
+            None
+        }
+    }
 }
 
 /// Adds the text between two parts of the line of an end.

@@ -7,7 +7,7 @@ ghost use Rattle.city_txn.specs.CoreState.{is_open};
 
 use crate::change::add_change;
 use crate::document::{add_city, add_read_fault};
-use crate::reply::{add_cause, add_reply};
+use crate::reply::{add_cause, add_object, add_reply, looked_at};
 use crate::steps::{TakesSteps, stamped, take_steps};
 use crate::written::Written;
 use city_doc::read_city;
@@ -39,7 +39,8 @@ fn play_over(alloc: Global, city: City, lines: &str, answer: &mut Written)
     }
 }
 
-/// A step is `begin`, or a stamp, and a word or a command; `3 times` before the command does it three times.
+/// A step is `begin`, or a stamp, and a word, `seen` with an id, or a command; `3 times` before the command does it
+/// three times.
 impl TakesSteps for Session {
     fn take_step(&mut self, alloc: Global, step: &str, said: &mut Written) {
         let Some((stamp, does)) = stamped(step) else {
@@ -47,6 +48,8 @@ impl TakesSteps for Session {
         };
         if does == "begin" {
             begin_again(self, stamp, said);
+        } else if let Some(id) = looked_at(alloc, does, said) {
+            add_object(alloc, self.seen(stamp, &id), said);
         } else if self.is_open(stamp) {
             call(self, alloc, stamp, does, said);
         } else {
