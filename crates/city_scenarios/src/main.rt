@@ -6,8 +6,8 @@
 //! - `file`, `scenario`, `named`: a file of scenarios, one of them, and their named texts
 //! - `play`: the verbs; `written`, `fault_lines`, `wanted`: their answers, and the comparison
 //! - `document`, `scripts`, `prefixes`: texts read; `pieces`: in how many pieces; `tokens`: from their tokens; `check`:
-//!   their faults; `diagnostics`: diagnostics of these; `body`: bodies judged; `members`: members kept;
-//!   `faults`: faults shown; `rewrite`: scripts written
+//!   their faults; `diagnostics`: diagnostics of these; `refusals`: of refused scripts; `body`: bodies judged;
+//!   `members`: members kept; `faults`: faults shown; `rewrite`: scripts written
 //! - `run`, `crew`, `served`, `replay`: whole runs, by one worker, by several, as the program serves them, and their
 //!   scripts one at a time; `canonical`: a model's canonical form
 //! - `serve`, `reader`, `writer`: from a device to a device; `program`, `folder`, `seen`: the program, over files that
@@ -44,6 +44,7 @@ mod pool;
 mod prefixes;
 mod program;
 mod reader;
+mod refusals;
 mod replay;
 mod reply;
 mod rewrite;

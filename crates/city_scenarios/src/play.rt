@@ -14,6 +14,7 @@ use crate::members::play_members;
 use crate::named::Named;
 use crate::prefixes::play_prefixes;
 use crate::program::play_program;
+use crate::refusals::play_why;
 use crate::rewrite::play_rewrite;
 use crate::run::play_run;
 use crate::scenario::Scenario;
@@ -115,6 +116,7 @@ fn play_run_verb<T: Threads + Wait + Sync>(
         "board" => return play_board(rt, alloc, rest, document, scripts, lines, answer),
         "shelves" => return play_shelves(rt, alloc, rest, document, scripts, lines, answer),
         "turns" => return play_turns(alloc, document, scripts, lines, answer),
+        "why" => return play_why(alloc, document, scripts, answer),
         "crew" => Told::Bytes,
         "decimals" => Told::Decimals,
         "replay" => Told::History,
