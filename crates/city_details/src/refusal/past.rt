@@ -12,8 +12,8 @@ struct Marked<'a> {
     taken: usize,
 }
 
-/// A child, and the parent that was taken from it; or an object that was deleted, so that an object of its id that comes
-/// later has lost no parent.
+/// A child, and the parent that was taken from it; or an object that was deleted, so that a later one of its id lost no
+/// parent.
 #[derive(Clone, Copy)]
 struct Taken<'a> {
     child: &'a Id,
