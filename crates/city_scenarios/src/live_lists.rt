@@ -42,8 +42,8 @@ pub fn add_lists(
 fn hands_over(alloc: Global, city: &City) -> Result<Hands<NoJournal>, OutOfMemory>
     requires { IsLawful (object_at city.now.1) }
 {
-    let city = city.copy(alloc)?;
-    Ok(Hands::new(alloc, city, 0, NoJournal))
+    let copied = city.copy(alloc)?;
+    Ok(Hands::new(alloc, copied, 0, NoJournal))
 }
 
 /// Adds the answers to the requests of these steps, one after another.
