@@ -1,5 +1,6 @@
 //! The sum of a model's text.
-ghost use Rattle.std.specs.Prelude.{◌≡◌, ◌≢◌, ◌<◌, ◌++◌, ◌∷◌, [], ℕ, List, get_or, IfNone, IfOk, IfSome, IsSomeAnd, OnOk};
+ghost use Rattle.std.specs.Prelude.{◌≡◌, ◌≢◌, ◌<◌, ◌++◌, ◌∷◌, [], ℕ, List, get_or, IfNone, IfOk, IfSome};
+ghost use Rattle.std.specs.Prelude.{IsSomeAnd, OnOk};
 ghost use Rattle.std.specs.Char.{digit_char};
 ghost use Rattle.sha2.specs.Sha256.{sha256};
 ghost use Rattle.city_journal.specs.Sums.{IsSum, hex_byte, hex_text};

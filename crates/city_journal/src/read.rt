@@ -1,6 +1,6 @@
 //! A whole journal, read.
-ghost use Rattle.std.specs.Prelude.{◌≡◌, ◌≢◌, ◌^◌, ◌<◌, ◌+◌, ◌++◌, ◌∷◌, [], ◌⊎◌, ℕ, List, Bool, map, drop, length, take};
-ghost use Rattle.std.specs.Prelude.{IfErr, IfOk, MatchOption, MatchResult, OnErr};
+ghost use Rattle.std.specs.Prelude.{◌≡◌, ◌≢◌, ◌^◌, ◌<◌, ◌+◌, ◌++◌, ◌∷◌, [], ◌⊎◌, ℕ, List, Bool, map, drop};
+ghost use Rattle.std.specs.Prelude.{length, take, IfErr, IfOk, MatchOption, MatchResult, OnErr};
 ghost use Rattle.city_journal.specs.LineTexts.{base_text};
 ghost use Rattle.city_journal.specs.Lines.{AreLines, EndsLine, IsLine, lines_text, whole_lines};
 ghost use Rattle.std.specs.Bool.{Decides};

@@ -1,6 +1,6 @@
 //! A journal while it is read, line by line.
-ghost use Rattle.std.specs.Prelude.{◌≡◌, ◌≢◌, ◌+◌, ◌^◌, ◌<◌, ℕ, List, Bool, Option, Err, option_copied, option_map, true};
-ghost use Rattle.std.specs.Prelude.{IfOk, IfSome, IsSomeAnd, MatchResult};
+ghost use Rattle.std.specs.Prelude.{◌≡◌, ◌≢◌, ◌+◌, ◌^◌, ◌<◌, ℕ, List, Bool, Option, Err, option_copied, option_map};
+ghost use Rattle.std.specs.Prelude.{true, IfOk, IfSome, IsSomeAnd, MatchResult};
 ghost use Rattle.std.specs.Str.{IsUtf8};
 ghost use Rattle.json.specs.Print.{quoted};
 ghost use Rattle.city_journal.specs.LineTexts.{base_text};
@@ -94,7 +94,8 @@ impl<'a> Reading<'a> {
     /// Takes the line of a save.
     fn take_place(&mut self, sum: ModelSum) -> Result<Taken, JournalFault>
         ensures written { MatchResult result
-            (λ t. (t ≡ Taken.Stands) × (reading_so_far self.new ≡ with_said (reading_so_far self.old) (Said.Saved sum.bytes)))
+            (λ t. (t ≡ Taken.Stands)
+            × (reading_so_far self.new ≡ with_said (reading_so_far self.old) (Said.Saved sum.bytes)))
             (λ f. f ≡ JournalFault.OutOfMemory) }
     {
         let before = self.commits.len();
@@ -131,7 +132,8 @@ impl<'a> Reading<'a> {
     /// Takes the line of a key.
     fn take_key(&mut self, line: KeyLine<'a>) -> Result<Taken, JournalFault>
         ensures written { (key name : List ℕ) → IsUtf8 key → IsUtf8 name → line.entry.key.now ≡ quoted key
-            → line.entry.name.now ≡ quoted name → MatchResult result (λ t. t ≡ Taken.Stands) (λ f. f ≡ JournalFault.OutOfMemory) }
+            → line.entry.name.now ≡ quoted name
+            → MatchResult result (λ t. t ≡ Taken.Stands) (λ f. f ≡ JournalFault.OutOfMemory) }
         ensures same { reading_so_far self.new ≡ reading_so_far self.old }
     {
         let Some(key) = text_of(self.alloc, line.key)? else {
@@ -152,7 +154,8 @@ fn note_key(
     key: &[u8],
     commit: &CommitLine<'_>,
 ) -> Result<bool, OutOfMemory>
-    ensures { (s : List ℕ) → IsUtf8 s → HasName commit.now.script.now → key.now ≡ quoted s → IfOk result (λ r. r ≡ true) }
+    ensures { (s : List ℕ) → IsUtf8 s → HasName commit.now.script.now → key.now ≡ quoted s
+        → IfOk result (λ r. r ≡ true) }
 {
     let Some(key) = text_of(alloc, key)? else {
         return Ok(false);
