@@ -4,4 +4,5 @@ pub mod Cutting
 pub mod ExampleLines
 pub mod Handling
 pub mod Living
+pub mod Sessions
 pub mod Unsynced

@@ -1,8 +1,9 @@
 //! A session from its start to the end of its input.
-ghost use Rattle.std.specs.Prelude.{◌≡◌, IfOk, OnOk, OnErr};
+ghost use Rattle.std.specs.Prelude.{◌≡◌, ◌⊎◌, IfOk, OnOk, OnErr};
+ghost use Rattle.std.specs.Io.KnownBytes.{Keeps};
 ghost use Rattle.city_model.specs.CityMap.{object_at};
 ghost use Rattle.city_model.specs.Relations.{IsLawful};
-ghost use Rattle.city_server.specs.Lived.{AreAllAnswered, AreFirstAnswered};
+ghost use Rattle.city_server.specs.Lived.{AreAllAnswered, AreFirstAnswered, IsReady, IsSession};
 
 use crate::awaited::Awaited;
 use crate::fault::LiveFault;
@@ -28,6 +29,9 @@ use std::time::Clock;
 /// before an answer to it is written. At the end of the input what is open is given up, and the model is saved if there
 /// is an output file, also if the input or the output failed. The journal is locked meanwhile. Errors are told if the
 /// journal's last line was cut.
+///
+/// The output is a first line, and then the answers of the lines of the input, in their order. If the session ends
+/// early, it is the first of that.
 pub fn run_live<C: Clock, F: OutputFiles, K: Journals, R: Read, W: Write, E: Write>(
     clock: &C,
     alloc: Global,
@@ -38,7 +42,13 @@ pub fn run_live<C: Clock, F: OutputFiles, K: Journals, R: Read, W: Write, E: Wri
     input: &mut Device<R>,
     output: &mut Device<W>,
     errors: &mut Device<E>,
-) -> Result<(), LiveFault> {
+) -> Result<(), LiveFault>
+    ensures all { OnOk result (IsSession VERSION.now (λ first s. AreAllAnswered line.now.decimals first s
+        (R.remaining input.old.0) (R.remaining input.new.0) (W.contents output.old.0) (W.contents output.new.0))) }
+    ensures first { OnErr result (Keeps (W.contents output.old.0) (W.contents output.new.0)
+        ⊎ IsSession VERSION.now (λ first s. AreFirstAnswered line.now.decimals first s
+        (R.remaining input.old.0) (R.remaining input.new.0) (W.contents output.old.0) (W.contents output.new.0))) }
+{
     let journal = match line.journal {
         None => None,
         Some(path) => match journals.lock(path, line.wait) {
@@ -84,7 +94,7 @@ fn served<'a, D: JournalStore + Drop>(
     line: &LiveLine<'a>,
 ) -> Result<Server<'a, D>, OutOfMemory>
     requires { IsLawful (object_at started.city.1) }
-    ensures { IfOk result (λ v. v.told.line ≡ 0) }
+    ensures { IfOk result (λ v. IsReady VERSION.now line.now.decimals started.city started.version v.hands v.told) }
 {
     let objects = started.city.len() as u64;
     let answers = append_ready(VERSION, objects, started.version, Vec::new(alloc))?;
