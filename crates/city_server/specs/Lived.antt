@@ -54,10 +54,9 @@ pub record IsSession (program : List ℕ) (P : List ℕ → Served → Type 0) :
   pub is_opened : IsOpened city opened
   pub is : P (ready_text program (len city.1) version) opened
 
--- a session is about to begin: it has its first line to write, and no line of the input was answered
-pub record IsReady (program : List ℕ) (decimals : Bool) (s : Served) (told : Telling) : Type 0 where
-  pub city : CityValue
-  pub version : ℕ
+-- a session over this city is about to begin: it has its first line to write, and no line of the input was answered
+pub record IsReady (program : List ℕ) (decimals : Bool) (city : CityValue) (version : ℕ) (s : Served) (told : Telling)
+    : Type 0 where
   pub opened : IsOpened city s
   pub decimals_is : told.decimals ≡ decimals
   pub line : told.line ≡ 0

@@ -94,7 +94,7 @@ fn served<'a, D: JournalStore + Drop>(
     line: &LiveLine<'a>,
 ) -> Result<Server<'a, D>, OutOfMemory>
     requires { IsLawful (object_at started.city.1) }
-    ensures { IfOk result (λ v. IsReady VERSION.now line.now.decimals v.hands v.told) }
+    ensures { IfOk result (λ v. IsReady VERSION.now line.now.decimals started.city started.version v.hands v.told) }
 {
     let objects = started.city.len() as u64;
     let answers = append_ready(VERSION, objects, started.version, Vec::new(alloc))?;
