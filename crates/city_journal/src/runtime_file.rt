@@ -81,37 +81,55 @@ impl<'a, R: Files<File = File> + AllocGlobal + Clock> RuntimeFile<'a, R> {
     }
 }
 
-/// Keeps the journal of a path under a name with this number too: the first that no other file has.
+/// What came of a further name for a journal.
+enum Name {
+    /// It had it.
+    Had,
+    /// It has it now.
+    Given,
+    /// Another file has it.
+    Taken,
+}
+
+/// Keeps the journal of a path under a name with this number too: the first that no other file has. Returns the name if
+/// the journal didn't have it before.
 fn keep_old<R: Files<File = File> + AllocGlobal>(
     rt: &R,
     path: &str,
     number: u64,
-) -> io::Result<()> {
+) -> io::Result<Option<String>> {
     let real = match fs::canonicalize(rt, path) {
         Ok(real) => real,
-        Err(error) if error.kind() == ErrorKind::NotFound => return Ok(()),
+        Err(error) if error.kind() == ErrorKind::NotFound => return Ok(None),
         Err(error) => return Err(error),
     };
     let own = real.as_str();
     let name = format!(in rt.alloc(); "{own}.{number}")?;
-    if is_kept_as(rt, own, name.as_str())? {
-        return Ok(());
+    match keep_as(rt, own, name.as_str())? {
+        Name::Had => return Ok(None),
+        Name::Given => return Ok(Some(name)),
+        Name::Taken => {}
     }
     for turn in 1..MOST_NAMES {
         let name = format!(in rt.alloc(); "{own}.{number}.{turn}")?;
-        if is_kept_as(rt, own, name.as_str())? {
-            return Ok(());
+        match keep_as(rt, own, name.as_str())? {
+            Name::Had => return Ok(None),
+            Name::Given => return Ok(Some(name)),
+            Name::Taken => {}
         }
     }
     Err(io::Error::from(ErrorKind::AlreadyExists))
 }
 
 /// Gives the journal this name too, unless it is another file's; a copy has it where a file has one name alone.
-fn is_kept_as<R: Files<File = File>>(rt: &R, own: &str, name: &str) -> io::Result<bool> {
+fn keep_as<R: Files<File = File>>(rt: &R, own: &str, name: &str) -> io::Result<Name> {
     match fs::symlink_metadata(rt, name) {
         Ok(found) => {
             let journal = fs::metadata(rt, own)?;
-            return Ok(found.dev() == journal.dev() && found.ino() == journal.ino());
+            if found.dev() == journal.dev() && found.ino() == journal.ino() {
+                return Ok(Name::Had);
+            }
+            return Ok(Name::Taken);
         }
         Err(error) if error.kind() == ErrorKind::NotFound => {}
         Err(error) => return Err(error),
@@ -119,7 +137,25 @@ fn is_kept_as<R: Files<File = File>>(rt: &R, own: &str, name: &str) -> io::Resul
     if fs::hard_link(rt, own, name).is_err() {
         fs::copy(rt, own, name)?;
     }
-    Ok(true)
+    Ok(Name::Given)
+}
+
+/// The device and the number of the file of a path, if it can be told.
+fn file_at<R: Files<File = File>>(rt: &R, path: &str) -> Option<(u64, u64)> {
+    match fs::metadata(rt, path) {
+        Ok(found) => Some((found.dev(), found.ino())),
+        Err(_) => None,
+    }
+}
+
+/// Whether the path still leads to this file.
+fn is_still<R: Files<File = File>>(rt: &R, path: &str, file: Option<(u64, u64)>) -> bool {
+    match (file, file_at(rt, path)) {
+        (Some((device, number)), Some((other_device, other_number))) => {
+            device == other_device && number == other_number
+        }
+        _ => false,
+    }
 }
 
 /// Writes a new file with these bytes, synced, and gives it the journal's name.
@@ -141,15 +177,21 @@ fn put_new<R: Files<File = File> + AllocGlobal + Clock>(
         files.give_up(new);
         return Err(Refused);
     }
-    if keep_old(rt, path, number).is_err() {
+    let journal = file_at(rt, path);
+    let Ok(kept) = keep_old(rt, path, number) else {
         files.give_up(new);
         return Err(Refused);
-    }
+    };
     if files.rename(new, path) {
-        Ok(())
-    } else {
-        Err(Refused)
+        return Ok(());
     }
+    // (a journal that goes on is no old one)
+    if let Some(name) = kept {
+        if is_still(rt, path, journal) {
+            let _ = fs::remove_file(rt, name.as_str());
+        }
+    }
+    Err(Refused)
 }
 
 /// Cuts what was left of an append that was refused.
