@@ -1,6 +1,6 @@
 use Rattle.std.proofs.Common.{◌∙◌, ◌++◌, [], refl, take}
-use Rattle.std.proofs.KnownBytes.{Consumes-nil, Consumes-trans}
-use Rattle.city_server.proofs.Breaking.{at_err, breaks_read, bytes_begin, bytes_read}
+use Rattle.std.proofs.KnownBytes.{Consumes-kept, Consumes-nil, Consumes-trans}
+use Rattle.city_server.proofs.Breaking.{at_err, breaks_in, breaks_read, bytes_begin, bytes_read}
 use Rattle.city_server.proofs.server.Server.serve_chunks.Goals as goal
 
 pub loop-init : goal.loop-init
@@ -11,6 +11,16 @@ loop-init g c = (
       (g.W.Write.contents c.args.output.now.0) c.requires.none refl,
   refl,
 )
+
+pub returns-in_err-count-clause-err : goal.returns-in_err-count-clause-err
+returns-in_err-count-clause-err g c =
+    let so_far = c.loop.invariant in
+    at_err c.from_residual.result (
+      so_far.0,
+      Consumes-kept (g.R.Read.remaining c.args.input.now.0) (g.R.Read.remaining c.loop.input.0)
+          (g.R.Read.remaining c.read_some.new.self.0) so_far.0 so_far.1 c.in_err-count.ensures.kept,
+      breaks_in so_far.2,
+    )
 
 pub returns-in_err-serve_read-clause-err : goal.returns-in_err-serve_read-clause-err
 returns-in_err-serve_read-clause-err g c =
