@@ -137,10 +137,13 @@ def play(program, folder, run, decimals):
     require(len(found) == len(run.answers), *told, len(found), len(run.answers), found[-1:], run.answers[-1:])
     require((ran.returncode, ran.stderr) == (0, b""), *told, ran.returncode, ran.stderr)
     saved = home.read("city.json")
-    model = city_text(run.engine.frame, run.engine.city).encode() + b"\n"
-    require((without_decimals(saved) if decimals else saved) == model, *told, "the saved model", saved, model)
     scripts = scripts_in(home)
     require(len(scripts) == run.engine.version, *told, "commits of the journal", len(scripts))
+    if not scripts and len(requests) == len(run.requests):
+        require(saved == home.base, *told, "a model that nobody has changed or saved is another one", saved)
+        return
+    model = city_text(run.engine.frame, run.engine.city).encode() + b"\n"
+    require((without_decimals(saved) if decimals else saved) == model, *told, "the saved model", saved, model)
     made = replayed(program, folder, home.base, scripts, *options)
     require(made == saved, *told, "the journal's scripts make another model", made, saved)
 
