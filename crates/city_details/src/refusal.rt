@@ -3,13 +3,15 @@
 //! - `past`: what the earlier commands of the transaction left
 //! - `objects`: an object that is missing, or there already, or of another type; `marks`: a missing mark
 //! - `names`: the names of commands and of causes
-//! - `relating`: relations that can't be; `attributes`: attributes that differ; `value`: how their values are shown
+//! - `relating`: relations that can't be; `attributes`, `unexpected`: attributes and other parts that differ; `value`: how
+//!   values are shown
 mod attributes;
 mod marks;
 pub mod names;
 mod objects;
 pub mod past;
 mod relating;
+mod unexpected;
 mod value;
 
 use crate::diagnostic::Diagnostic;

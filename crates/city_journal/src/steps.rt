@@ -51,7 +51,7 @@ fn copy_of(alloc: Global, command: &Command) -> Result<Command, OutOfMemory>
         Command::Set(id, values) => Command::Set(id.copy(alloc)?, values.copy(alloc)?),
         Command::Unset(id, names) => Command::Unset(id.copy(alloc)?, names.copy(alloc)?),
         Command::Reshape(id, geometry) => Command::Reshape(id.copy(alloc)?, geometry.copy(alloc)?),
-        Command::Expect(id, values) => Command::Expect(id.copy(alloc)?, values.copy(alloc)?),
+        Command::Expect(id, expected) => Command::Expect(id.copy(alloc)?, expected.copy(alloc)?),
         Command::Delete(id) => Command::Delete(id.copy(alloc)?),
         Command::Attach(child, parent) => Command::Attach(child.copy(alloc)?, parent.copy(alloc)?),
         Command::Detach(child, parent) => Command::Detach(child.copy(alloc)?, parent.copy(alloc)?),

@@ -6,7 +6,7 @@ use Rattle.std.specs.Str.{bytes_eq}
 use Rattle.serde_json.specs.Data.{Num, unsigned, negative, Data, null, boolean, number, string, array, object}
 use Rattle.serde_json.specs.Data.{Items, no_items, item, Members, no_members, member, put}
 use Rattle.serde_json.specs.Find.{get_member, as_object}
-use Rattle.city_members.specs.Kept.{has_no_member}
+use Rattle.city_members.specs.Kept.{has_no_member, lacks_each}
 use Rattle.city_members.specs.Members.{without, without_each}
 
 -- ---- their place
@@ -94,3 +94,7 @@ members_of (Some ms) = ms
 -- the kept members have these attributes, with these values; if `attributes` is no object, there are none
 abbrev pub has_attributes : Members → Members → Bool
 has_attributes extra named = are_among named (members_of (attributes_in extra))
+
+-- no attribute has one of these names; if `attributes` is no object, there are none
+abbrev pub lacks_attributes : Members → List (List ℕ) → Bool
+lacks_attributes extra names = lacks_each names (members_of (attributes_in extra))

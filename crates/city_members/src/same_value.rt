@@ -66,8 +66,9 @@ fn same_items(items: &Vec<Value>, others: &Vec<Value>) -> bool
     left.next().is_none()
 }
 
+/// Whether two objects have the same members. Doesn't allocate.
 #[cycle(same)]
-fn same_members(members: &Map<String, Value>, others: &Map<String, Value>) -> bool
+pub fn same_members(members: &Map<String, Value>, others: &Map<String, Value>) -> bool
     ensures { result ≡ same_members (members_view members.now.entries) (members_view others.now.entries) }
 {
     let mut left = others.iter();

@@ -1,4 +1,4 @@
--- The effect of add, set, unset, reshape and expect on a small city.
+-- The effect of add, set, unset and reshape on a small city.
 use Rattle.city_model.proofs.Prelude.{arith, ◌≡◌, refl, ap, inl, codes, List, [], ◌∷◌, ℕ, true, false, Option, Some}
 use Rattle.city_model.proofs.Prelude.{if◌then◌else◌, LandUse, Building, Command, Put, Commit, Mark, Back, Cause, Reply}
 use Rattle.city_model.proofs.Prelude.{Added, WentBack, Outcome, Object, CityMap, found_in, changed, is_orphan}
@@ -187,22 +187,6 @@ add_of_what_is_there_is_refused = (refl, (refl, refl))
 pub add_is_taken_back : IsTakenBack bare_field (Add (codes "y") (bare LandUse)) Added
 add_is_taken_back = (refl, (refl, (refl, refl)))
 
--- ---- expect
-
-pub expect_of_another_value_is_refused : IsRefusedBy numbered_field (Expect (codes "x") (one (codes "n") (whole 2)))
-    (Unexpected (codes "x"))
-expect_of_another_value_is_refused = (refl, (refl, refl))
-
-pub expect_of_nothing_wants_the_object : IsRefusedBy bare_field (Expect (codes "z") no_members) (NoObject (codes "z"))
-expect_of_nothing_wants_the_object = (refl, (refl, refl))
-
-pub expect_of_a_list_is_refused : IsRefusedBy listed_field (Expect (codes "x") (one (codes "n") (whole 1)))
-    (Unexpected (codes "x"))
-expect_of_a_list_is_refused = (refl, (refl, refl))
-
-pub expect_is_taken_back : IsTakenBack numbered_field (Expect (codes "x") (one (codes "n") (whole 1))) Expected
-expect_is_taken_back = (refl, (refl, (refl, refl)))
-
 -- ---- two scripts at one object
 
 -- each sets an attribute, and both are kept
@@ -231,33 +215,3 @@ two_sets_are_committed = (
 
 pub both_sets_are_kept : model_after two_sets bare_field set_by_both (codes "x") ≡ Some (with both)
 both_sets_are_kept = refl
-
--- the second expects the value before the first one's set
-abbrev set_then_expect : List Scripted
-set_then_expect =
-    (codes "a", Set (codes "x") (one (codes "n") (whole 2)) ∷ Commit ∷ [])
-    ∷ (codes "b", Expect (codes "x") (one (codes "n") (whole 1)) ∷ set_m ∷ Commit ∷ [])
-    ∷ []
-
-abbrev second_refused : List End
-second_refused =
-    committed 0 (codes "a") 0 (AttributesSet ∷ [])
-    ∷ record {
-      script = 1;
-      name = codes "b";
-      since = 1;
-      replies = [];
-      outcome = Outcome.Refused 0 (Unexpected (codes "x"));
-    }
-    ∷ []
-
-pub expect_after_anothers_set_is_refused : IsSerialHistory set_then_expect numbered_field second_refused
-expect_after_anothers_set_is_refused = (
-  in_turn refl (omega arith) (refl, refl, (inl (refl, no_orphan _ (none_then _ _ refl (none_in_field _ refl))), refl)),
-  (omega arith, tt),
-  (in_turn refl (omega arith) (refl, (refl, refl)), tt, tt),
-)
-
-pub first_set_is_kept : model_after set_then_expect numbered_field second_refused (codes "x")
-    ≡ Some (with (one (codes "n") (whole 2)))
-first_set_is_kept = refl

@@ -6,13 +6,13 @@ use Rattle.city_model.proofs.Prelude.{Exclusive, Mode, CityMap, Action, Edits, a
 use Rattle.city_model.proofs.Prelude.{changed, children_of, deleted, attached, detached, is_wrong_family}
 use Rattle.city_model.proofs.Prelude.{without_child, exclusively, locks_of, IsSound, Lock, AgreeOn, body_fault}
 use Rattle.std.specs.Prelude.{Result, Ok, Err}
-use Rattle.serde_json.specs.Data.{Members}
+use Rattle.city_model.specs.declared.command.Expectation.{Expectation}
 use Rattle.city_model.specs.declared.mode.Mode.TheVariants.{Shared}
 use Rattle.city_model.specs.declared.command.Command.TheVariants.{Add, Set, Unset, Reshape, Expect}
 use Rattle.city_model.specs.Actions.{unless, rewrites, put_at, add_at, amend_at, expect_at, delete_at, attach_at}
 use Rattle.city_model.specs.Actions.{detach_at}
 use Rattle.city_model.specs.Amendments.{NewBody, Setting, Unsetting, Reshaping}
-use Rattle.city_members.specs.Attributes.{has_attributes}
+use Rattle.city_model.specs.Expectations.{is_met}
 use Rattle.city_model.specs.Shells.{geometry_fault}
 use Rattle.city_model.specs.Meaning.{delete_locks}
 use Rattle.city_model.specs.Standing.{locked_ids, exclusive_ids}
@@ -64,10 +64,10 @@ module _ (m n : CityMap) (id : List ℕ) where
 
 -- ---- an expect
 
-expect_taken : (m n : CityMap) (id : List ℕ) (named : Members) (w : Option Object)
-    → expect_at n id named w ≡ taken_to n (expect_at m id named w)
-expect_taken m n id named None = refl
-expect_taken m n id named (Some o) = taken_either n (has_attributes o.body.extra named) _ _ _ _ refl refl
+expect_taken : (m n : CityMap) (id : List ℕ) (e : Expectation) (w : Option Object)
+    → expect_at n id e w ≡ taken_to n (expect_at m id e w)
+expect_taken m n id e None = refl
+expect_taken m n id e (Some o) = taken_either n (is_met e o) _ _ _ _ refl refl
 
 -- ---- a delete
 
@@ -136,7 +136,7 @@ first_agrees m n id mode ls a = a id (grind (arith, same_id_itself id))
 pub framed : (m n : CityMap) (c : Command) → IsSound n → AgreeOn (locks_of m c) m n
     → action n c ≡ taken_to n (action m c)
 framed m n (Read id) t a = grind (arith, first_agrees m n id Shared [] a)
-framed m n (Expect id named) t a = rw (← first_agrees m n id Shared [] a) (expect_taken m n id named (m id))
+framed m n (Expect id e) t a = rw (← first_agrees m n id Shared [] a) (expect_taken m n id e (m id))
 framed m n (Put id body) t a =
     rw (← first_agrees m n id Exclusive [] a) (taken_unless n (body_fault body) _ _ (put_taken m n id body (m id)))
 framed m n (Add id body) t a =
@@ -195,9 +195,9 @@ exclusive_ids_of : (ids : List (List ℕ)) → exclusive_ids (exclusively ids) �
 exclusive_ids_of [] = refl
 exclusive_ids_of (x ∷ xs) = grind (arith, exclusive_ids_of xs)
 
-at_expect : (m : CityMap) (id : List ℕ) (named : Members) (w : Option Object) → WritesAt [] (expect_at m id named w)
-at_expect m id named None = tt
-at_expect m id named (Some o) = at_either [] (has_attributes o.body.extra named) _ _ refl tt
+at_expect : (m : CityMap) (id : List ℕ) (e : Expectation) (w : Option Object) → WritesAt [] (expect_at m id e w)
+at_expect m id e None = tt
+at_expect m id e (Some o) = at_either [] (is_met e o) _ _ refl tt
 
 at_delete : (m : CityMap) (id : List ℕ) (w : Option Object)
     → WritesAt (exclusive_ids ((id, Exclusive) ∷ delete_locks w)) (delete_at m id w)
@@ -221,7 +221,7 @@ at_detach m child parent None v = tt
 
 pub writes_locked : (m : CityMap) (c : Command) → WritesAt (exclusive_ids (locks_of m c)) (action m c)
 writes_locked m (Read id) = refl
-writes_locked m (Expect id named) = at_expect m id named (m id)
+writes_locked m (Expect id e) = at_expect m id e (m id)
 writes_locked m (Put id body) = at_unless _ (body_fault body) _ (at_put m id body (m id))
 writes_locked m (Add id body) = at_unless _ (body_fault body) _ (at_add m id body (m id))
 writes_locked m (Set id named) = at_amend m id (Setting named) (m id)

@@ -1,9 +1,9 @@
 -- Plans without writes.
 use Rattle.city_model.proofs.Prelude.{◌≡◌, ℕ, List, [], true, Option, Some, refl, sym, ap, ◌∙◌, Object, Command}
 use Rattle.city_model.proofs.Prelude.{Read, Reply, CityMap, Edits, action, Change}
-use Rattle.serde_json.specs.Data.{Members}
 use Rattle.city_model.specs.Actions.{expect_at, read_reply}
-use Rattle.city_members.specs.Attributes.{has_attributes}
+use Rattle.city_model.specs.Expectations.{is_met}
+use Rattle.city_model.specs.declared.command.Expectation.{Expectation}
 use Rattle.city_model.specs.declared.command.Command.TheVariants.{Expect}
 use Rattle.city_model.specs.declared.command.Reply.TheVariants.{Expected}
 use Rattle.city_model.specs.internal.Plans.{AreWritesOf}
@@ -17,7 +17,7 @@ pub read_writes : (m : CityMap) (id : List ℕ) (x : Option Object) (r : Reply) 
 read_writes m id x r ws is reply none =
     none_written m (Read id) r ws (λ i. Edits ((ap read_reply (sym is) ∙ sym reply) i) [] m) none
 
-pub expect_writes : (m : CityMap) (id : List ℕ) (named : Members) (o : Object) (ws : Change) → Some o ≡ m id
-    → has_attributes o.body.extra named ≡ true → ws ≡ [] → AreWritesOf m (Expect id named) Expected ws
-expect_writes m id named o ws is met none =
-    none_written m (Expect id named) Expected ws (ap (expect_at m id named) (sym is) ∙ rw met refl) none
+pub expect_writes : (m : CityMap) (id : List ℕ) (e : Expectation) (o : Object) (ws : Change) → Some o ≡ m id
+    → is_met e o ≡ true → ws ≡ [] → AreWritesOf m (Expect id e) Expected ws
+expect_writes m id e o ws is met none =
+    none_written m (Expect id e) Expected ws (ap (expect_at m id e) (sym is) ∙ rw met refl) none

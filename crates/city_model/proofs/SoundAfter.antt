@@ -9,13 +9,13 @@ use Rattle.city_model.proofs.Prelude.{parents_of, children_of, is_wrong_family, 
 use Rattle.city_model.proofs.Prelude.{without_parent, with_child, with_parent, deleted, attached, detached, body_fault}
 use Rattle.city_model.proofs.Prelude.{IsSound}
 use Rattle.std.specs.Prelude.{Result, Ok, Err}
-use Rattle.serde_json.specs.Data.{Members}
 use Rattle.std.proofs.lemmas.List.{nil_from_length}
 use Rattle.city_model.specs.declared.command.Command.TheVariants.{Add, Set, Unset, Reshape, Expect}
+use Rattle.city_model.specs.declared.command.Expectation.{Expectation}
 use Rattle.city_model.specs.Actions.{unless, rewrites, amends, amend, amendment_reply, put_at, add_at, amend_at}
 use Rattle.city_model.specs.Actions.{expect_at, delete_at, attach_at, detach_at}
 use Rattle.city_model.specs.Amendments.{NewBody, Setting, Unsetting, Reshaping}
-use Rattle.city_members.specs.Attributes.{has_attributes}
+use Rattle.city_model.specs.Expectations.{is_met}
 use Rattle.city_model.proofs.ActionKinds.{map_after}
 use Rattle.city_model.proofs.Amended.{IsAmended, is_amended, amended_faultless}
 use Rattle.city_members.proofs.Ids.{same_id_itself, same_id_true, same_id_back, by_id}
@@ -179,11 +179,10 @@ sound_amend : (m : CityMap) → IsSound m → (id : List ℕ) (a : Amendment) �
 sound_amend m s id a =
     unless_sound (amendment_fault a) m (amend_at m id a (m id)) s (sound_amend_at m s id a (m id) refl)
 
-sound_expect : (m : CityMap) → IsSound m → (id : List ℕ) (named : Members) (w : Option Object)
-    → IsSound (map_after m (expect_at m id named w))
-sound_expect m s id named None = s
-sound_expect m s id named (Some o) =
-    either_sound (has_attributes o.body.extra named) m _ _ (λ e. s) (λ e. s)
+sound_expect : (m : CityMap) → IsSound m → (id : List ℕ) (e : Expectation) (w : Option Object)
+    → IsSound (map_after m (expect_at m id e w))
+sound_expect m s id e None = s
+sound_expect m s id e (Some o) = either_sound (is_met e o) m _ _ (λ h. s) (λ h. s)
 
 sound_delete : (m : CityMap) → IsSound m → (id : List ℕ) (w : Option Object) → m id ≡ w
     → IsSound (map_after m (delete_at m id w))
@@ -225,7 +224,7 @@ sound_after m (Add id body) s = unless_sound (body_fault body) m _ s (sound_add 
 sound_after m (Set id named) s = sound_amend m s id (Setting named)
 sound_after m (Unset id names) s = sound_amend m s id (Unsetting names)
 sound_after m (Reshape id geometry) s = sound_amend m s id (Reshaping geometry)
-sound_after m (Expect id named) s = sound_expect m s id named (m id)
+sound_after m (Expect id e) s = sound_expect m s id e (m id)
 sound_after m (Delete id) s = sound_delete m s id (m id) refl
 sound_after m (Attach child parent) s = sound_attach m s child parent (m child) (m parent) refl refl
 sound_after m (Detach child parent) s = sound_detach m s child parent (m child) (m parent) refl refl

@@ -1,12 +1,12 @@
 -- The action of each command at a map.
 use Rattle.std.specs.Prelude.{ℕ, ◌==◌, ◌||◌, not, List, [], ◌∷◌, ◌++◌, length, filter, Bool, Option, Some, None}
 use Rattle.std.specs.Prelude.{option_map, Result, Ok, Err, if◌then◌else◌}
-use Rattle.serde_json.specs.Data.{Members}
 use Rattle.city_model.specs.declared.object.Object.{Object}
 use Rattle.city_model.specs.declared.object.Body.{Body}
 use Rattle.city_model.specs.declared.command.Command.{Command}
 use Rattle.city_model.specs.declared.command.Command.TheVariants.{Read, Put, Add, Set, Unset, Reshape, Expect}
 use Rattle.city_model.specs.declared.command.Command.TheVariants.{Delete, Attach, Detach, Mark, Back, Commit, Abort}
+use Rattle.city_model.specs.declared.command.Expectation.{Expectation}
 use Rattle.city_model.specs.declared.command.Cause.{Cause}
 use Rattle.city_model.specs.declared.command.Cause.TheVariants.{NoObject, HasChildren, WrongFamily, AlreadyAttached}
 use Rattle.city_model.specs.declared.command.Cause.TheVariants.{NotAttached, Exists, Unexpected}
@@ -17,7 +17,7 @@ use Rattle.city_model.specs.declared.command.Reply.TheVariants.{Expected}
 use Rattle.city_model.specs.CityMap.{CityMap, same_id, has_id, changed}
 use Rattle.city_model.specs.Relations.{is_second_level, same_family}
 use Rattle.city_model.specs.Shells.{body_fault}
-use Rattle.city_members.specs.Attributes.{has_attributes}
+use Rattle.city_model.specs.Expectations.{is_met}
 use Rattle.city_model.specs.Amendments.{Amendment, NewBody, Setting, Unsetting, Reshaping, amendment_fault, amended}
 
 pub data Action : Type 0 where
@@ -46,10 +46,9 @@ abbrev pub read_reply : Option Object → Reply
 read_reply None = Absent
 read_reply (Some o) = Found o
 
-abbrev pub expect_at : CityMap → List ℕ → Members → Option Object → Action
-expect_at m id named None = Refuses (NoObject id)
-expect_at m id named (Some o) =
-    if has_attributes o.body.extra named then answers m Expected else Refuses (Unexpected id)
+abbrev pub expect_at : CityMap → List ℕ → Expectation → Option Object → Action
+expect_at m id expected None = Refuses (NoObject id)
+expect_at m id expected (Some o) = if is_met expected o then answers m Expected else Refuses (Unexpected id)
 
 -- ---- Put and Add: a new object
 
@@ -159,7 +158,7 @@ action m (Add id body) = unless (body_fault body) (add_at m id body (m id))
 action m (Set id named) = amend m id (Setting named)
 action m (Unset id names) = amend m id (Unsetting names)
 action m (Reshape id geometry) = amend m id (Reshaping geometry)
-action m (Expect id named) = expect_at m id named (m id)
+action m (Expect id expected) = expect_at m id expected (m id)
 action m (Delete id) = delete_at m id (m id)
 action m (Attach child parent) = attach_at m child (m child) parent (m parent)
 action m (Detach child parent) = detach_at m child (m child) parent (m parent)

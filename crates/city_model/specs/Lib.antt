@@ -2,6 +2,7 @@ pub mod Actions
 pub mod Amendments
 pub mod Chunks
 pub mod CityMap
+pub mod Expectations
 pub mod FrameLaw
 pub mod Least
 pub mod Marks
@@ -11,6 +12,7 @@ pub mod Mode
 pub mod Nesting
 pub mod Relations
 pub mod Runs
+pub mod SameGeometries
 pub mod Scripts
 pub mod SerialEnds
 pub mod ShapeTypes

@@ -1,5 +1,6 @@
 //! The commands of a script, and the replies to them.
 use crate::object::{Body, Geometries, Object};
+use crate::object_type::ObjectType;
 use city_members::kept::extra::Attributes;
 use city_members::sequence::Sequence;
 use city_members::shared::Shared;
@@ -20,8 +21,8 @@ pub enum Command {
     Unset(Id, Sequence<Text>),
     /// Gives the object another geometry; all else stays.
     Reshape(Id, Geometries),
-    /// Changes nothing. It is refused unless the object has these attributes, with these values.
-    Expect(Id, Attributes),
+    /// Changes nothing. It is refused unless the object has all that is named.
+    Expect(Id, Expectation),
     /// Removes the object, and its id from every list of children.
     Delete(Id),
     /// Makes the first object a child of the second.
@@ -37,6 +38,21 @@ pub enum Command {
     Commit,
     /// Ends the script; its writes are undone.
     Abort,
+}
+
+/// What an expect names of an object. What isn't named may be any.
+#[derive(Drop)]
+pub struct Expectation {
+    pub kind: Option<ObjectType>,
+    pub geometry: Option<Geometries>,
+    /// All parents, in their order.
+    pub parents: Option<Sequence<Id>>,
+    /// All children, in their order.
+    pub children: Option<Sequence<Id>>,
+    /// Attributes that are there, with these values.
+    pub attributes: Attributes,
+    /// Names of attributes that aren't there.
+    pub absent: Sequence<Text>,
 }
 
 /// Why a command is refused. docs/COMMANDS.md has the order of judging a command's causes.
@@ -69,7 +85,7 @@ pub enum Cause {
     Exists(Id),
     /// The `attributes` of the object of this id isn't an object.
     BadAttributes(Id),
-    /// The object of this id lacks an expected attribute, or has another value there.
+    /// The object of this id isn't as expected.
     Unexpected(Id),
 }
 

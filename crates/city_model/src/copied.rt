@@ -2,6 +2,7 @@
 ghost use Rattle.std.specs.Prelude.{◌≡◌, IfOk};
 
 use crate::OutOfMemory;
+use crate::command::Expectation;
 use crate::frame::Frame;
 use crate::object::{Body, Geometry, Object, Point, Shape};
 use city_members::copied::Copied;
@@ -55,6 +56,19 @@ impl Copied for Object {
             body: self.body.copy(alloc)?,
             parents: self.parents.copy(alloc)?,
             children: self.children.copy(alloc)?,
+        })
+    }
+}
+
+impl Copied for Expectation {
+    fn copy(&self, alloc: Global) -> Result<Expectation, OutOfMemory> {
+        Ok(Expectation {
+            kind: self.kind,
+            geometry: self.geometry.copy(alloc)?,
+            parents: self.parents.copy(alloc)?,
+            children: self.children.copy(alloc)?,
+            attributes: self.attributes.copy(alloc)?,
+            absent: self.absent.copy(alloc)?,
         })
     }
 }

@@ -3,6 +3,7 @@ ghost use Rattle.std.specs.Prelude.{◌≡◌, ◌==◌, length, IsTrue, IfOk};
 ghost use Rattle.std.specs.Iterator.{YieldsFirstRef, item_count};
 ghost use Rattle.city_model.specs.CityMap.{same_id, has_id};
 ghost use Rattle.city_model.specs.Chunks.{ids_left, ids_of};
+ghost use Rattle.city_model.specs.SameGeometries.{same_each};
 ghost use Rattle.city_model.specs.Actions.{without_id};
 ghost use Rattle.city_model.specs.internal.RelationTests.{are_distinct, are_increasing};
 
@@ -115,6 +116,22 @@ pub fn is_among(ids: Ids<'_>, id: &Id) -> bool
         }
     }
     false
+}
+
+/// Whether the ids are these, in their order. Doesn't allocate.
+pub fn are_same_ids(ids: &[Id], others: Ids<'_>) -> bool
+    ensures { result ≡ same_each same_id ids.now (ids_left others.entry) }
+{
+    let mut left = others;
+    for id in ids {
+        let Some(other) = left.next() else {
+            return false;
+        };
+        if !is_same_id(id, other) {
+            return false;
+        }
+    }
+    left.next().is_none()
 }
 
 /// A binary search. In a list out of byte order it may miss an id, but finds no absent one.

@@ -5,6 +5,7 @@
 //! - `shape`, `shape_type`: the boundaries of a shape of any type, and the types
 //! - `copied`: copies of a city and its parts
 //! - `rings`, `edges`, `shells`, `body_fault`: the faults of a body
+//! - `same_geometry`: equal geometries
 //! - `id_list`, `relations`, `orphans`, `is_lawful`: the faults of a city
 //! - `command`, `script`: requests to a city
 //! - `plan`, `change`, `end`: the plan of a command, the writes of a commit, the end of a script
@@ -29,6 +30,7 @@ pub mod orphans;
 pub mod plan;
 pub mod relations;
 mod rings;
+pub mod same_geometry;
 pub mod script;
 pub mod shape;
 pub mod shape_type;

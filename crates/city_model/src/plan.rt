@@ -9,14 +9,16 @@ use crate::OutOfMemory;
 use crate::command::{Cause, Command, Reply};
 use crate::plan::amending::{Amendment, plan_amend};
 use crate::plan::deleting::plan_delete;
+use crate::plan::expecting::plan_expect;
 use crate::plan::object_lookup::ObjectLookup;
 use crate::plan::putting::{plan_add, plan_put};
-use crate::plan::reading::{plan_expect, plan_read};
+use crate::plan::reading::plan_read;
 use crate::plan::relating::{plan_attach, plan_detach};
 use std::alloc::Global;
 
 mod amending;
 mod deleting;
+mod expecting;
 pub mod object_lookup;
 mod objects;
 mod putting;
@@ -62,7 +64,7 @@ pub fn plan_of<V: ObjectLookup>(
         Command::Reshape(id, geometry) => {
             plan_amend(alloc, view, id, Amendment::Reshaping(geometry))
         }
-        Command::Expect(id, named) => plan_expect(alloc, view, id, named),
+        Command::Expect(id, expected) => plan_expect(alloc, view, id, expected),
         Command::Delete(id) => plan_delete(alloc, view, id),
         Command::Attach(child, parent) => plan_attach(alloc, view, child, parent),
         Command::Detach(child, parent) => plan_detach(alloc, view, child, parent),

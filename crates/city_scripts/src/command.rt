@@ -4,11 +4,13 @@ ghost use Rattle.serde_json.specs.Find.{get, as_str, as_object};
 ghost use Rattle.serde_json.specs.View.{view};
 ghost use Rattle.city_members.specs.Kept.{kept_at_attributes};
 ghost use Rattle.city_tokens.specs.script.Commands.{unrelated_body, geometries_of, command_of};
+ghost use Rattle.city_tokens.specs.script.Expectations.{expectation_of};
 ghost use Rattle.city_tokens.specs.tree.Lists.{list_of};
 ghost use Rattle.city_tokens.specs.tree.Members.{kept_if};
 
 use crate::command_faults::names_relations;
 use crate::command_form::{Form, form_of};
+use crate::expectation::expectation_of;
 use city_doc::{body_of, texts_of, to_text};
 use city_members::kept::extra::{Attributes, Extra};
 use city_members::members::{into_object, take};
@@ -125,11 +127,18 @@ fn reshape_command(
     }
 }
 
-fn expect_command(id: Id, command: Value) -> Option<Command>
-    ensures { result ≡ option_map (Command.Expect id) (option_and_then (kept_if kept_at_attributes)
-        (option_and_then as_object (get (codes "attributes") (view command)))) }
+fn expect_command(
+    alloc: Global,
+    points: &[Point],
+    id: Id,
+    command: Value,
+) -> Result<Option<Command>, OutOfMemory>
+    ensures { IfOk result (λ o. o ≡ option_map (Command.Expect id) (expectation_of points.now (view command))) }
 {
-    Some(Command::Expect(id, attributes_in(command)?))
+    match expectation_of(alloc, points, command)? {
+        Some(expected) => Ok(Some(Command::Expect(id, expected))),
+        None => Ok(None),
+    }
 }
 
 /// The command of a tree, if it stands for one. Positions index these points.
@@ -168,7 +177,7 @@ pub fn command_of(
         }
         Form::Expect(id, _) => {
             let id = to_text(alloc, id)?;
-            return Ok(expect_command(id, command));
+            return expect_command(alloc, points, id, command);
         }
         Form::Read(id) => Command::Read(to_text(alloc, id)?),
         Form::Delete(id) => Command::Delete(to_text(alloc, id)?),

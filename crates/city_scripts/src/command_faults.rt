@@ -39,6 +39,7 @@ pub fn is_bad_command(command: &Value) -> bool
         Some(Form::Put(_, object)) => is_bad_object(object),
         Some(Form::Add(_, object)) => is_bad_object(object),
         Some(Form::Reshape(_, _)) => is_bad_geometry(command),
+        Some(Form::Expect(_, _)) => is_bad_geometry(command),
         Some(_) => false,
     }
 }
@@ -51,6 +52,7 @@ pub fn names_bad_vertex(count: usize, command: &Value) -> bool
         Some(Form::Put(_, object)) => has_bad_vertex(count, object),
         Some(Form::Add(_, object)) => has_bad_vertex(count, object),
         Some(Form::Reshape(_, _)) => has_bad_vertex(count, command),
+        Some(Form::Expect(_, _)) => has_bad_vertex(count, command),
         _ => false,
     }
 }

@@ -3,9 +3,10 @@ ghost use Rattle.std.specs.Prelude.{◌≡◌, option_map};
 ghost use Rattle.serde_json.specs.View.{view, members_view};
 ghost use Rattle.city_tokens.specs.script.CommandForms.{text_in, word_form, first_named, of_one_text, object_form};
 ghost use Rattle.city_tokens.specs.script.CommandForms.{relation_form, values_form, names_form, reshape_form};
-ghost use Rattle.city_tokens.specs.script.CommandForms.{pair_form, members_form, form_of};
+ghost use Rattle.city_tokens.specs.script.CommandForms.{pair_form, expect_form, several_form, members_form, form_of};
 ghost use Rattle.city_scripts.specs.internal.Forms.{form_view};
 
+use crate::expectation::{are_of_expect, is_expectation};
 use city_doc::has_other_item;
 use city_members::members::{member, members_count};
 use serde_json::{Map, Value};
@@ -24,7 +25,7 @@ pub enum Form<'v> {
     Unset(&'v str, &'v Vec<Value>),
     /// An id, and the members of the command, its geometry among them.
     Reshape(&'v str, &'v Map<String, Value>),
-    /// An id, and the attributes with their values.
+    /// An id, and the members of the command, what it names among them.
     Expect(&'v str, &'v Map<String, Value>),
     Delete(&'v str),
     /// A child and a parent.
@@ -97,15 +98,12 @@ fn relation_form(members: &Map<String, Value>) -> Option<Form<'_>>
     Some(Form::Detach(text_in(members, "detach")?, parent))
 }
 
-/// The form of two members, one of them attributes with their values.
+/// The form of a set's two members.
 fn values_form(members: &Map<String, Value>) -> Option<Form<'_>>
     ensures { option_map form_view result ≡ values_form (members_view members.now.entries) }
 {
     let named = member(members, "attributes")?.as_object()?;
-    if let Some(id) = text_in(members, "set") {
-        return Some(Form::Set(id, named));
-    }
-    Some(Form::Expect(text_in(members, "expect")?, named))
+    Some(Form::Set(text_in(members, "set")?, named))
 }
 
 /// The form of an unset's two members.
@@ -146,16 +144,37 @@ fn pair_form(members: &Map<String, Value>) -> Option<Form<'_>>
     reshape_form(members)
 }
 
+/// The form of an expect's members.
+fn expect_form(members: &Map<String, Value>) -> Option<Form<'_>>
+    ensures { option_map form_view result ≡ expect_form (members_view members.now.entries) }
+{
+    if are_of_expect(members) && is_expectation(members) {
+        Some(Form::Expect(text_in(members, "expect")?, members))
+    } else {
+        None
+    }
+}
+
+/// The form of several members.
+fn several_form(members: &Map<String, Value>) -> Option<Form<'_>>
+    ensures { option_map form_view result ≡ several_form (members_view members.now.entries) }
+{
+    if members_count(members) == 2 {
+        if let Some(form) = pair_form(members) {
+            return Some(form);
+        }
+    }
+    expect_form(members)
+}
+
 /// The form of an object's members, with no member beside those of its command.
 fn members_form(members: &Map<String, Value>) -> Option<Form<'_>>
     ensures { option_map form_view result ≡ members_form (members_view members.now.entries) }
 {
     if members_count(members) == 1 {
         single_form(members)
-    } else if members_count(members) == 2 {
-        pair_form(members)
     } else {
-        None
+        several_form(members)
     }
 }
 

@@ -14,6 +14,7 @@ mod command;
 mod command_faults;
 mod command_form;
 mod each_fault;
+mod expectation;
 mod fault;
 mod faults;
 mod numbered;

@@ -1,4 +1,5 @@
 -- Definitions of texts of scripts.
 pub mod CommandForms
 pub mod Commands
+pub mod Expectations
 pub mod Scripts

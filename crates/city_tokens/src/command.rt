@@ -8,6 +8,7 @@ ghost use Rattle.city_tokens.specs.internal.Positions.{IsResolved, points_of};
 ghost use Rattle.city_tokens.specs.internal.Standing.{IsArrayOf};
 ghost use Rattle.city_tokens.specs.tree.Lists.{list_of};
 ghost use Rattle.city_tokens.specs.internal.Commands.{verb_name, with_verb, AreOthers, IsCommand, IsCommandSoFar};
+ghost use Rattle.city_tokens.specs.internal.Commands.{of_attributes};
 
 use crate::list::FromTokens;
 use crate::member_visitor::{MemberVisitor, read_opened};
@@ -15,9 +16,11 @@ use crate::other::{Other, read_other};
 use crate::resolve::ResolvePositions;
 use crate::text::{read_str, text_of};
 use crate::vertices::Vertex;
+use city_members::kept::extra::Attributes;
+use city_members::sequence::Sequence;
 use city_members::shared::Shared;
 use city_members::text::{Id, Text};
-use city_model::command::Command;
+use city_model::command::{Command, Expectation};
 use city_model::object::Body;
 use city_reader::Reader;
 use json::Token;
@@ -110,8 +113,22 @@ fn single_command(verb: Verb, text: Text) -> Option<Command>
     }
 }
 
-/// The command of two members.
-fn pair_command(verb: Verb, id: Id, other: Other) -> Option<Command>
+/// What an expect of attributes alone names.
+fn of_attributes(alloc: Global, attributes: Attributes) -> Expectation
+    ensures { result ≡ of_attributes attributes }
+{
+    Expectation {
+        kind: None,
+        geometry: None,
+        parents: None,
+        children: None,
+        attributes,
+        absent: Sequence::new(alloc),
+    }
+}
+
+/// The command of two members. An expect of others than attributes isn't read from its tokens.
+fn pair_command(alloc: Global, verb: Verb, id: Id, other: Other) -> Option<Command>
     ensures { IfSome result (λ c. (others : Members) → AreOthers (Some other) others
         → IsCommand c (object (with_verb (Some (verb, id)) others))) }
 {
@@ -121,7 +138,9 @@ fn pair_command(verb: Verb, id: Id, other: Other) -> Option<Command>
         (Verb::Set, Other::Attributes(values)) => Some(Command::Set(id, values)),
         (Verb::Unset, Other::Names(names)) => Some(Command::Unset(id, names)),
         (Verb::Reshape, Other::Geometry(geometry)) => Some(Command::Reshape(id, geometry)),
-        (Verb::Expect, Other::Attributes(values)) => Some(Command::Expect(id, values)),
+        (Verb::Expect, Other::Attributes(values)) => {
+            Some(Command::Expect(id, of_attributes(alloc, values)))
+        }
         (Verb::Attach, Other::Parent(parent)) => Some(Command::Attach(id, parent)),
         (Verb::Detach, Other::Parent(parent)) => Some(Command::Detach(id, parent)),
         _ => None,
@@ -129,14 +148,14 @@ fn pair_command(verb: Verb, id: Id, other: Other) -> Option<Command>
 }
 
 /// The command of all its members.
-fn command_of(parts: CommandParts) -> Option<Command>
+fn command_of(alloc: Global, parts: CommandParts) -> Option<Command>
     ensures { IfSome result (λ c. (found kept : Members)
         → IsCommandSoFar parts found kept → IsCommand c (object found)) }
 {
     let (verb, text) = parts.verb?;
     match parts.other {
         None => single_command(verb, text),
-        Some(other) => pair_command(verb, text, other),
+        Some(other) => pair_command(alloc, verb, text, other),
     }
 }
 
@@ -165,7 +184,7 @@ impl FromTokens for Command {
                     other: None,
                 };
                 let (parts, _kept) = read_opened(alloc, reader, depth, start)?;
-                command_of(parts)
+                command_of(alloc, parts)
             }
             _ => None,
         }

@@ -1,7 +1,8 @@
-//! Diagnostics of attributes that differ from expected ones, or are no object.
+//! Diagnostics of objects that differ from expected ones, and of attributes that are no object.
 use crate::details::Details;
 use crate::diagnostic::Diagnostic;
 use crate::quoted::Quoted;
+use crate::refusal::unexpected::{tell_geometry, tell_relations, tell_type};
 use crate::refusal::value::{shown_kept, shown_value};
 use city_members::kept::kept_value::KeptValue;
 use city_members::kept::shared_extra::LentMembers;
@@ -67,7 +68,8 @@ struct Differing {
     more: usize,
 }
 
-/// Tells each attribute that isn't as expected, with both values.
+/// Tells each part that isn't as expected: the type, the relations, the attributes with both values, and the
+/// geometry.
 pub fn tell_unexpected(
     alloc: Global,
     command: &Command,
@@ -80,19 +82,35 @@ pub fn tell_unexpected(
             .message
             .push_str("An expected attribute is missing or has another value.");
     };
+    tell_type(expected, object, diagnostic)?;
+    tell_relations(expected, object, diagnostic)?;
     let mut differing = Differing {
         told: Vec::new(alloc),
         more: 0,
     };
-    for (name, expected) in expected.map().iter() {
+    let message = &mut diagnostic.message;
+    for (name, expected) in expected.attributes.map().iter() {
         let found = attribute(object, name.as_str());
         if !is_expected(found, expected) {
-            let message = &mut diagnostic.message;
+            let name = name.as_str();
+            tell_one(
+                alloc,
+                name,
+                found,
+                Some(expected),
+                &mut differing,
+                message,
+            )?;
+        }
+    }
+    for name in expected.absent.as_slice() {
+        let found = attribute(object, name.as_str());
+        if found.is_some() {
             tell_one(
                 alloc,
                 name.as_str(),
                 found,
-                expected,
+                None,
                 &mut differing,
                 message,
             )?;
@@ -104,6 +122,7 @@ pub fn tell_unexpected(
         diagnostic.details.number("more", more)?;
         write!(&mut diagnostic.message, "; {more} more differ")?;
     }
+    tell_geometry(expected, object, diagnostic)?;
     diagnostic.message.push_str(".")
 }
 
@@ -119,7 +138,7 @@ fn tell_one(
     alloc: Global,
     name: &str,
     found: Option<Found<'_>>,
-    expected: &Value,
+    expected: Option<&Value>,
     differing: &mut Differing,
     message: &mut String,
 ) -> Result<(), OutOfMemory> {
@@ -127,11 +146,9 @@ fn tell_one(
         differing.more = differing.more.saturating_add(1);
         return Ok(());
     }
-    let expected = shown_value(alloc, expected)?;
     let mut details = Details::new(alloc);
     details.text("name", name)?;
-    details.text("expected", expected.as_str())?;
-    let word = if differing.told.is_empty() {
+    let word = if message.is_empty() {
         "Attribute"
     } else {
         "; attribute"
@@ -146,7 +163,14 @@ fn tell_one(
             message.push_str(found.as_str())?;
         }
     }
-    write!(message, " and not {expected}")?;
+    match expected {
+        None => message.push_str(" and not absent")?,
+        Some(expected) => {
+            let expected = shown_value(alloc, expected)?;
+            details.text("expected", expected.as_str())?;
+            write!(message, " and not {expected}")?;
+        }
+    }
     differing.told.push(details)?;
     Ok(())
 }

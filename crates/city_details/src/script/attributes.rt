@@ -1,8 +1,10 @@
-//! Wrong attributes in commands.
+//! Wrong attributes and lists of texts in commands.
 use crate::diagnostic::Diagnostic;
 use city_model::OutOfMemory;
 use serde_json::Value;
 use std::fmt::Write;
+
+const WRITE_TEXTS: &str = "Write ids and names as texts, in an array.";
 
 const WRITE_NAMES: &str = "Write the names of the attributes as texts, in an array.";
 
@@ -30,6 +32,41 @@ pub fn tell_no_names(attributes: &Value, diagnostic: &mut Diagnostic) -> Result<
             Ok(())
         }
     }
+}
+
+/// Whether a value is an array of texts.
+pub fn are_texts(value: &Value) -> bool {
+    match value.as_array() {
+        None => false,
+        Some(items) => items.iter().all(Value::is_string),
+    }
+}
+
+/// Says that a member isn't an array, or tells its first item other than a text.
+pub fn tell_no_texts(
+    name: &str,
+    given: &Value,
+    diagnostic: &mut Diagnostic,
+) -> Result<(), OutOfMemory> {
+    diagnostic.details.text("rule", "texts")?;
+    diagnostic.details.text("member", name)?;
+    match given.as_array() {
+        None => {
+            write!(
+                diagnostic.told(WRITE_TEXTS),
+                "Its member \"{name}\" isn't an array."
+            )?;
+        }
+        Some(items) => {
+            let item = first_other(items.as_slice());
+            diagnostic.details.number("item", item)?;
+            write!(
+                diagnostic.told(WRITE_TEXTS),
+                "Item {item} of its member \"{name}\" isn't a text."
+            )?;
+        }
+    }
+    Ok(())
 }
 
 /// The first item other than a text.

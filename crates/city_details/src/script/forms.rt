@@ -15,6 +15,10 @@ pub enum Kind {
     Names,
     /// The geometry of a city object.
     Geometry,
+    /// An array of ids or of names.
+    Texts,
+    /// The type of a city object.
+    Type,
 }
 
 /// A command in the form of an object. The member of the command's name is a text.
@@ -22,6 +26,8 @@ pub struct Form {
     pub name: &'static str,
     /// Its other members, in the order of the search for missing ones.
     pub others: &'static [(&'static str, Kind)],
+    /// Whether one of them is enough.
+    pub one_is_enough: bool,
 }
 
 /// The commands in the form of objects. An object with the names of several commands is the first of them.
@@ -29,50 +35,69 @@ pub const FORMS: &[Form] = &[
     Form {
         name: "read",
         others: &[],
+        one_is_enough: false,
     },
     Form {
         name: "put",
         others: &[("object", Kind::Object)],
+        one_is_enough: false,
     },
     Form {
         name: "add",
         others: &[("object", Kind::Object)],
+        one_is_enough: false,
     },
     Form {
         name: "set",
         others: &[("attributes", Kind::Values)],
+        one_is_enough: false,
     },
     Form {
         name: "unset",
         others: &[("attributes", Kind::Names)],
+        one_is_enough: false,
     },
     Form {
         name: "reshape",
         others: &[("geometry", Kind::Geometry)],
+        one_is_enough: false,
     },
     Form {
         name: "expect",
-        others: &[("attributes", Kind::Values)],
+        others: &[
+            ("attributes", Kind::Values),
+            ("absent", Kind::Texts),
+            ("type", Kind::Type),
+            ("parents", Kind::Texts),
+            ("children", Kind::Texts),
+            ("geometry", Kind::Geometry),
+        ],
+        one_is_enough: true,
     },
     Form {
         name: "delete",
         others: &[],
+        one_is_enough: false,
     },
     Form {
         name: "attach",
         others: &[("parent", Kind::Text)],
+        one_is_enough: false,
     },
     Form {
         name: "detach",
         others: &[("parent", Kind::Text)],
+        one_is_enough: false,
     },
     Form {
         name: "mark",
         others: &[],
+        one_is_enough: false,
     },
     Form {
         name: "back",
         others: &[],
+        one_is_enough: false,
     },
 ];
 
@@ -107,6 +132,9 @@ pub fn form_in(members: &Map<String, Value>) -> Option<&'static Form> {
 impl Form {
     /// The first missing member.
     pub fn missing(&self, members: &Map<String, Value>) -> Option<&'static str> {
+        if self.one_is_enough && self.others.iter().any(|(name, _)| members.contains_key(*name)) {
+            return None;
+        }
         for (name, _) in self.others {
             if !members.contains_key(*name) {
                 return Some(*name);

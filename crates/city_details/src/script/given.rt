@@ -1,7 +1,7 @@
 //! Refused parts of commands: an object, geometries, or attributes.
 use crate::diagnostic::Diagnostic;
 use crate::quoted::Quoted;
-use crate::script::attributes::{tell_no_names, tell_no_values};
+use crate::script::attributes::{are_texts, tell_no_names, tell_no_texts, tell_no_values};
 use crate::script::forms::{Form, Kind, form_in};
 use crate::shape::{is_unsupported, tell_bad_geometry, tell_unknown_type, tell_unsupported};
 use city_model::OutOfMemory;
@@ -42,18 +42,24 @@ pub fn tell_bad_given(command: &Value, diagnostic: &mut Diagnostic) -> Result<()
     let Some(form) = form_of(command) else {
         return Ok(());
     };
-    let Some((name, kind)) = form.given() else {
-        return Ok(());
-    };
-    let Some(given) = command.get(name) else {
-        return Ok(());
-    };
-    match kind {
-        Kind::Values => tell_no_values(diagnostic),
-        Kind::Names => tell_no_names(given, diagnostic),
-        Kind::Geometry => tell_unreadable_geometry(command, diagnostic),
-        _ => tell_bad_object(form.name, given, diagnostic),
+    for (name, kind) in form.others {
+        let Some(given) = command.get(*name) else {
+            continue;
+        };
+        match *kind {
+            Kind::Values if !given.is_object() => return tell_no_values(diagnostic),
+            Kind::Names => return tell_no_names(given, diagnostic),
+            Kind::Texts if !are_texts(given) => return tell_no_texts(*name, given, diagnostic),
+            Kind::Type if !is_known_type(given) => {
+                diagnostic.details.text("rule", "type")?;
+                return tell_unknown_type(command, diagnostic);
+            }
+            Kind::Geometry => return tell_unreadable_geometry(command, diagnostic),
+            Kind::Object => return tell_bad_object(form.name, given, diagnostic),
+            _ => {}
+        }
     }
+    Ok(())
 }
 
 /// Tells the first rule broken by the object in a command of this name.
@@ -142,7 +148,14 @@ fn tell_unreadable_geometry(tree: &Value, diagnostic: &mut Diagnostic) -> Result
 }
 
 fn has_known_type(object: &Value) -> bool {
-    match object.get("type").and_then(Value::as_str) {
+    match object.get("type") {
+        Some(kind) => is_known_type(kind),
+        None => false,
+    }
+}
+
+fn is_known_type(kind: &Value) -> bool {
+    match kind.as_str() {
         Some(name) => type_named(name).is_some(),
         None => false,
     }

@@ -5,7 +5,7 @@ ghost use Rattle.serde_json.specs.Find.{get_member};
 ghost use Rattle.serde_json.specs.View.{view, members_view};
 ghost use Rattle.city_members.specs.Attributes.{are_among, put_each, same_members};
 ghost use Rattle.city_members.specs.Integral.{members_integral};
-ghost use Rattle.city_members.specs.Kept.{has_no_member};
+ghost use Rattle.city_members.specs.Kept.{has_no_member, lacks_each};
 ghost use Rattle.city_members.specs.Members.{without, without_each, AreOrdered};
 ghost use Rattle.city_members.specs.internal.KeptValues.{value_data, members_data};
 ghost use Rattle.city_members.specs.internal.MemberPlaces.{IsAt, IsPlaceFor};
@@ -223,6 +223,18 @@ impl FewMembers {
             match self.get(name.as_str()) {
                 Some(found) if found.is_same(value) => {}
                 _ => return false,
+            }
+        }
+        true
+    }
+
+    /// Whether no member has one of these names. Doesn't allocate.
+    pub(crate) fn lack(&self, names: &[Text]) -> bool
+        ensures { result ≡ lacks_each names.now self.now }
+    {
+        for name in names {
+            if self.get(name.as_str()).is_some() {
+                return false;
             }
         }
         true

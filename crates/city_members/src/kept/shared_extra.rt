@@ -2,7 +2,8 @@
 ghost use Rattle.std.specs.Prelude.{◌≡◌, true, option_map, IfOk, IfSome};
 ghost use Rattle.std.specs.Arc.{arc_value};
 ghost use Rattle.serde_json.specs.View.{members_view};
-ghost use Rattle.city_members.specs.Attributes.{attributes_in, has_attributes, with_set, with_unset};
+ghost use Rattle.city_members.specs.Attributes.{attributes_in, has_attributes, lacks_attributes};
+ghost use Rattle.city_members.specs.Attributes.{with_set, with_unset};
 ghost use Rattle.city_members.specs.Kept.{kept_at_object};
 ghost use Rattle.city_members.specs.Members.{AreOrdered};
 ghost use Rattle.city_members.specs.internal.KeptIn.{kept_in, lent, with_own, with_value};
@@ -16,8 +17,8 @@ use crate::kept::shared_members::SharedMembers;
 use crate::kept::site::{AtObject, Site};
 use crate::kept::size::Size;
 use crate::kept::storage::{
-    Storage, are_integral, attributes_of_few, attributes_of_many, few, few_have, few_left, many,
-    many_have, storage_from, storage_left, storage_of,
+    Storage, are_integral, attributes_of_few, attributes_of_many, few, few_have, few_lack,
+    few_left, many, many_have, many_lack, storage_from, storage_left, storage_of,
 };
 use crate::members::{copy_of, members_count, put};
 use crate::text::Text;
@@ -148,6 +149,16 @@ impl SharedExtra {
         match &self.storage {
             Storage::Few(others, found) => few_have(others, found, named),
             Storage::Many(others, found) => many_have(others, found, named),
+        }
+    }
+
+    /// Whether the members have no attribute of these names. Doesn't allocate.
+    pub fn lacks_attributes(&self, names: &[Text]) -> bool
+        ensures { result ≡ lacks_attributes self.now names.now }
+    {
+        match &self.storage {
+            Storage::Few(others, found) => few_lack(others, found, names),
+            Storage::Many(others, found) => many_lack(others, found, names),
         }
     }
 }

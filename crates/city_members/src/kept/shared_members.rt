@@ -5,7 +5,7 @@ ghost use Rattle.serde_json.specs.Find.{get_member};
 ghost use Rattle.serde_json.specs.View.{members_view};
 ghost use Rattle.city_trees.specs.Items.{items_left};
 ghost use Rattle.city_members.specs.Attributes.{are_among, put_each};
-ghost use Rattle.city_members.specs.Kept.{has_no_member};
+ghost use Rattle.city_members.specs.Kept.{has_no_member, lacks_each};
 ghost use Rattle.city_members.specs.Members.{without, without_each, AllAbove, AreOrdered};
 ghost use Rattle.city_members.specs.internal.KeptValues.{value_data, members_data};
 ghost use Rattle.city_members.specs.internal.MemberLists.{joined, AllBelow};
@@ -96,6 +96,18 @@ impl SharedMembers {
             match self.get(name.as_str()) {
                 Some(found) if found.is_same(value) => {}
                 _ => return false,
+            }
+        }
+        true
+    }
+
+    /// Whether no member has one of these names. Doesn't allocate.
+    pub fn lack(&self, names: &[Text]) -> bool
+        ensures { result ≡ lacks_each names.now self.now }
+    {
+        for name in names {
+            if self.get(name.as_str()).is_some() {
+                return false;
             }
         }
         true

@@ -4,11 +4,12 @@ ghost use Rattle.std.specs.Arc.{arc_value};
 ghost use Rattle.serde_json.specs.Data.{object, put};
 ghost use Rattle.serde_json.specs.View.{view, members_view};
 ghost use Rattle.city_members.specs.Attributes.{attributes, attributes_in, has_attributes, with_attributes};
+ghost use Rattle.city_members.specs.Attributes.{lacks_attributes};
 ghost use Rattle.city_members.specs.Members.{AreOrdered};
 ghost use Rattle.city_members.specs.internal.KeptIn.{kept_in, found_integral, with_own};
 
 use crate::OutOfMemory;
-use crate::attributes::has_attributes;
+use crate::attributes::{has_attributes, lacks_attributes};
 use crate::copied::Copied;
 use crate::integral::have_integral;
 use crate::kept::extra::Attributes;
@@ -16,6 +17,7 @@ use crate::kept::few_members::FewMembers;
 use crate::kept::shared_members::SharedMembers;
 use crate::kept::size::Size;
 use crate::members::{copy_of, member, put, take};
+use crate::text::Text;
 use serde_json::{Map, Value};
 use std::alloc::Global;
 use std::sync::Arc;
@@ -237,5 +239,33 @@ pub(crate) fn many_have(
     match found {
         None => has_attributes(member(others, "attributes"), named.map()),
         Some(found) => found.have(named.map()),
+    }
+}
+
+/// Whether few members have no attribute of these names.
+pub(crate) fn few_lack(
+    others: &Map<String, Value>,
+    found: &Option<FewMembers>,
+    names: &[Text],
+) -> bool
+    ensures { result ≡ lacks_attributes (with_own (members_view others.now.entries) found.now) names.now }
+{
+    match found {
+        None => lacks_attributes(member(others, "attributes"), names),
+        Some(found) => found.lack(names),
+    }
+}
+
+/// Whether many members have no attribute of these names.
+pub(crate) fn many_lack(
+    others: &Map<String, Value>,
+    found: &Option<SharedMembers>,
+    names: &[Text],
+) -> bool
+    ensures { result ≡ lacks_attributes (with_own (members_view others.now.entries) found.now) names.now }
+{
+    match found {
+        None => lacks_attributes(member(others, "attributes"), names),
+        Some(found) => found.lack(names),
     }
 }

@@ -1,15 +1,14 @@
-//! The plans of the commands without writes: a read and an expect.
+//! The plan of a read.
 ghost use Rattle.std.specs.Prelude.{IfOk};
 ghost use Rattle.city_model.specs.internal.Plans.{IsPlan};
 ghost use Rattle.city_model.specs.declared.command.Command.{Command};
 
 use crate::OutOfMemory;
-use crate::command::{Cause, Reply};
+use crate::command::Reply;
 use crate::plan::Plan;
 use crate::plan::object_lookup::ObjectLookup;
-use crate::plan::writes::{Writes, no_object};
+use crate::plan::writes::Writes;
 use city_members::copied::Copied;
-use city_members::kept::extra::Attributes;
 use city_members::text::Id;
 use std::alloc::Global;
 
@@ -22,22 +21,4 @@ pub fn plan_read<V: ObjectLookup>(alloc: Global, view: &V, id: &Id) -> Result<Pl
         Some(object) => Reply::Found(object.copy(alloc)?),
     };
     Ok(Plan::Writes(reply, Writes::new(alloc)))
-}
-
-/// The plan of an expect.
-pub fn plan_expect<V: ObjectLookup>(
-    alloc: Global,
-    view: &V,
-    id: &Id,
-    named: &Attributes,
-) -> Result<Plan, OutOfMemory>
-    ensures { IfOk result (IsPlan (V.map view.now) (Command.Expect id.now named.now)) }
-{
-    let Some(object) = view.look(id) else {
-        return no_object(alloc, id);
-    };
-    if !object.body.get().extra.has_attributes(named) {
-        return Ok(Plan::Refused(Cause::Unexpected(id.copy(alloc)?)));
-    }
-    Ok(Plan::Writes(Reply::Expected, Writes::new(alloc)))
 }

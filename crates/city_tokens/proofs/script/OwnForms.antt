@@ -22,7 +22,7 @@ owns d (AddForm id tree) = get (codes "object") d ≡ Some tree
 owns d (SetForm id named) = option_and_then as_object (get (codes "attributes") d) ≡ Some named
 owns d (UnsetForm id names) = option_and_then (list_of as_str) (get (codes "attributes") d) ≡ Some names
 owns d (ReshapeForm id tree) = tree ≡ d
-owns d (ExpectForm id named) = option_and_then as_object (get (codes "attributes") d) ≡ Some named
+owns d (ExpectForm id tree) = tree ≡ d
 owns d f = Unit {0}
 
 -- it ends a script just if the tree is a word to end one, and its value is the tree's

@@ -1,9 +1,10 @@
 -- Commands before points replace their positions.
-use Rattle.std.specs.Prelude.{◌≡◌, ℕ, List, Option, Some, None, true, false, codes}
+use Rattle.std.specs.Prelude.{◌≡◌, ℕ, List, [], Option, Some, None, true, false, codes}
 use Rattle.serde_json.specs.Data.{Data, string, object, Members, no_members, put}
 use Rattle.serde_json.specs.Find.{get, get_member}
 use Rattle.city_model.specs.declared.command.Command.{Command}
 use Rattle.city_model.specs.declared.command.Command.TheVariants.{Put, Add, Reshape}
+use Rattle.city_model.specs.declared.command.Expectation.{Expectation}
 use Rattle.city_model.specs.declared.object.Body.{Body}
 use Rattle.city_model.specs.declared.object.Point.{Point}
 use Rattle.city_members.specs.Kept.{kept_at_attributes}
@@ -43,6 +44,17 @@ IsCommand (Reshape id geometry) d =
     (tree : Data) × (form_of d ≡ Some (ReshapeForm id tree))
     × IsListSlot IsGeometry geometry (get (codes "geometry") tree)
 IsCommand c d = (points : List Point) → command_of points d ≡ Some c
+
+-- an expect of attributes alone
+abbrev pub of_attributes : Members → Expectation
+of_attributes attributes = record {
+  kind = None;
+  geometry = None;
+  parents = None;
+  children = None;
+  attributes = attributes;
+  absent = [];
+}
 
 -- ---- the members of a command
 

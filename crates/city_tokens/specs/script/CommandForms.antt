@@ -1,18 +1,19 @@
 -- The form of a command's tree, by its members.
-use Rattle.std.specs.Prelude.{ℕ, ◌==◌, List, [], ◌∷◌, Option, Some, None, option_map, option_and_then, codes}
+use Rattle.std.specs.Prelude.{ℕ, ◌==◌, ◌&&◌, List, [], ◌∷◌, Option, Some, None, option_map, option_and_then, codes}
 use Rattle.std.specs.Prelude.{if◌then◌else◌}
 use Rattle.std.specs.Option.{option_or}
 use Rattle.std.specs.Str.{bytes_eq}
 use Rattle.serde_json.specs.Data.{Data, Members, object}
 use Rattle.serde_json.specs.Find.{get_member, as_str, as_object}
 use Rattle.city_members.specs.Members.{members_count}
+use Rattle.city_tokens.specs.script.Expectations.{expect_members, are_named, is_expectation}
 use Rattle.city_tokens.specs.tree.Lists.{list_of}
 use Rattle.city_tokens.specs.tree.Steps.{◌>>=◌}
 
 -- ---- forms
 
--- The form of a command's tree. A put and an add have the tree of their object; a reshape has its own tree, with its
--- `geometry`.
+-- The form of a command's tree. A put and an add have the tree of their object; a reshape and an expect have their own
+-- tree, with their `geometry`.
 pub data CommandForm : Type 0 where
   ReadForm : List ℕ → CommandForm
   PutForm : List ℕ → Data → CommandForm
@@ -20,7 +21,7 @@ pub data CommandForm : Type 0 where
   SetForm : List ℕ → Members → CommandForm
   UnsetForm : List ℕ → List (List ℕ) → CommandForm
   ReshapeForm : List ℕ → Data → CommandForm
-  ExpectForm : List ℕ → Members → CommandForm
+  ExpectForm : List ℕ → Data → CommandForm
   DeleteForm : List ℕ → CommandForm
   AttachForm : List ℕ → List ℕ → CommandForm
   DetachForm : List ℕ → List ℕ → CommandForm
@@ -73,14 +74,10 @@ object_form ms = do
   tree ← get_member (codes "object") ms
   first_named (of_object tree) ms
 
--- the commands of attributes with these values
-abbrev pub of_values : Members → Named
-of_values named = (codes "set", λ id. SetForm id named) ∷ (codes "expect", λ id. ExpectForm id named) ∷ []
-
 abbrev pub values_form : Members → Option CommandForm
 values_form ms = do
   named ← option_and_then as_object (get_member (codes "attributes") ms)
-  first_named (of_values named) ms
+  option_map (λ id. SetForm id named) (text_in (codes "set") ms)
 
 abbrev pub names_form : Members → Option CommandForm
 names_form ms = do
@@ -98,11 +95,19 @@ pair_form ms =
     option_or (object_form ms)
     (option_or (relation_form ms) (option_or (values_form ms) (option_or (names_form ms) (reshape_form ms))))
 
--- just the members of a command: a single text, or two members
+-- an expect of one member or more, with no other beside them
+abbrev pub expect_form : Members → Option CommandForm
+expect_form ms =
+    if are_named expect_members ms && is_expectation (object ms)
+    then option_map (λ id. ExpectForm id (object ms)) (text_in (codes "expect") ms) else None
+
+-- two members, or those of an expect
+abbrev pub several_form : Members → Option CommandForm
+several_form ms = option_or (if members_count ms == 2 then pair_form ms else None) (expect_form ms)
+
+-- just the members of a command: a single text, or several members
 abbrev pub members_form : Members → Option CommandForm
-members_form ms =
-    if members_count ms == 1 then first_named of_one_text ms
-    else (if members_count ms == 2 then pair_form ms else None)
+members_form ms = if members_count ms == 1 then first_named of_one_text ms else several_form ms
 
 -- a word, or an object with just the members of its command
 abbrev pub form_of : Data → Option CommandForm
@@ -114,7 +119,8 @@ object_tree (PutForm id tree) = Some tree
 object_tree (AddForm id tree) = Some tree
 object_tree f = None
 
--- the tree with the `geometry` given by the command to an existing object
+-- the tree with the `geometry` that the command gives to an existing object, or expects of it
 abbrev pub geometry_tree : CommandForm → Option Data
 geometry_tree (ReshapeForm id tree) = Some tree
+geometry_tree (ExpectForm id tree) = Some tree
 geometry_tree f = None

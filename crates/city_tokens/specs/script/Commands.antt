@@ -16,6 +16,7 @@ use Rattle.city_tokens.specs.tree.Lists.{list_or_absent}
 use Rattle.city_tokens.specs.tree.Members.{kept_if}
 use Rattle.city_tokens.specs.script.CommandForms.{CommandForm, ReadForm, PutForm, AddForm, SetForm, UnsetForm}
 use Rattle.city_tokens.specs.script.CommandForms.{ReshapeForm, ExpectForm, DeleteForm, AttachForm, DetachForm}
+use Rattle.city_tokens.specs.script.Expectations.{expectation_of}
 use Rattle.city_tokens.specs.script.CommandForms.{MarkForm, BackForm, CommitForm, AbortForm, form_of}
 
 -- the object names parents or children
@@ -37,7 +38,7 @@ command_of_form points (AddForm id tree) = option_map (Add id) (unrelated_body p
 command_of_form points (SetForm id named) = option_map (Set id) (kept_if kept_at_attributes named)
 command_of_form points (UnsetForm id names) = Some (Unset id names)
 command_of_form points (ReshapeForm id tree) = option_map (Reshape id) (geometries_of points tree)
-command_of_form points (ExpectForm id named) = option_map (Expect id) (kept_if kept_at_attributes named)
+command_of_form points (ExpectForm id tree) = option_map (Expect id) (expectation_of points tree)
 command_of_form points (DeleteForm id) = Some (Delete id)
 command_of_form points (AttachForm child parent) = Some (Attach child parent)
 command_of_form points (DetachForm child parent) = Some (Detach child parent)

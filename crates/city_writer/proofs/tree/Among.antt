@@ -8,24 +8,16 @@ use Rattle.city_writer.proofs.Prelude.{tokens_of_members, tokens_of_own, closing
 use Rattle.city_writer.proofs.Prelude.{ordered_put, all_put}
 use Rattle.std.proofs.Common.{Greater}
 use Rattle.city_writer.specs.internal.tree.ReadsBack.{OwnReadsBack}
+pub use Rattle.city_writer.specs.tree.OwnMembers.{put_if, puts}
 use Rattle.city_members.proofs.Puts.{turned, back, all_above_lower, above_put, put_first}
 use Rattle.city_writer.proofs.tree.ReadBack.{and_then, and_then-none, object_reads}
 
 abbrev cmp : List ℕ → List ℕ → Ordering
 cmp = slice_cmp nat_cmp
 
-abbrev pub put_if : List ℕ → Option Data → Members → Members
-put_if n None ms = ms
-put_if n (Some d) ms = put n d ms
-
 abbrev pub first_if : List ℕ → Option Data → Members → Members
 first_if n None ms = ms
 first_if n (Some d) ms = member n d ms
-
--- the members, with an object's own ones
-abbrev pub puts : List (List ℕ × Option Data) → Members → Members
-puts [] ms = ms
-puts (o ∷ own) ms = put_if o.0 o.1 (puts own ms)
 
 -- the name comes before all of these
 abbrev pub AreAbove : List ℕ → List (List ℕ × Option Data) → Type 0

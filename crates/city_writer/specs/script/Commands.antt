@@ -9,6 +9,7 @@ use Rattle.city_model.specs.declared.object.Object.{Object}
 use Rattle.city_model.specs.declared.object.Point.{Point}
 use Rattle.city_writer.specs.Pool.{geometry_points, object_points}
 use Rattle.city_writer.specs.object.Canonical.{object_data}
+use Rattle.city_writer.specs.script.Expectations.{expect_data, expected_points}
 use Rattle.city_writer.specs.shape.Canonical.{geometry_data}
 use Rattle.city_writer.specs.tree.Lists.{list_data}
 
@@ -22,6 +23,7 @@ abbrev pub command_points : Command → List Point
 command_points (Put id body) = object_points (unrelated body)
 command_points (Add id body) = object_points (unrelated body)
 command_points (Reshape id geometry) = flat_map geometry_points geometry
+command_points (Expect id e) = expected_points e
 command_points command = []
 
 -- ---- trees
@@ -45,7 +47,7 @@ command_data pool (Unset id names) =
     two_members (codes "attributes") (list_data string names) (codes "unset") (string id)
 command_data pool (Reshape id geometry) =
     two_members (codes "geometry") (list_data (geometry_data pool) geometry) (codes "reshape") (string id)
-command_data pool (Expect id values) = two_members (codes "attributes") (object values) (codes "expect") (string id)
+command_data pool (Expect id e) = expect_data pool id e
 command_data pool (Delete id) = one_member (codes "delete") (string id)
 command_data pool (Attach child parent) =
     two_members (codes "attach") (string child) (codes "parent") (string parent)

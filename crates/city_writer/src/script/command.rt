@@ -20,6 +20,7 @@ ghost use Rattle.city_writer.specs.internal.tree.ReadsBack.{ReadsBack, ReadsBack
 
 use crate::object::text::write_unrelated;
 use crate::point_numbers::PointNumbers;
+use crate::script::expect::write_expect;
 use crate::shape::text::Written;
 use crate::tree::kept_members::KeptMembers;
 use city_members::kept::extra::Attributes;
@@ -61,7 +62,7 @@ fn write_relation(verb: &str, child: &Id, parent: &Id, out: &mut Writer) -> Resu
 }
 
 /// Writes attributes with their values, as an object.
-fn write_attributes(values: &Attributes, out: &mut Writer) -> Result<(), OutOfMemory>
+pub fn write_attributes(values: &Attributes, out: &mut Writer) -> Result<(), OutOfMemory>
     ensures before { OnOk result (out.new.before ≡ out.old.before) }
     ensures tokens { OnOk result (out.new.tokens ≡ out.old.tokens ++ tokens_of (object values.now)) }
     ensures reads { OnOk result (ReadsBack (object values.now)) }
@@ -73,31 +74,24 @@ fn write_attributes(values: &Attributes, out: &mut Writer) -> Result<(), OutOfMe
     kept.write_last(out)
 }
 
-/// Writes a command of attributes with their values, with a name behind `attributes`.
-fn write_values(
-    verb: &str,
-    id: &Id,
-    values: &Attributes,
-    out: &mut Writer,
-) -> Result<(), OutOfMemory>
-    requires last { slice_cmp nat_cmp (codes "attributes") verb.now ≡ Less }
+fn write_set(id: &Id, values: &Attributes, out: &mut Writer) -> Result<(), OutOfMemory>
     ensures before { OnOk result (out.new.before ≡ out.old.before) }
     ensures tokens { OnOk result (out.new.tokens ≡ out.old.tokens
-        ++ tokens_of (two_members (codes "attributes") (object values.now) verb.now (string id.now))) }
+        ++ tokens_of (two_members (codes "attributes") (object values.now) (codes "set") (string id.now))) }
     ensures reads { OnOk result (ReadsBack
-        (two_members (codes "attributes") (object values.now) verb.now (string id.now))) }
+        (two_members (codes "attributes") (object values.now) (codes "set") (string id.now))) }
     ensures kept { OnOk result (kept_at_attributes values.now ≡ true) }
 {
     out.begin_object()?;
     out.key("attributes")?;
     write_attributes(values, out)?;
-    out.key(verb)?;
+    out.key("set")?;
     out.string(id.as_str())?;
     out.end_object()
 }
 
 /// Writes names as an array.
-fn write_names(names: &[Text], out: &mut Writer) -> Result<(), OutOfMemory>
+pub fn write_names(names: &[Text], out: &mut Writer) -> Result<(), OutOfMemory>
     ensures before { OnOk result (out.new.before ≡ out.old.before) }
     ensures tokens { OnOk result (out.new.tokens ≡ out.old.tokens ++ tokens_of (list_data string names.now)) }
     ensures reads { OnOk result (ReadsBack (list_data string names.now)) }
@@ -212,10 +206,10 @@ pub fn write_command(
         Command::Read(id) => write_single("read", id, out),
         Command::Put(id, body) => write_put(id, body.get(), pool, out),
         Command::Add(id, body) => write_add(id, body.get(), pool, out),
-        Command::Set(id, values) => write_values("set", id, values, out),
+        Command::Set(id, values) => write_set(id, values, out),
         Command::Unset(id, names) => write_unset(id, names, out),
         Command::Reshape(id, geometry) => write_reshape(id, geometry.get(), pool, out),
-        Command::Expect(id, values) => write_values("expect", id, values, out),
+        Command::Expect(id, expected) => write_expect(id, expected, pool, out),
         Command::Delete(id) => write_single("delete", id, out),
         Command::Attach(child, parent) => write_relation("attach", child, parent, out),
         Command::Detach(child, parent) => write_relation("detach", child, parent, out),

@@ -43,5 +43,7 @@ returns-in-Reshape c =
 pub returns-in-Expect : goal.returns-in-Expect
 returns-in-Expect c =
     let form = rw (c.in-Some.is, c.in-Expect.is) at (sym c.form_of.ensures) in
-    let same = ap (λ id. ExpectForm id (members_view c.in-Expect.field-1.now.entries)) c.in_ok-id-in-Expect.ensures in
-    given_read c.args.points.now (view c.args.command) _ _ _ form same c.expect_command.ensures
+    let same = ap (λ id. ExpectForm id
+    (object (members_view c.in-Expect.field-1.now.entries))) c.in_ok-id-in-Expect.ensures in
+    IfOk-weaker c.expect_command.result _ _ (λ o. given_read c.args.points.now (view c.args.command) _ _ o form same)
+    c.expect_command.ensures
