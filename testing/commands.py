@@ -71,7 +71,15 @@ OF_AN_ID = {
     "set": ("attributes", are_attributes),
     "unset": ("attributes", are_texts),
     "reshape": ("geometry", are_new_geometries),
-    "expect": ("attributes", are_attributes),
+}
+# what an expect may name, at least one of them
+EXPECTED = {
+    "type": lambda value: isinstance(value, str) and value in FAMILY_OF,
+    "geometry": are_new_geometries,
+    "parents": are_texts,
+    "children": are_texts,
+    "attributes": are_attributes,
+    "absent": are_texts,
 }
 
 
@@ -86,11 +94,14 @@ def is_command(command):
     for verb, (member, is_right) in OF_AN_ID.items():
         if set(command) == {verb, member}:
             return isinstance(command[verb], str) and is_right(command[member])
+    named = set(command) - {"expect"}
+    if "expect" in command and named and named <= set(EXPECTED):
+        return isinstance(command["expect"], str) and all(EXPECTED[member](command[member]) for member in named)
     return False
 
 
 def shaped_in(command):
-    """What has the geometries that a command gives: the object that is put or added, or the reshape itself."""
+    """What has the geometries of a command: the object that is put or added, or the reshape or the expect itself."""
     return {} if isinstance(command, str) else command.get("object", command)
 
 
@@ -105,6 +116,11 @@ def command_of(command, vertices):
             elif member == "geometry":
                 given = with_points(command, vertices)["geometry"]
             return verb, command[verb], given
+    if "expect" in command:
+        named = {member: command[member] for member in EXPECTED if member in command}
+        if "geometry" in named:
+            named["geometry"] = with_points(command, vertices)["geometry"]
+        return "expect", command["expect"], named
     verb, *others = next(members for members in OF_TEXTS if members[0] in command)
     return verb, command[verb], *(command[name] for name in others)
 
@@ -200,7 +216,12 @@ def do_expect(view, name, named):
     there_is(view, name)
     found = view[name].get("attributes")
     found = found if isinstance(found, dict) else {}
-    if not all(other in found and are_same(value, found[other]) for other, value in named.items()):
+    values = named.get("attributes", {})
+    met = all(other in found and are_same(value, found[other]) for other, value in values.items())
+    met = met and not any(other in found for other in named.get("absent", []))
+    for member in ("type", "geometry", "parents", "children"):
+        met = met and (member not in named or are_same(named[member], view[name][member]))
+    if not met:
         raise Refusal("Unexpected", id=name)
     return "expected"
 

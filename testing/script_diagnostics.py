@@ -13,7 +13,7 @@ MEMBERS = {
     "set": ["set", "attributes"],
     "unset": ["unset", "attributes"],
     "reshape": ["reshape", "geometry"],
-    "expect": ["expect", "attributes"],
+    "expect": ["expect", "attributes", "absent", "type", "parents", "children", "geometry"],
     "delete": ["delete"],
     "attach": ["attach", "parent"],
     "detach": ["detach", "parent"],
@@ -99,16 +99,17 @@ def bad_command(command):
     name = next((name for name in MEMBERS if name in command), None)
     if name is None:
         return nameless(command)
-    for member in MEMBERS[name]:
-        if member not in command:
-            return {"rule": "missing", "member": member}
+    missing = [member for member in MEMBERS[name] if member not in command]
+    if missing and (name != "expect" or len(command) == 1):
+        return {"rule": "missing", "member": missing[0]}
     others = set(command) - set(MEMBERS[name])
     if others:
         return {"rule": "member", "member": min(others)}
     for member in MEMBERS[name]:
-        if member not in GIVEN and not isinstance(command[member], str):
+        if member in command and member not in GIVEN and not isinstance(command[member], str):
             return {"rule": "no text", "member": member}
-    return GIVEN.get(MEMBERS[name][-1], lambda name, given: None)(name, command[MEMBERS[name][-1]])
+    wrong = (GIVEN[member](name, command[member]) for member in MEMBERS[name] if member in GIVEN and member in command)
+    return next(filter(None, wrong), None)
 
 
 def no_command(given):
@@ -151,8 +152,26 @@ def bad_geometries(name, given):
     return bad_object(name, {"type": "Road", "geometry": given})
 
 
+def bad_type(name, given):
+    """What is wrong with the type that an expect names."""
+    return bad_object(name, {"type": given})
+
+
+def bad_texts(member):
+    """What is wrong with a list of ids or of names, under this name."""
+
+    def bad(name, given):
+        if not isinstance(given, list):
+            return {"rule": "texts", "member": member}
+        other = next((at for at, item in enumerate(given) if not isinstance(item, str)), None)
+        return None if other is None else {"rule": "texts", "member": member, "item": other}
+
+    return bad
+
+
 # what is wrong with a member that isn't a text
-GIVEN = {"object": bad_object, "attributes": bad_attributes, "geometry": bad_geometries}
+GIVEN = {"object": bad_object, "attributes": bad_attributes, "geometry": bad_geometries, "type": bad_type}
+GIVEN |= {member: bad_texts(member) for member in ("absent", "parents", "children")}
 
 
 def nearest(given):
