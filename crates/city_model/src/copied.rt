@@ -62,11 +62,13 @@ impl Copied for Object {
 
 impl Copied for Expectation {
     fn copy(&self, alloc: Global) -> Result<Expectation, OutOfMemory> {
+        let parents = self.parents.copy(alloc)?;
+        let children = self.children.copy(alloc)?;
         Ok(Expectation {
             kind: self.kind,
             geometry: self.geometry.copy(alloc)?,
-            parents: self.parents.copy(alloc)?,
-            children: self.children.copy(alloc)?,
+            parents,
+            children,
             attributes: self.attributes.copy(alloc)?,
             absent: self.absent.copy(alloc)?,
         })
