@@ -84,3 +84,7 @@ kept_at_geometry ms = members_integral ms && lacks_each geometry_members ms
 -- attributes in a command may have any names
 abbrev pub kept_at_attributes : Members → Bool
 kept_at_attributes ms = members_integral ms
+
+-- members beside `attributes` in a command
+abbrev pub kept_beside : Members → Bool
+kept_beside ms = kept_at_object ms && lacks (codes "attributes") ms

@@ -1,5 +1,6 @@
 //! The members of a document kept in their places without being read.
 
+mod beside;
 pub mod extra;
 pub mod few_members;
 pub mod kept_items;

@@ -5,8 +5,8 @@ use Rattle.city_members.proofs.Ids.{bool_cases}
 use Rattle.city_model.proofs.TypeNames.{same_type_is}
 use Rattle.std.specs.Prelude.{Result, Ok}
 use Rattle.serde_json.specs.Data.{Members}
-use Rattle.city_model.specs.Amendments.{NewBody, Setting, Unsetting, Reshaping, with_extra_by, amended_body, related_as}
-use Rattle.city_members.specs.Attributes.{attributes_in}
+use Rattle.city_model.specs.Amendments.{NewBody, Setting, Unsetting, Reshaping, with_extra_if, settled, removed}
+use Rattle.city_model.specs.Amendments.{amended_body, related_as}
 use Rattle.city_model.specs.Relations.{same_type}
 use Rattle.city_model.specs.Shells.{geometry_fault}
 
@@ -21,14 +21,14 @@ same_kind id body given new is = bool_cases (same_type body.kind given.kind)
     (λ e. grind (arith, same_type_is body.kind given.kind e, e))
     (λ e. absurd (grind (arith, e)))
 
-with_same : (id : List ℕ) (body new : Body) (made : Members → Members) (found : Option Members)
-    → with_extra_by id body made found ≡ Ok new → (new.kind ≡ body.kind) × (new.geometry ≡ body.geometry)
-with_same id body new made found is = grind arith
+with_same : (id : List ℕ) (body new : Body) (extra : Option Members) → with_extra_if id body extra ≡ Ok new
+    → (new.kind ≡ body.kind) × (new.geometry ≡ body.geometry)
+with_same id body new extra is = grind arith
 
 amended_kind : (id : List ℕ) (a : Amendment) (body new : Body) → amended_body id a body ≡ Ok new → new.kind ≡ body.kind
 amended_kind id (NewBody given) body new is = same_kind id body given new is
-amended_kind id (Setting named) body new is = (with_same id body new _ (attributes_in body.extra) is).0
-amended_kind id (Unsetting names) body new is = (with_same id body new _ (attributes_in body.extra) is).0
+amended_kind id (Setting given) body new is = (with_same id body new (settled body.extra given) is).0
+amended_kind id (Unsetting taken) body new is = (with_same id body new (removed body.extra taken) is).0
 amended_kind id (Reshaping geometry) body new is = grind arith
 
 related : (o q : Object) (r : Result Body Cause) → related_as o r ≡ Ok q
@@ -43,10 +43,10 @@ is_amended id a o q is =
 body_faultless : (id : List ℕ) (a : Amendment) (body new : Body) → amended_body id a body ≡ Ok new
     → amendment_fault a ≡ None → body_fault body ≡ None → body_fault new ≡ None
 body_faultless id (NewBody b) body new is given there = grind arith
-body_faultless id (Setting named) body new is given there =
-    ap geometry_fault (with_same id body new _ (attributes_in body.extra) is).1 ∙ there
-body_faultless id (Unsetting names) body new is given there =
-    ap geometry_fault (with_same id body new _ (attributes_in body.extra) is).1 ∙ there
+body_faultless id (Setting s) body new is given there =
+    ap geometry_fault (with_same id body new (settled body.extra s) is).1 ∙ there
+body_faultless id (Unsetting r) body new is given there =
+    ap geometry_fault (with_same id body new (removed body.extra r) is).1 ∙ there
 body_faultless id (Reshaping geometry) body new is given there = grind arith
 
 -- the amendment is without fault, and so was the object

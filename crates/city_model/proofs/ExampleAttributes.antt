@@ -8,6 +8,8 @@ use Rattle.city_model.proofs.Prelude.{model_after, unmarked, no_members, member}
 use Rattle.serde_json.specs.Data.{Data, Members, number, unsigned, array, no_items}
 use Rattle.city_model.specs.Shells.{Shell}
 use Rattle.city_model.specs.declared.command.Command.TheVariants.{Add, Set, Unset, Reshape, Expect}
+use Rattle.city_model.specs.declared.command.Settings.{Settings}
+use Rattle.city_model.specs.declared.command.Removals.{Removals}
 use Rattle.city_model.specs.declared.command.Cause.TheVariants.{NoObject, Exists, BadAttributes, Unexpected, OpenShell}
 use Rattle.city_model.specs.declared.command.Reply.TheVariants.{Replaced, Marked, AttributesSet, AttributesUnset}
 use Rattle.city_model.specs.declared.command.Reply.TheVariants.{Reshaped, Expected}
@@ -72,8 +74,15 @@ abbrev IsTakenBack : CityMap → Command → Reply → Type 0
 IsTakenBack m c reply = Trace (unmarked m) (Mark (codes "k") ∷ c ∷ Back (codes "k") ∷ [])
     (Marked ∷ reply ∷ WentBack ∷ []) (record { map = m; marks = (codes "k", m) ∷ [] })
 
+-- attributes alone
+abbrev giving : Members → Settings
+giving named = record { attributes = Some named; members = no_members }
+
+abbrev taking : List (List ℕ) → Removals
+taking names = record { attributes = Some names; members = [] }
+
 abbrev set_m : Command
-set_m = Set (codes "x") (one (codes "m") (whole 2))
+set_m = Set (codes "x") (giving (one (codes "m") (whole 2)))
 
 -- the attributes with m and n
 abbrev both : Members
@@ -95,22 +104,22 @@ none_then m o none before q = no_orphan_put m (codes "x") (Some o) q none (befor
 pub set_keeps_the_others : left_at_x numbered_field set_m ≡ Some (with both)
 set_keeps_the_others = refl
 
-pub set_replaces_a_value : left_at_x numbered_field (Set (codes "x") (one (codes "n") (whole 7)))
+pub set_replaces_a_value : left_at_x numbered_field (Set (codes "x") (giving (one (codes "n") (whole 7))))
     ≡ Some (with (one (codes "n") (whole 7)))
 set_replaces_a_value = refl
 
-pub set_of_nothing_makes_empty_attributes : left_at_x bare_field (Set (codes "x") no_members)
+pub set_of_nothing_makes_empty_attributes : left_at_x bare_field (Set (codes "x") (giving no_members))
     ≡ Some (with no_members)
 set_of_nothing_makes_empty_attributes = refl
 
-pub set_of_nothing_changes_no_attribute : left_at_x numbered_field (Set (codes "x") no_members)
+pub set_of_nothing_changes_no_attribute : left_at_x numbered_field (Set (codes "x") (giving no_members))
     ≡ numbered_field (codes "x")
 set_of_nothing_changes_no_attribute = refl
 
 pub set_of_a_list_is_refused : IsRefusedBy listed_field set_m (BadAttributes (codes "x"))
 set_of_a_list_is_refused = (refl, (refl, refl))
 
-pub set_wants_an_object : IsRefusedBy bare_field (Set (codes "z") no_members) (NoObject (codes "z"))
+pub set_wants_an_object : IsRefusedBy bare_field (Set (codes "z") (giving no_members)) (NoObject (codes "z"))
 set_wants_an_object = (refl, (refl, refl))
 
 pub set_is_taken_back : IsTakenBack numbered_field set_m AttributesSet
@@ -138,24 +147,58 @@ set_stays_beside_the_puts_undo = refl
 
 -- ---- unset
 
-pub unset_takes_one_out : left_at_x (field (with both)) (Unset (codes "x") (codes "n" ∷ []))
+pub unset_takes_one_out : left_at_x (field (with both)) (Unset (codes "x") (taking (codes "n" ∷ [])))
     ≡ Some (with (one (codes "m") (whole 2)))
 unset_takes_one_out = refl
 
-pub unset_of_the_last_takes_attributes_out : left_at_x numbered_field (Unset (codes "x") (codes "n" ∷ []))
+pub unset_of_the_last_takes_attributes_out : left_at_x numbered_field (Unset (codes "x") (taking (codes "n" ∷ [])))
     ≡ Some (alone LandUse)
 unset_of_the_last_takes_attributes_out = refl
 
-pub unset_of_what_is_not_there_changes_nothing : left_at_x numbered_field (Unset (codes "x") (codes "q" ∷ []))
+pub unset_of_what_is_not_there_changes_nothing : left_at_x numbered_field (Unset (codes "x") (taking (codes "q" ∷ [])))
     ≡ numbered_field (codes "x")
 unset_of_what_is_not_there_changes_nothing = refl
 
-pub unset_of_a_list_is_refused : IsRefusedBy listed_field (Unset (codes "x") (codes "n" ∷ []))
+pub unset_of_a_list_is_refused : IsRefusedBy listed_field (Unset (codes "x") (taking (codes "n" ∷ [])))
     (BadAttributes (codes "x"))
 unset_of_a_list_is_refused = (refl, (refl, refl))
 
-pub unset_is_taken_back : IsTakenBack numbered_field (Unset (codes "x") (codes "n" ∷ [])) AttributesUnset
+pub unset_is_taken_back : IsTakenBack numbered_field (Unset (codes "x") (taking (codes "n" ∷ []))) AttributesUnset
 unset_is_taken_back = (refl, (refl, (refl, refl)))
+
+-- ---- members beside attributes
+
+-- other members alone
+abbrev giving_others : Members → Settings
+giving_others members = record { attributes = None; members = members }
+
+abbrev taking_others : List (List ℕ) → Removals
+taking_others names = record { attributes = None; members = names }
+
+-- an extent beside the attributes; its name comes behind theirs
+abbrev measured : Members → Data → Object
+measured attributes extent =
+    keeping (member (codes "attributes") (Data.object attributes) (one (codes "extent") extent))
+
+pub set_of_a_member_keeps_the_attributes :
+    left_at_x numbered_field (Set (codes "x") (giving_others (one (codes "extent") (whole 5))))
+    ≡ Some (measured (one (codes "n") (whole 1)) (whole 5))
+set_of_a_member_keeps_the_attributes = refl
+
+-- attributes that are a list are left, since none is spoken of
+pub set_of_a_member_beside_a_list :
+    IsTakenBack listed_field (Set (codes "x") (giving_others (one (codes "extent") (whole 5)))) AttributesSet
+set_of_a_member_beside_a_list = (refl, (refl, (refl, refl)))
+
+pub set_of_no_member_makes_no_attributes : left_at_x bare_field (Set (codes "x") (giving_others no_members))
+    ≡ bare_field (codes "x")
+set_of_no_member_makes_no_attributes = refl
+
+pub unset_takes_a_member_out :
+    left_at_x (field (measured (one (codes "n") (whole 1)) (whole 5)))
+    (Unset (codes "x") (taking_others (codes "extent" ∷ codes "q" ∷ [])))
+    ≡ numbered_field (codes "x")
+unset_takes_a_member_out = refl
 
 -- ---- reshape
 
@@ -192,7 +235,7 @@ add_is_taken_back = (refl, (refl, (refl, refl)))
 -- each sets an attribute, and both are kept
 abbrev two_sets : List Scripted
 two_sets =
-    (codes "a", set_m ∷ Commit ∷ []) ∷ (codes "b", Set (codes "x") (one (codes "n") (whole 1)) ∷ Commit ∷ []) ∷ []
+    (codes "a", set_m ∷ Commit ∷ []) ∷ (codes "b", Set (codes "x") (giving (one (codes "n") (whole 1))) ∷ Commit ∷ []) ∷ []
 
 abbrev set_by_both : List End
 set_by_both =

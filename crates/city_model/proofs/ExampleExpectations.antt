@@ -12,6 +12,7 @@ use Rattle.city_model.specs.declared.command.Cause.TheVariants.{NoObject, Unexpe
 use Rattle.city_model.specs.declared.command.Reply.TheVariants.{AttributesSet, Expected}
 use Rattle.city_model.specs.Expectations.{is_met}
 use Rattle.city_model.proofs.ExampleAttributes.{whole, one, with, house, numbered_field, bare_field, listed_field}
+use Rattle.city_model.proofs.ExampleAttributes.{giving}
 use Rattle.city_model.proofs.ExampleAttributes.{IsRefusedBy, IsTakenBack, both, set_m, none_then, none_in_field}
 use Rattle.city_model.proofs.ExampleCities.{no_orphan, committed, in_turn}
 use Rattle.city_model.proofs.ExampleShells.{cube, cube_with_turned_face, solid}
@@ -153,7 +154,7 @@ another_type_is_refused = (refl, (refl, refl))
 -- the second expects the value before the first one's set
 abbrev set_then_expect : List Scripted
 set_then_expect =
-    (codes "a", Set (codes "x") (one (codes "n") (whole 2)) ∷ Commit ∷ [])
+    (codes "a", Set (codes "x") (giving (one (codes "n") (whole 2))) ∷ Commit ∷ [])
     ∷ (codes "b", Expect (codes "x") (attributes (one (codes "n") (whole 1))) ∷ set_m ∷ Commit ∷ [])
     ∷ []
 

@@ -66,8 +66,8 @@ add_at m id body (Some o) = Refuses (Exists id)
 
 abbrev pub amendment_reply : Amendment → Reply
 amendment_reply (NewBody body) = Replaced
-amendment_reply (Setting named) = AttributesSet
-amendment_reply (Unsetting names) = AttributesUnset
+amendment_reply (Setting given) = AttributesSet
+amendment_reply (Unsetting taken) = AttributesUnset
 amendment_reply (Reshaping geometry) = Reshaped
 
 abbrev pub rewrites : CityMap → List ℕ → Reply → Result Object Cause → Action
@@ -155,8 +155,8 @@ abbrev pub action : CityMap → Command → Action
 action m (Read id) = answers m (read_reply (m id))
 action m (Put id body) = unless (body_fault body) (put_at m id body (m id))
 action m (Add id body) = unless (body_fault body) (add_at m id body (m id))
-action m (Set id named) = amend m id (Setting named)
-action m (Unset id names) = amend m id (Unsetting names)
+action m (Set id given) = amend m id (Setting given)
+action m (Unset id taken) = amend m id (Unsetting taken)
 action m (Reshape id geometry) = amend m id (Reshaping geometry)
 action m (Expect id expected) = expect_at m id expected (m id)
 action m (Delete id) = delete_at m id (m id)

@@ -99,8 +99,8 @@ abbrev pub locks_of : CityMap → Command → List (List ℕ × Mode)
 locks_of m (Read id) = (id, Shared) ∷ []
 locks_of m (Put id body) = (id, Exclusive) ∷ []
 locks_of m (Add id body) = (id, Exclusive) ∷ []
-locks_of m (Set id named) = (id, Exclusive) ∷ []
-locks_of m (Unset id names) = (id, Exclusive) ∷ []
+locks_of m (Set id given) = (id, Exclusive) ∷ []
+locks_of m (Unset id taken) = (id, Exclusive) ∷ []
 locks_of m (Reshape id geometry) = (id, Exclusive) ∷ []
 locks_of m (Expect id expected) = (id, Shared) ∷ []
 locks_of m (Delete id) = (id, Exclusive) ∷ delete_locks (m id)

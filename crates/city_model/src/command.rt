@@ -1,7 +1,7 @@
 //! The commands of a script, and the replies to them.
 use crate::object::{Body, Geometries, Object};
 use crate::object_type::ObjectType;
-use city_members::kept::extra::Attributes;
+use city_members::kept::extra::{Attributes, OtherMembers};
 use city_members::sequence::Sequence;
 use city_members::shared::Shared;
 use city_members::text::{Id, Text};
@@ -15,10 +15,10 @@ pub enum Command {
     Put(Id, Shared<Body>),
     /// Adds an object of this body, without relations. It is refused if an object is there.
     Add(Id, Shared<Body>),
-    /// Gives the named attributes of the object these values; all else stays.
-    Set(Id, Attributes),
-    /// Takes the attributes of these names out of the object; all else stays.
-    Unset(Id, Sequence<Text>),
+    /// Gives the named attributes of the object, and members beside them, these values; all else stays.
+    Set(Id, Settings),
+    /// Takes the attributes, and the members beside them, of these names out; all else stays.
+    Unset(Id, Removals),
     /// Gives the object another geometry; all else stays.
     Reshape(Id, Geometries),
     /// Changes nothing. It is refused unless the object has all that is named.
@@ -38,6 +38,24 @@ pub enum Command {
     Commit,
     /// Ends the script; its writes are undone.
     Abort,
+}
+
+/// What a set gives.
+#[derive(Drop)]
+pub struct Settings {
+    /// Attributes, if any are spoken of: no attributes make empty ones where there are none.
+    pub attributes: Option<Attributes>,
+    /// Members beside `attributes`.
+    pub members: OtherMembers,
+}
+
+/// What an unset takes out.
+#[derive(Drop)]
+pub struct Removals {
+    /// Names of attributes, if they are spoken of: empty attributes go even if none is named.
+    pub attributes: Option<Sequence<Text>>,
+    /// Names of members beside `attributes`.
+    pub members: Sequence<Text>,
 }
 
 /// What an expect names of an object. What isn't named may be any.

@@ -2,7 +2,7 @@
 ghost use Rattle.std.specs.Prelude.{◌≡◌, IfOk};
 
 use crate::OutOfMemory;
-use crate::command::Expectation;
+use crate::command::{Expectation, Removals, Settings};
 use crate::frame::Frame;
 use crate::object::{Body, Geometry, Object, Point, Shape};
 use city_members::copied::Copied;
@@ -56,6 +56,24 @@ impl Copied for Object {
             body: self.body.copy(alloc)?,
             parents: self.parents.copy(alloc)?,
             children: self.children.copy(alloc)?,
+        })
+    }
+}
+
+impl Copied for Settings {
+    fn copy(&self, alloc: Global) -> Result<Settings, OutOfMemory> {
+        Ok(Settings {
+            attributes: self.attributes.copy(alloc)?,
+            members: self.members.copy(alloc)?,
+        })
+    }
+}
+
+impl Copied for Removals {
+    fn copy(&self, alloc: Global) -> Result<Removals, OutOfMemory> {
+        Ok(Removals {
+            attributes: self.attributes.copy(alloc)?,
+            members: self.members.copy(alloc)?,
         })
     }
 }

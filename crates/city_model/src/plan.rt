@@ -59,8 +59,8 @@ pub fn plan_of<V: ObjectLookup>(
         Command::Read(id) => plan_read(alloc, view, id),
         Command::Put(id, body) => plan_put(alloc, view, id, body),
         Command::Add(id, body) => plan_add(alloc, view, id, body),
-        Command::Set(id, named) => plan_amend(alloc, view, id, Amendment::Setting(named)),
-        Command::Unset(id, names) => plan_amend(alloc, view, id, Amendment::Unsetting(names)),
+        Command::Set(id, given) => plan_amend(alloc, view, id, Amendment::Setting(given)),
+        Command::Unset(id, taken) => plan_amend(alloc, view, id, Amendment::Unsetting(taken)),
         Command::Reshape(id, geometry) => {
             plan_amend(alloc, view, id, Amendment::Reshaping(geometry))
         }

@@ -3,3 +3,4 @@ pub mod CommandForms
 pub mod Commands
 pub mod Expectations
 pub mod Scripts
+pub mod Settings

@@ -8,7 +8,7 @@ ghost use Rattle.city_tokens.specs.internal.Positions.{IsResolved, points_of};
 ghost use Rattle.city_tokens.specs.internal.Standing.{IsArrayOf};
 ghost use Rattle.city_tokens.specs.tree.Lists.{list_of};
 ghost use Rattle.city_tokens.specs.internal.Commands.{verb_name, with_verb, AreOthers, IsCommand, IsCommandSoFar};
-ghost use Rattle.city_tokens.specs.internal.Commands.{of_attributes};
+ghost use Rattle.city_tokens.specs.internal.Commands.{of_attributes, settings_of, removals_of};
 
 use crate::list::FromTokens;
 use crate::member_visitor::{MemberVisitor, read_opened};
@@ -16,14 +16,15 @@ use crate::other::{Other, read_other};
 use crate::resolve::ResolvePositions;
 use crate::text::{read_str, text_of};
 use crate::vertices::Vertex;
-use city_members::kept::extra::Attributes;
+use city_members::kept::extra::{Attributes, Extra};
 use city_members::sequence::Sequence;
 use city_members::shared::Shared;
 use city_members::text::{Id, Text};
-use city_model::command::{Command, Expectation};
+use city_model::command::{Command, Expectation, Removals, Settings};
 use city_model::object::Body;
 use city_reader::Reader;
 use json::Token;
+use serde_json::Map;
 use std::alloc::Global;
 use std::mem::replace;
 
@@ -127,7 +128,28 @@ fn of_attributes(alloc: Global, attributes: Attributes) -> Expectation
     }
 }
 
-/// The command of two members. An expect of others than attributes isn't read from its tokens.
+/// A set of attributes alone.
+fn settings_of(alloc: Global, attributes: Attributes) -> Option<Settings>
+    ensures { IfSome result (λ given. given ≡ settings_of attributes) }
+{
+    let members = Extra::new(Map::new(alloc)).ok()?;
+    Some(Settings {
+        attributes: Some(attributes),
+        members,
+    })
+}
+
+/// An unset of attributes alone.
+fn removals_of(alloc: Global, names: Sequence<Text>) -> Removals
+    ensures { result ≡ removals_of names }
+{
+    Removals {
+        attributes: Some(names),
+        members: Sequence::new(alloc),
+    }
+}
+
+/// The command of two members. A set, an unset and an expect of others than attributes aren't read from their tokens.
 fn pair_command(alloc: Global, verb: Verb, id: Id, other: Other) -> Option<Command>
     ensures { IfSome result (λ c. (others : Members) → AreOthers (Some other) others
         → IsCommand c (object (with_verb (Some (verb, id)) others))) }
@@ -135,8 +157,8 @@ fn pair_command(alloc: Global, verb: Verb, id: Id, other: Other) -> Option<Comma
     match (verb, other) {
         (Verb::Put, Other::Object(body)) => Some(Command::Put(id, Shared::unshared(body))),
         (Verb::Add, Other::Object(body)) => Some(Command::Add(id, Shared::unshared(body))),
-        (Verb::Set, Other::Attributes(values)) => Some(Command::Set(id, values)),
-        (Verb::Unset, Other::Names(names)) => Some(Command::Unset(id, names)),
+        (Verb::Set, Other::Attributes(values)) => Some(Command::Set(id, settings_of(alloc, values)?)),
+        (Verb::Unset, Other::Names(names)) => Some(Command::Unset(id, removals_of(alloc, names))),
         (Verb::Reshape, Other::Geometry(geometry)) => Some(Command::Reshape(id, geometry)),
         (Verb::Expect, Other::Attributes(values)) => {
             Some(Command::Expect(id, of_attributes(alloc, values)))

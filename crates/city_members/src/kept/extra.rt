@@ -2,7 +2,7 @@
 ghost use Rattle.std.specs.Prelude.{◌≡◌, true, false, IfOk, IfErr, IsTrue, is_ok};
 
 use crate::OutOfMemory;
-use crate::kept::site::{AtAttributes, Site};
+use crate::kept::site::{AtAttributes, BesideAttributes, Site};
 use crate::kept::size::Size;
 use crate::members::{copy_of, members_count};
 use serde_json::{Map, Value};
@@ -23,6 +23,9 @@ pub struct Extra<P: Site> {
 
 /// Attributes named by a command, each with a value.
 pub type Attributes = Extra<AtAttributes>;
+
+/// Members beside `attributes` named by a command, each with a value.
+pub type OtherMembers = Extra<BesideAttributes>;
 
 impl<P: Site> Model for Extra<P> {
     ghost use Rattle.std.specs.Prelude.{◌≡◌, true};

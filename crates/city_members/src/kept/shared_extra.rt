@@ -3,14 +3,15 @@ ghost use Rattle.std.specs.Prelude.{◌≡◌, true, option_map, IfOk, IfSome};
 ghost use Rattle.std.specs.Arc.{arc_value};
 ghost use Rattle.serde_json.specs.View.{members_view};
 ghost use Rattle.city_members.specs.Attributes.{attributes_in, has_attributes, lacks_attributes};
-ghost use Rattle.city_members.specs.Attributes.{with_set, with_unset};
+ghost use Rattle.city_members.specs.Attributes.{put_each, with_set, with_unset};
 ghost use Rattle.city_members.specs.Kept.{kept_at_object};
-ghost use Rattle.city_members.specs.Members.{AreOrdered};
+ghost use Rattle.city_members.specs.Members.{without_each, AreOrdered};
 ghost use Rattle.city_members.specs.internal.KeptIn.{kept_in, lent, with_own, with_value};
 
 use crate::OutOfMemory;
 use crate::copied::Copied;
-use crate::kept::extra::{Attributes, Extra};
+use crate::kept::beside::{few_with, few_without, many_with, many_without};
+use crate::kept::extra::{Attributes, Extra, OtherMembers};
 use crate::kept::few_members::FewMembers;
 use crate::kept::kept_value::KeptValue;
 use crate::kept::shared_members::SharedMembers;
@@ -140,6 +141,32 @@ impl SharedExtra {
             Storage::Few(others, found) => unset_few(alloc, others, found, names),
             Storage::Many(others, found) => unset_many(alloc, others, found, names),
         }
+    }
+
+    /// The members, and each of these beside `attributes` in its place. Fails only when out of memory.
+    pub fn with_others(&self, alloc: Global, named: &OtherMembers) -> Result<Self, OutOfMemory>
+        ensures { IfOk result (λ made. made ≡ put_each named.now self.now) }
+    {
+        // (called for its contract: an object keeps them)
+        let _members = named.map();
+        let storage = match &self.storage {
+            Storage::Few(others, found) => few_with(alloc, others, found, named)?,
+            Storage::Many(others, found) => many_with(alloc, others, found, named)?,
+        };
+        let made = stored(storage);
+        Ok(made)
+    }
+
+    /// The members without those of these names. Fails only when out of memory.
+    pub fn without_others(&self, alloc: Global, names: &[Text]) -> Result<Self, OutOfMemory>
+        ensures { IfOk result (λ made. made ≡ without_each names.now self.now) }
+    {
+        let storage = match &self.storage {
+            Storage::Few(others, found) => few_without(alloc, others, found, names)?,
+            Storage::Many(others, found) => many_without(alloc, others, found, names)?,
+        };
+        let made = stored(storage);
+        Ok(made)
     }
 
     /// Whether the members have these attributes, with these values. Doesn't allocate.

@@ -3,6 +3,7 @@ ghost use Rattle.std.specs.Prelude.{◌≡◌, Bool, codes};
 ghost use Rattle.serde_json.specs.Data.{Members};
 ghost use Rattle.serde_json.specs.View.{view, members_view};
 ghost use Rattle.city_members.specs.Kept.{lacks, kept_at_top, kept_at_transform, kept_at_object, kept_at_geometry};
+ghost use Rattle.city_members.specs.Kept.{kept_beside};
 ghost use Rattle.city_members.specs.Kept.{kept_at_attributes, is_empty_object_or_absent, has_location, is_located};
 ghost use Rattle.city_members.specs.Kept.{any_located, any_located_in, has_no_member};
 
@@ -39,6 +40,10 @@ pub struct AtGeometry;
 /// The member `attributes` of a city object (CityJSON 2.0, section 2), as a command names some.
 #[derive(Clone, Copy)]
 pub struct AtAttributes;
+
+/// A city object beside its `attributes`, as a command names some of its members.
+#[derive(Clone, Copy)]
+pub struct BesideAttributes;
 
 /// Whether no member has this name.
 fn lacks(members: &Map<String, Value>, name: &str) -> bool
@@ -87,6 +92,14 @@ impl Site for AtObject {
             && lacks(members, "parents")
             && lacks(members, "children")
             && !has_location(member(members, "address"))
+    }
+}
+
+impl Site for BesideAttributes {
+    ghost keeps = { kept_beside };
+
+    fn admits(members: &Map<String, Value>, size: &mut Size) -> bool {
+        AtObject::admits(members, size) && lacks(members, "attributes")
     }
 }
 

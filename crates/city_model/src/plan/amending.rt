@@ -1,14 +1,15 @@
 //! Edits of one object, and their plans. Its type and its relations stay.
 ghost use Rattle.std.specs.Prelude.{◌≡◌, IfOk};
 ghost use Rattle.city_model.specs.Actions.{amend, amends, amendment_reply};
-ghost use Rattle.city_model.specs.Amendments.{amendment_fault, amended, amended_body, with_extra_by};
+ghost use Rattle.city_model.specs.Amendments.{amendment_fault, amended, amended_body, with_extra_if};
+ghost use Rattle.city_model.specs.Amendments.{attributes_set, attributes_unset, removed, settled};
 ghost use Rattle.city_model.specs.CityMap.{CityMap};
 ghost use Rattle.city_model.specs.internal.BorrowedAmendments.{amendment_view};
 ghost use Rattle.city_model.specs.internal.Plans.{IsPlanOf};
 
 use crate::OutOfMemory;
 use crate::body_fault::{body_fault, geometry_fault};
-use crate::command::{Cause, Reply};
+use crate::command::{Cause, Removals, Reply, Settings};
 use crate::object::{Body, Geometries, Object};
 use crate::object_type::{ObjectType, is_same};
 use crate::plan::Plan;
@@ -18,6 +19,7 @@ use crate::plan::writes::{no_object, one};
 use city_members::copied::Copied;
 use city_members::kept::extra::Attributes;
 use city_members::kept::shared_extra::SharedExtra;
+use city_members::members::members_count;
 use city_members::sequence::Sequence;
 use city_members::shared::Shared;
 use city_members::text::{Id, Text};
@@ -28,10 +30,10 @@ use std::alloc::Global;
 pub enum Amendment<'a> {
     /// Another body.
     NewBody(&'a Shared<Body>),
-    /// Attributes with their values.
-    Setting(&'a Attributes),
-    /// Names of attributes to take out.
-    Unsetting(&'a Sequence<Text>),
+    /// Attributes and other members with their values.
+    Setting(&'a Settings),
+    /// Names of attributes and of other members to take out.
+    Unsetting(&'a Removals),
     /// Other geometries.
     Reshaping(&'a Geometries),
 }
@@ -127,18 +129,80 @@ fn amended_body(
             }
             Ok(Ok(new.copy(alloc)?))
         },
-        Amendment::Setting(named) => {
-            let made = body.extra.with_set(alloc, named)?;
+        Amendment::Setting(given) => {
+            let made = settled(alloc, &body.extra, given)?;
             with_extra(alloc, id, body, made)
         },
-        Amendment::Unsetting(names) => {
-            let made = body.extra.with_unset(alloc, names.as_slice())?;
+        Amendment::Unsetting(taken) => {
+            let made = removed(alloc, &body.extra, taken)?;
             with_extra(alloc, id, body, made)
         },
         Amendment::Reshaping(geometry) => {
             let extra = body.extra.copy(alloc)?;
             Ok(Ok(body_of(alloc, body.kind, geometry, extra)?))
         },
+    }
+}
+
+/// The kept members with what a set gives; `None` if it gives attributes and `attributes` is no object.
+fn settled(
+    alloc: Global,
+    extra: &SharedExtra,
+    given: &Settings,
+) -> Result<Option<SharedExtra>, OutOfMemory>
+    ensures { IfOk result (λ made. made ≡ settled extra.now given.now) }
+{
+    let Some(set) = attributes_set(alloc, extra, &given.attributes)? else {
+        return Ok(None);
+    };
+    if members_count(given.members.map()) == 0 {
+        return Ok(Some(set));
+    }
+    let made = set.with_others(alloc, &given.members)?;
+    Ok(Some(made))
+}
+
+fn attributes_set(
+    alloc: Global,
+    extra: &SharedExtra,
+    named: &Option<Attributes>,
+) -> Result<Option<SharedExtra>, OutOfMemory>
+    ensures { IfOk result (λ made. made ≡ attributes_set extra.now named.now) }
+{
+    match named {
+        None => Ok(Some(extra.copy(alloc)?)),
+        Some(named) => extra.with_set(alloc, named),
+    }
+}
+
+/// The kept members without what an unset takes out, likewise.
+fn removed(
+    alloc: Global,
+    extra: &SharedExtra,
+    taken: &Removals,
+) -> Result<Option<SharedExtra>, OutOfMemory>
+    ensures { IfOk result (λ made. made ≡ removed extra.now taken.now) }
+{
+    let Some(left) = attributes_unset(alloc, extra, &taken.attributes)? else {
+        return Ok(None);
+    };
+    if taken.members.len() == 0 {
+        return Ok(Some(left));
+    }
+    let made = left.without_others(alloc, taken.members.as_slice())?;
+    Ok(Some(made))
+}
+
+fn attributes_unset(
+    alloc: Global,
+    extra: &SharedExtra,
+    names: &Option<Sequence<Text>>,
+) -> Result<Option<SharedExtra>, OutOfMemory>
+    ensures { IfOk result (λ made. made ≡ attributes_unset extra.now names.now) }
+{
+    match names {
+        None => Ok(Some(extra.copy(alloc)?)),
+        Some(names) => extra.with_unset(alloc, names.as_slice()),
     }
 }
 
@@ -149,7 +213,7 @@ fn with_extra(
     body: &Body,
     extra: Option<SharedExtra>,
 ) -> Result<Result<Shared<Body>, Cause>, OutOfMemory>
-    ensures { IfOk result (λ r. r ≡ with_extra_by id.now body.now (λ made. made) extra) }
+    ensures { IfOk result (λ r. r ≡ with_extra_if id.now body.now extra) }
 {
     match extra {
         None => Ok(Err(Cause::BadAttributes(id.copy(alloc)?))),

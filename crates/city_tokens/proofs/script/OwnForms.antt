@@ -19,8 +19,8 @@ is_end_form _ = false
 abbrev pub owns : Data → CommandForm → Type 0
 owns d (PutForm id tree) = get (codes "object") d ≡ Some tree
 owns d (AddForm id tree) = get (codes "object") d ≡ Some tree
-owns d (SetForm id named) = option_and_then as_object (get (codes "attributes") d) ≡ Some named
-owns d (UnsetForm id names) = option_and_then (list_of as_str) (get (codes "attributes") d) ≡ Some names
+owns d (SetForm id tree) = tree ≡ d
+owns d (UnsetForm id tree) = tree ≡ d
 owns d (ReshapeForm id tree) = tree ≡ d
 owns d (ExpectForm id tree) = tree ≡ d
 owns d f = Unit {0}

@@ -5,6 +5,8 @@ use Rattle.serde_json.specs.Find.{get, get_member}
 use Rattle.city_model.specs.declared.command.Command.{Command}
 use Rattle.city_model.specs.declared.command.Command.TheVariants.{Put, Add, Reshape}
 use Rattle.city_model.specs.declared.command.Expectation.{Expectation}
+use Rattle.city_model.specs.declared.command.Removals.{Removals}
+use Rattle.city_model.specs.declared.command.Settings.{Settings}
 use Rattle.city_model.specs.declared.object.Body.{Body}
 use Rattle.city_model.specs.declared.object.Point.{Point}
 use Rattle.city_members.specs.Kept.{kept_at_attributes}
@@ -55,6 +57,13 @@ of_attributes attributes = record {
   attributes = attributes;
   absent = [];
 }
+
+-- a set and an unset of attributes alone
+abbrev pub settings_of : Members → Settings
+settings_of attributes = record { attributes = Some attributes; members = no_members }
+
+abbrev pub removals_of : List (List ℕ) → Removals
+removals_of names = record { attributes = Some names; members = [] }
 
 -- ---- the members of a command
 

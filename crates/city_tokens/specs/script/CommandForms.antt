@@ -6,20 +6,21 @@ use Rattle.std.specs.Str.{bytes_eq}
 use Rattle.serde_json.specs.Data.{Data, Members, object}
 use Rattle.serde_json.specs.Find.{get_member, as_str, as_object}
 use Rattle.city_members.specs.Members.{members_count}
-use Rattle.city_tokens.specs.script.Expectations.{expect_members, are_named, is_expectation}
+use Rattle.city_tokens.specs.script.Expectations.{expect_members, is_expectation}
+use Rattle.city_tokens.specs.script.Settings.{set_members, unset_members, are_named, are_settings, are_removals}
 use Rattle.city_tokens.specs.tree.Lists.{list_of}
 use Rattle.city_tokens.specs.tree.Steps.{◌>>=◌}
 
 -- ---- forms
 
--- The form of a command's tree. A put and an add have the tree of their object; a reshape and an expect have their own
--- tree, with their `geometry`.
+-- The form of a command's tree. A put and an add have the tree of their object; a set, an unset, a reshape and an
+-- expect have their own tree, with what they give.
 pub data CommandForm : Type 0 where
   ReadForm : List ℕ → CommandForm
   PutForm : List ℕ → Data → CommandForm
   AddForm : List ℕ → Data → CommandForm
-  SetForm : List ℕ → Members → CommandForm
-  UnsetForm : List ℕ → List (List ℕ) → CommandForm
+  SetForm : List ℕ → Data → CommandForm
+  UnsetForm : List ℕ → Data → CommandForm
   ReshapeForm : List ℕ → Data → CommandForm
   ExpectForm : List ℕ → Data → CommandForm
   DeleteForm : List ℕ → CommandForm
@@ -74,16 +75,6 @@ object_form ms = do
   tree ← get_member (codes "object") ms
   first_named (of_object tree) ms
 
-abbrev pub values_form : Members → Option CommandForm
-values_form ms = do
-  named ← option_and_then as_object (get_member (codes "attributes") ms)
-  option_map (λ id. SetForm id named) (text_in (codes "set") ms)
-
-abbrev pub names_form : Members → Option CommandForm
-names_form ms = do
-  names ← option_and_then (list_of as_str) (get_member (codes "attributes") ms)
-  option_map (λ id. UnsetForm id names) (text_in (codes "unset") ms)
-
 abbrev pub reshape_form : Members → Option CommandForm
 reshape_form ms = do
   geometry ← get_member (codes "geometry") ms
@@ -92,8 +83,18 @@ reshape_form ms = do
 -- the first of the forms of two members
 abbrev pub pair_form : Members → Option CommandForm
 pair_form ms =
-    option_or (object_form ms)
-    (option_or (relation_form ms) (option_or (values_form ms) (option_or (names_form ms) (reshape_form ms))))
+    option_or (object_form ms) (option_or (relation_form ms) (reshape_form ms))
+
+-- a set and an unset of attributes, of other members, or of both
+abbrev pub set_form : Members → Option CommandForm
+set_form ms =
+    if are_named set_members ms && are_settings (object ms)
+    then option_map (λ id. SetForm id (object ms)) (text_in (codes "set") ms) else None
+
+abbrev pub unset_form : Members → Option CommandForm
+unset_form ms =
+    if are_named unset_members ms && are_removals (object ms)
+    then option_map (λ id. UnsetForm id (object ms)) (text_in (codes "unset") ms) else None
 
 -- an expect of one member or more, with no other beside them
 abbrev pub expect_form : Members → Option CommandForm
@@ -101,9 +102,11 @@ expect_form ms =
     if are_named expect_members ms && is_expectation (object ms)
     then option_map (λ id. ExpectForm id (object ms)) (text_in (codes "expect") ms) else None
 
--- two members, or those of an expect
+-- two members, or those of a set, of an unset or of an expect
 abbrev pub several_form : Members → Option CommandForm
-several_form ms = option_or (if members_count ms == 2 then pair_form ms else None) (expect_form ms)
+several_form ms =
+    option_or (if members_count ms == 2 then pair_form ms else None)
+    (option_or (set_form ms) (option_or (unset_form ms) (expect_form ms)))
 
 -- just the members of a command: a single text, or several members
 abbrev pub members_form : Members → Option CommandForm

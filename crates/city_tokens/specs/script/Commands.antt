@@ -9,11 +9,10 @@ use Rattle.city_model.specs.declared.object.Body.{Body}
 use Rattle.city_model.specs.declared.command.Command.{Command}
 use Rattle.city_model.specs.declared.command.Command.TheVariants.{Read, Put, Add, Set, Unset, Reshape, Expect}
 use Rattle.city_model.specs.declared.command.Command.TheVariants.{Delete, Attach, Detach, Mark, Back, Commit, Abort}
-use Rattle.city_members.specs.Kept.{kept_at_attributes}
 use Rattle.city_tokens.specs.object.Bodies.{body_of}
 use Rattle.city_tokens.specs.shape.Geometries.{geometry_of}
 use Rattle.city_tokens.specs.tree.Lists.{list_or_absent}
-use Rattle.city_tokens.specs.tree.Members.{kept_if}
+use Rattle.city_tokens.specs.script.Settings.{settings_of, removals_of}
 use Rattle.city_tokens.specs.script.CommandForms.{CommandForm, ReadForm, PutForm, AddForm, SetForm, UnsetForm}
 use Rattle.city_tokens.specs.script.CommandForms.{ReshapeForm, ExpectForm, DeleteForm, AttachForm, DetachForm}
 use Rattle.city_tokens.specs.script.Expectations.{expectation_of}
@@ -35,8 +34,8 @@ abbrev pub command_of_form : List Point → CommandForm → Option Command
 command_of_form points (ReadForm id) = Some (Read id)
 command_of_form points (PutForm id tree) = option_map (Put id) (unrelated_body points tree)
 command_of_form points (AddForm id tree) = option_map (Add id) (unrelated_body points tree)
-command_of_form points (SetForm id named) = option_map (Set id) (kept_if kept_at_attributes named)
-command_of_form points (UnsetForm id names) = Some (Unset id names)
+command_of_form points (SetForm id tree) = option_map (Set id) (settings_of tree)
+command_of_form points (UnsetForm id tree) = option_map (Unset id) (removals_of tree)
 command_of_form points (ReshapeForm id tree) = option_map (Reshape id) (geometries_of points tree)
 command_of_form points (ExpectForm id tree) = option_map (Expect id) (expectation_of points tree)
 command_of_form points (DeleteForm id) = Some (Delete id)

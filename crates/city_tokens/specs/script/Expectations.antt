@@ -1,10 +1,9 @@
 -- What an expect names, by the members of its tree.
-use Rattle.std.specs.Prelude.{◌&&◌, ℕ, List, [], ◌∷◌, Bool, true, Option, Some, None, option_map, option_and_then}
+use Rattle.std.specs.Prelude.{◌&&◌, ℕ, List, [], ◌∷◌, Bool, Option, option_map, option_and_then}
 use Rattle.std.specs.Prelude.{codes, is_some}
-use Rattle.serde_json.specs.Data.{Data, Members, no_members, member}
+use Rattle.serde_json.specs.Data.{Data, Members}
 use Rattle.serde_json.specs.Find.{get, as_str}
 use Rattle.city_members.specs.Attributes.{members_or_none}
-use Rattle.city_members.specs.Ids.{has_id}
 use Rattle.city_members.specs.Kept.{kept_at_attributes}
 use Rattle.city_model.specs.declared.command.Expectation.{Expectation}
 use Rattle.city_model.specs.declared.object.Geometry.{Geometry}
@@ -12,6 +11,7 @@ use Rattle.city_model.specs.declared.object.Point.{Point}
 use Rattle.city_model.specs.declared.object_type.ObjectType.{ObjectType}
 use Rattle.city_model.specs.Types.{type_named}
 use Rattle.city_tokens.specs.shape.Geometries.{geometry_of}
+use Rattle.city_tokens.specs.script.Settings.{if_there}
 use Rattle.city_tokens.specs.tree.Lists.{list_of, list_or_absent}
 use Rattle.city_tokens.specs.tree.Members.{kept_if}
 use Rattle.city_tokens.specs.tree.Steps.{◌>>=◌}
@@ -23,16 +23,6 @@ abbrev pub expect_members : List (List ℕ)
 expect_members =
     codes "expect" ∷ codes "absent" ∷ codes "attributes" ∷ codes "children" ∷ codes "geometry" ∷ codes "parents"
     ∷ codes "type" ∷ []
-
--- each member has one of these names
-abbrev pub are_named : List (List ℕ) → Members → Bool
-are_named names no_members = true
-are_named names (member k d ms) = has_id names k && are_named names ms
-
--- what is read of a member, if it is there
-abbrev pub if_there : {A : Type 0} → (Data → Option A) → Option Data → Option (Option A)
-if_there read None = Some None
-if_there read (Some d) = option_map Some (read d)
 
 -- ---- what they name
 
