@@ -8,6 +8,7 @@ use Rattle.city_tokens.specs.script.CommandForms.{CommandForm, PutForm, AddForm,
 use Rattle.city_tokens.specs.script.CommandForms.{ExpectForm, form_of}
 use Rattle.city_tokens.specs.script.Commands.{unrelated_body, geometries_of, command_of_form}
 use Rattle.city_tokens.specs.script.Expectations.{expectation_of}
+use Rattle.city_tokens.specs.script.Settings.{removals_of, settings_of}
 use Rattle.city_tokens.proofs.Laws.{owns, form_owns}
 
 -- the command of this form, with its parts looked up in a tree
@@ -16,11 +17,8 @@ given_in points d (PutForm id tree) =
     option_map (Put id) (option_and_then (unrelated_body points) (get (codes "object") d))
 given_in points d (AddForm id tree) =
     option_map (Add id) (option_and_then (unrelated_body points) (get (codes "object") d))
-given_in points d (SetForm id named) =
-    option_map (Set id) (option_and_then (kept_if kept_at_attributes)
-    (option_and_then as_object (get (codes "attributes") d)))
-given_in points d (UnsetForm id names) =
-    option_map (Unset id) (option_and_then (list_of as_str) (get (codes "attributes") d))
+given_in points d (SetForm id tree) = option_map (Set id) (settings_of d)
+given_in points d (UnsetForm id tree) = option_map (Unset id) (removals_of d)
 given_in points d (ReshapeForm id tree) = option_map (Reshape id) (geometries_of points d)
 given_in points d (ExpectForm id tree) = option_map (Expect id) (expectation_of points d)
 given_in points d f = command_of_form points f
@@ -31,9 +29,8 @@ own_given points d (PutForm id tree) own =
     ap (λ o. option_map (Put id) (option_and_then (unrelated_body points) o)) (sym own)
 own_given points d (AddForm id tree) own =
     ap (λ o. option_map (Add id) (option_and_then (unrelated_body points) o)) (sym own)
-own_given points d (SetForm id named) own =
-    ap (λ o. option_map (Set id) (option_and_then (kept_if kept_at_attributes) o)) (sym own)
-own_given points d (UnsetForm id names) own = ap (option_map (Unset id)) (sym own)
+own_given points d (SetForm id tree) own = ap (λ d. option_map (Set id) (settings_of d)) own
+own_given points d (UnsetForm id tree) own = ap (λ d. option_map (Unset id) (removals_of d)) own
 own_given points d (ReshapeForm id tree) own = ap (λ d. option_map (Reshape id) (geometries_of points d)) own
 own_given points d (ExpectForm id tree) own = ap (λ d. option_map (Expect id) (expectation_of points d)) own
 own_given points d f own = refl

@@ -1,18 +1,16 @@
 //! Builds a command from its tree.
 ghost use Rattle.std.specs.Prelude.{◌≡◌, IfOk, option_map, option_and_then, codes};
-ghost use Rattle.serde_json.specs.Find.{get, as_str, as_object};
+ghost use Rattle.serde_json.specs.Find.{get};
 ghost use Rattle.serde_json.specs.View.{view};
-ghost use Rattle.city_members.specs.Kept.{kept_at_attributes};
 ghost use Rattle.city_tokens.specs.script.Commands.{unrelated_body, geometries_of, command_of};
 ghost use Rattle.city_tokens.specs.script.Expectations.{expectation_of};
-ghost use Rattle.city_tokens.specs.tree.Lists.{list_of};
-ghost use Rattle.city_tokens.specs.tree.Members.{kept_if};
+ghost use Rattle.city_tokens.specs.script.Settings.{removals_of, settings_of};
 
 use crate::command_faults::names_relations;
 use crate::command_form::{Form, form_of};
 use crate::expectation::expectation_of;
-use city_doc::{body_of, texts_of, to_text};
-use city_members::kept::extra::{Attributes, Extra};
+use crate::settings::{removals_of, settings_of};
+use city_doc::{body_of, to_text};
 use city_members::members::{into_object, take};
 use city_members::shared::Shared;
 use city_members::text::Id;
@@ -54,14 +52,6 @@ fn body_in(alloc: Global, points: &[Point], command: Value) -> Result<Option<Bod
     }
 }
 
-/// The attributes in a command, with their values.
-fn attributes_in(command: Value) -> Option<Attributes>
-    ensures { result ≡ option_and_then (kept_if kept_at_attributes)
-        (option_and_then as_object (get (codes "attributes") (view command))) }
-{
-    Extra::new(into_object(given(command, "attributes")?)?).ok()
-}
-
 /// The put of a tree, for this id.
 fn put_command(
     alloc: Global,
@@ -93,22 +83,17 @@ fn add_command(
     }
 }
 
-fn set_command(id: Id, command: Value) -> Option<Command>
-    ensures { result ≡ option_map (Command.Set id) (option_and_then (kept_if kept_at_attributes)
-        (option_and_then as_object (get (codes "attributes") (view command)))) }
+fn set_command(alloc: Global, id: Id, command: Value) -> Option<Command>
+    ensures { result ≡ option_map (Command.Set id) (settings_of (view command)) }
 {
-    Some(Command::Set(id, attributes_in(command)?))
+    Some(Command::Set(id, settings_of(alloc, command)?))
 }
 
 fn unset_command(alloc: Global, id: Id, command: Value) -> Result<Option<Command>, OutOfMemory>
-    ensures { IfOk result (λ o. o ≡ option_map (Command.Unset id)
-        (option_and_then (list_of as_str) (get (codes "attributes") (view command)))) }
+    ensures { IfOk result (λ o. o ≡ option_map (Command.Unset id) (removals_of (view command))) }
 {
-    let Some(names) = given(command, "attributes") else {
-        return Ok(None);
-    };
-    match texts_of(alloc, names)? {
-        Some(names) => Ok(Some(Command::Unset(id, names))),
+    match removals_of(alloc, command)? {
+        Some(taken) => Ok(Some(Command::Unset(id, taken))),
         None => Ok(None),
     }
 }
@@ -165,7 +150,7 @@ pub fn command_of(
         }
         Form::Set(id, _) => {
             let id = to_text(alloc, id)?;
-            return Ok(set_command(id, command));
+            return Ok(set_command(alloc, id, command));
         }
         Form::Unset(id, _) => {
             let id = to_text(alloc, id)?;

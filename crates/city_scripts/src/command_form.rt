@@ -2,12 +2,12 @@
 ghost use Rattle.std.specs.Prelude.{◌≡◌, option_map};
 ghost use Rattle.serde_json.specs.View.{view, members_view};
 ghost use Rattle.city_tokens.specs.script.CommandForms.{text_in, word_form, first_named, of_one_text, object_form};
-ghost use Rattle.city_tokens.specs.script.CommandForms.{relation_form, values_form, names_form, reshape_form};
-ghost use Rattle.city_tokens.specs.script.CommandForms.{pair_form, expect_form, several_form, members_form, form_of};
+ghost use Rattle.city_tokens.specs.script.CommandForms.{relation_form, reshape_form, pair_form, set_form, unset_form};
+ghost use Rattle.city_tokens.specs.script.CommandForms.{expect_form, several_form, members_form, form_of};
 ghost use Rattle.city_scripts.specs.internal.Forms.{form_view};
 
 use crate::expectation::{are_of_expect, is_expectation};
-use city_doc::has_other_item;
+use crate::settings::{are_of_set, are_of_unset, are_removals, are_settings};
 use city_members::members::{member, members_count};
 use serde_json::{Map, Value};
 
@@ -19,10 +19,10 @@ pub enum Form<'v> {
     Put(&'v str, &'v Value),
     /// An id, and the tree of the object to add.
     Add(&'v str, &'v Value),
-    /// An id, and the attributes with their values.
+    /// An id, and the members of the command, what it gives among them.
     Set(&'v str, &'v Map<String, Value>),
-    /// An id, and the names of the attributes, all texts.
-    Unset(&'v str, &'v Vec<Value>),
+    /// An id, and the members of the command, what it takes out among them.
+    Unset(&'v str, &'v Map<String, Value>),
     /// An id, and the members of the command, its geometry among them.
     Reshape(&'v str, &'v Map<String, Value>),
     /// An id, and the members of the command, what it names among them.
@@ -98,25 +98,6 @@ fn relation_form(members: &Map<String, Value>) -> Option<Form<'_>>
     Some(Form::Detach(text_in(members, "detach")?, parent))
 }
 
-/// The form of a set's two members.
-fn values_form(members: &Map<String, Value>) -> Option<Form<'_>>
-    ensures { option_map form_view result ≡ values_form (members_view members.now.entries) }
-{
-    let named = member(members, "attributes")?.as_object()?;
-    Some(Form::Set(text_in(members, "set")?, named))
-}
-
-/// The form of an unset's two members.
-fn names_form(members: &Map<String, Value>) -> Option<Form<'_>>
-    ensures { option_map form_view result ≡ names_form (members_view members.now.entries) }
-{
-    let names = member(members, "attributes")?.as_array()?;
-    if has_other_item(names) {
-        return None;
-    }
-    Some(Form::Unset(text_in(members, "unset")?, names))
-}
-
 /// The form of a reshape's two members.
 fn reshape_form(members: &Map<String, Value>) -> Option<Form<'_>>
     ensures { option_map form_view result ≡ reshape_form (members_view members.now.entries) }
@@ -135,13 +116,29 @@ fn pair_form(members: &Map<String, Value>) -> Option<Form<'_>>
     if let Some(form) = relation_form(members) {
         return Some(form);
     }
-    if let Some(form) = values_form(members) {
-        return Some(form);
-    }
-    if let Some(form) = names_form(members) {
-        return Some(form);
-    }
     reshape_form(members)
+}
+
+/// The form of a set's members.
+fn set_form(members: &Map<String, Value>) -> Option<Form<'_>>
+    ensures { option_map form_view result ≡ set_form (members_view members.now.entries) }
+{
+    if are_of_set(members) && are_settings(members) {
+        Some(Form::Set(text_in(members, "set")?, members))
+    } else {
+        None
+    }
+}
+
+/// The form of an unset's members.
+fn unset_form(members: &Map<String, Value>) -> Option<Form<'_>>
+    ensures { option_map form_view result ≡ unset_form (members_view members.now.entries) }
+{
+    if are_of_unset(members) && are_removals(members) {
+        Some(Form::Unset(text_in(members, "unset")?, members))
+    } else {
+        None
+    }
 }
 
 /// The form of an expect's members.
@@ -163,6 +160,12 @@ fn several_form(members: &Map<String, Value>) -> Option<Form<'_>>
         if let Some(form) = pair_form(members) {
             return Some(form);
         }
+    }
+    if let Some(form) = set_form(members) {
+        return Some(form);
+    }
+    if let Some(form) = unset_form(members) {
+        return Some(form);
     }
     expect_form(members)
 }

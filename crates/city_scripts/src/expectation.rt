@@ -6,8 +6,8 @@ ghost use Rattle.serde_json.specs.View.{view, members_view};
 ghost use Rattle.city_members.specs.Attributes.{members_or_none};
 ghost use Rattle.city_members.specs.Kept.{kept_at_attributes};
 ghost use Rattle.city_model.specs.Types.{type_named};
-ghost use Rattle.city_tokens.specs.script.Expectations.{expect_members, are_named, if_there, is_expectation};
-ghost use Rattle.city_tokens.specs.script.Expectations.{expectation_of};
+ghost use Rattle.city_tokens.specs.script.Expectations.{expect_members, is_expectation, expectation_of};
+ghost use Rattle.city_tokens.specs.script.Settings.{are_named, if_there};
 ghost use Rattle.city_tokens.specs.shape.Geometries.{geometry_of};
 ghost use Rattle.city_tokens.specs.tree.Lists.{list_of, list_or_absent};
 ghost use Rattle.city_tokens.specs.tree.Members.{kept_if};
@@ -62,7 +62,7 @@ fn is_type(member: Option<&Value>) -> bool
 }
 
 /// Whether a member is an array of texts, if it is there.
-fn is_list(member: Option<&Value>) -> bool
+pub fn is_list(member: Option<&Value>) -> bool
     ensures there { result ≡ is_some (if_there (list_of as_str) (option_map (λ v. view v.now) member.entry)) }
     ensures absent { result ≡ is_some (list_or_absent as_str (option_map (λ v. view v.now) member.entry)) }
 {
@@ -76,7 +76,7 @@ fn is_list(member: Option<&Value>) -> bool
 }
 
 /// Whether a member is an object, if it is there.
-fn is_object(member: Option<&Value>) -> bool
+pub fn is_object(member: Option<&Value>) -> bool
     ensures { result ≡ is_some (members_or_none (option_map (λ v. view v.now) member.entry)) }
 {
     match member {
@@ -104,7 +104,7 @@ fn type_in(member: Option<&Value>) -> Option<Option<ObjectType>>
     }
 }
 
-fn ids_in(
+pub fn ids_in(
     alloc: Global,
     member: Option<Value>,
 ) -> Result<Option<Option<Sequence<Text>>>, OutOfMemory>
@@ -119,7 +119,7 @@ fn ids_in(
     }
 }
 
-fn absent_in(alloc: Global, member: Option<Value>) -> Result<Option<Sequence<Text>>, OutOfMemory>
+pub fn texts_in(alloc: Global, member: Option<Value>) -> Result<Option<Sequence<Text>>, OutOfMemory>
     ensures { IfOk result (λ o. o ≡ list_or_absent as_str (option_map view member)) }
 {
     match member {
@@ -177,7 +177,7 @@ pub fn expectation_of(
     let Some(attributes) = named_in(alloc, take(&mut members, "attributes")) else {
         return Ok(None);
     };
-    let Some(absent) = absent_in(alloc, take(&mut members, "absent"))? else {
+    let Some(absent) = texts_in(alloc, take(&mut members, "absent"))? else {
         return Ok(None);
     };
     let Some(geometry) = geometry_in(alloc, points, take(&mut members, "geometry"))? else {

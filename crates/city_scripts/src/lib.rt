@@ -21,6 +21,7 @@ mod numbered;
 mod parts;
 mod read;
 mod script_form;
+mod settings;
 mod write;
 
 pub use all_faults::script_faults_of;

@@ -8,7 +8,7 @@ ghost use Rattle.city_tokens.specs.internal.Positions.{IsResolved, points_of};
 ghost use Rattle.city_tokens.specs.internal.Standing.{IsArrayOf};
 ghost use Rattle.city_tokens.specs.tree.Lists.{list_of};
 ghost use Rattle.city_tokens.specs.internal.Commands.{verb_name, with_verb, AreOthers, IsCommand, IsCommandSoFar};
-ghost use Rattle.city_tokens.specs.internal.Commands.{of_attributes, settings_of, removals_of};
+ghost use Rattle.city_tokens.specs.internal.Commands.{of_attributes, attributes_given, attributes_taken};
 
 use crate::list::FromTokens;
 use crate::member_visitor::{MemberVisitor, read_opened};
@@ -130,7 +130,7 @@ fn of_attributes(alloc: Global, attributes: Attributes) -> Expectation
 
 /// A set of attributes alone.
 fn settings_of(alloc: Global, attributes: Attributes) -> Option<Settings>
-    ensures { IfSome result (λ given. given ≡ settings_of attributes) }
+    ensures { IfSome result (λ given. given ≡ attributes_given attributes) }
 {
     let members = Extra::new(Map::new(alloc)).ok()?;
     Some(Settings {
@@ -141,7 +141,7 @@ fn settings_of(alloc: Global, attributes: Attributes) -> Option<Settings>
 
 /// An unset of attributes alone.
 fn removals_of(alloc: Global, names: Sequence<Text>) -> Removals
-    ensures { result ≡ removals_of names }
+    ensures { result ≡ attributes_taken names }
 {
     Removals {
         attributes: Some(names),

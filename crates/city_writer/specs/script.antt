@@ -2,4 +2,5 @@
 pub mod Canonical
 pub mod Commands
 pub mod Expectations
+pub mod Settings
 pub mod Texts

@@ -2,5 +2,6 @@
 
 pub mod command;
 mod expect;
+mod settings;
 pub mod text;
 pub mod write;

@@ -21,18 +21,13 @@ parts_view f =
 abbrev pub parts_views : List ScriptForm → List ScriptParts
 parts_views fs = map parts_view fs
 
--- the texts among the items
-abbrev pub texts_among : Items → List (List ℕ)
-texts_among no_items = []
-texts_among (item d ds) = option_to_list (as_str d) ++ texts_among ds
-
 -- the meaning of a form, in the words of its tree
 abbrev pub form_view : Form → CommandForm
 form_view (Read id) = ReadForm id.now
 form_view (Put id tree) = PutForm id.now (view tree.now)
 form_view (Add id tree) = AddForm id.now (view tree.now)
-form_view (Set id named) = SetForm id.now (members_view named.now.entries)
-form_view (Unset id names) = UnsetForm id.now (texts_among (items_view names.now.items))
+form_view (Set id ms) = SetForm id.now (object (members_view ms.now.entries))
+form_view (Unset id ms) = UnsetForm id.now (object (members_view ms.now.entries))
 form_view (Reshape id ms) = ReshapeForm id.now (object (members_view ms.now.entries))
 form_view (Expect id ms) = ExpectForm id.now (object (members_view ms.now.entries))
 form_view (Delete id) = DeleteForm id.now

@@ -59,11 +59,11 @@ of_attributes attributes = record {
 }
 
 -- a set and an unset of attributes alone
-abbrev pub settings_of : Members → Settings
-settings_of attributes = record { attributes = Some attributes; members = no_members }
+abbrev pub attributes_given : Members → Settings
+attributes_given attributes = record { attributes = Some attributes; members = no_members }
 
-abbrev pub removals_of : List (List ℕ) → Removals
-removals_of names = record { attributes = Some names; members = [] }
+abbrev pub attributes_taken : List (List ℕ) → Removals
+attributes_taken names = record { attributes = Some names; members = [] }
 
 -- ---- the members of a command
 

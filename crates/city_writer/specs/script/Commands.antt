@@ -10,6 +10,7 @@ use Rattle.city_model.specs.declared.object.Point.{Point}
 use Rattle.city_writer.specs.Pool.{geometry_points, object_points}
 use Rattle.city_writer.specs.object.Canonical.{object_data}
 use Rattle.city_writer.specs.script.Expectations.{expect_data, expected_points}
+use Rattle.city_writer.specs.script.Settings.{set_data, unset_data}
 use Rattle.city_writer.specs.shape.Canonical.{geometry_data}
 use Rattle.city_writer.specs.tree.Lists.{list_data}
 
@@ -42,9 +43,8 @@ abbrev pub command_data : List Point → Command → Data
 command_data pool (Read id) = one_member (codes "read") (string id)
 command_data pool (Put id body) = two_members (codes "object") (body_data pool body) (codes "put") (string id)
 command_data pool (Add id body) = two_members (codes "add") (string id) (codes "object") (body_data pool body)
-command_data pool (Set id values) = two_members (codes "attributes") (object values) (codes "set") (string id)
-command_data pool (Unset id names) =
-    two_members (codes "attributes") (list_data string names) (codes "unset") (string id)
+command_data pool (Set id given) = set_data id given
+command_data pool (Unset id taken) = unset_data id taken
 command_data pool (Reshape id geometry) =
     two_members (codes "geometry") (list_data (geometry_data pool) geometry) (codes "reshape") (string id)
 command_data pool (Expect id e) = expect_data pool id e

@@ -21,9 +21,8 @@ ghost use Rattle.city_writer.specs.internal.tree.ReadsBack.{ReadsBack, ReadsBack
 use crate::object::text::write_unrelated;
 use crate::point_numbers::PointNumbers;
 use crate::script::expect::write_expect;
+use crate::script::settings::{write_set, write_unset};
 use crate::shape::text::Written;
-use crate::tree::kept_members::KeptMembers;
-use city_members::kept::extra::Attributes;
 use city_members::sequence::Sequence;
 use city_members::text::{Id, Text};
 use city_model::OutOfMemory;
@@ -58,63 +57,6 @@ fn write_relation(verb: &str, child: &Id, parent: &Id, out: &mut Writer) -> Resu
     out.string(child.as_str())?;
     out.key("parent")?;
     out.string(parent.as_str())?;
-    out.end_object()
-}
-
-/// Writes attributes with their values, as an object.
-pub fn write_attributes(values: &Attributes, out: &mut Writer) -> Result<(), OutOfMemory>
-    ensures before { OnOk result (out.new.before ≡ out.old.before) }
-    ensures tokens { OnOk result (out.new.tokens ≡ out.old.tokens ++ tokens_of (object values.now)) }
-    ensures reads { OnOk result (ReadsBack (object values.now)) }
-    ensures kept { OnOk result (kept_at_attributes values.now ≡ true) }
-{
-    let members = values.map();
-    let mut kept = KeptMembers::new(members);
-    out.begin_object()?;
-    kept.write_last(out)
-}
-
-fn write_set(id: &Id, values: &Attributes, out: &mut Writer) -> Result<(), OutOfMemory>
-    ensures before { OnOk result (out.new.before ≡ out.old.before) }
-    ensures tokens { OnOk result (out.new.tokens ≡ out.old.tokens
-        ++ tokens_of (two_members (codes "attributes") (object values.now) (codes "set") (string id.now))) }
-    ensures reads { OnOk result (ReadsBack
-        (two_members (codes "attributes") (object values.now) (codes "set") (string id.now))) }
-    ensures kept { OnOk result (kept_at_attributes values.now ≡ true) }
-{
-    out.begin_object()?;
-    out.key("attributes")?;
-    write_attributes(values, out)?;
-    out.key("set")?;
-    out.string(id.as_str())?;
-    out.end_object()
-}
-
-/// Writes names as an array.
-pub fn write_names(names: &[Text], out: &mut Writer) -> Result<(), OutOfMemory>
-    ensures before { OnOk result (out.new.before ≡ out.old.before) }
-    ensures tokens { OnOk result (out.new.tokens ≡ out.old.tokens ++ tokens_of (list_data string names.now)) }
-    ensures reads { OnOk result (ReadsBack (list_data string names.now)) }
-{
-    out.begin_array()?;
-    for name in names {
-        out.string(name.as_str())?;
-    }
-    out.end_array()
-}
-
-fn write_unset(id: &Id, names: &Sequence<Text>, out: &mut Writer) -> Result<(), OutOfMemory>
-    ensures before { OnOk result (out.new.before ≡ out.old.before) }
-    ensures tokens { OnOk result (out.new.tokens ≡ out.old.tokens ++ tokens_of
-        (two_members (codes "attributes") (list_data string names.now) (codes "unset") (string id.now))) }
-    ensures reads { OnOk result (ReadsBack
-        (two_members (codes "attributes") (list_data string names.now) (codes "unset") (string id.now))) }
-{
-    out.begin_object()?;
-    out.key("attributes")?;
-    write_names(names.as_slice(), out)?;
-    out.key("unset")?;
-    out.string(id.as_str())?;
     out.end_object()
 }
 
@@ -206,8 +148,8 @@ pub fn write_command(
         Command::Read(id) => write_single("read", id, out),
         Command::Put(id, body) => write_put(id, body.get(), pool, out),
         Command::Add(id, body) => write_add(id, body.get(), pool, out),
-        Command::Set(id, values) => write_set(id, values, out),
-        Command::Unset(id, names) => write_unset(id, names, out),
+        Command::Set(id, given) => write_set(id, given, out),
+        Command::Unset(id, taken) => write_unset(id, taken, out),
         Command::Reshape(id, geometry) => write_reshape(id, geometry.get(), pool, out),
         Command::Expect(id, expected) => write_expect(id, expected, pool, out),
         Command::Delete(id) => write_single("delete", id, out),

@@ -1,5 +1,5 @@
 //! Writes what an expect names.
-ghost use Rattle.std.specs.Prelude.{◌≡◌, ◌++◌, ◌<◌, ◌^◌, List, OnOk, Some, true, codes, length, option_map};
+ghost use Rattle.std.specs.Prelude.{◌≡◌, ◌++◌, ◌<◌, ◌^◌, List, OnOk, true, codes, length, option_map};
 ghost use Rattle.serde_json.specs.Data.{string};
 ghost use Rattle.city_members.specs.Kept.{kept_at_attributes};
 ghost use Rattle.city_model.specs.declared.object.Point as p;
@@ -15,30 +15,15 @@ ghost use Rattle.city_writer.specs.internal.tree.PartTokens.{tokens_of_own};
 ghost use Rattle.city_writer.specs.internal.tree.ReadsBack.{OwnReadsBack, ReadsBackNumbered};
 
 use crate::point_numbers::PointNumbers;
-use crate::script::command::{write_attributes, write_names};
+use crate::script::settings::{write_names, write_text, write_texts, write_values};
 use crate::shape::text::Written;
 use city_members::members::members_count;
-use city_members::sequence::Sequence;
 use city_members::text::{Id, Text};
 use city_model::OutOfMemory;
 use city_model::command::Expectation;
 use city_model::object::Geometries;
 use city_model::object_type::{ObjectType, name};
 use json::Writer;
-
-/// Writes texts as a member, if they are named.
-fn write_texts(key: &str, texts: &Option<Sequence<Id>>, out: &mut Writer) -> Result<(), OutOfMemory>
-    ensures before { OnOk result (out.new.before ≡ out.old.before) }
-    ensures tokens { OnOk result (out.new.tokens
-        ≡ out.old.tokens ++ tokens_of_own key.now (option_map (list_data string) texts.now)) }
-    ensures reads { OnOk result (OwnReadsBack (option_map (list_data string) texts.now)) }
-{
-    let Some(texts) = texts else {
-        return Ok(());
-    };
-    out.key(key)?;
-    write_names(texts.as_slice(), out)
-}
 
 /// Writes the names of absent attributes, if there are any.
 fn write_absent(names: &[Text], out: &mut Writer) -> Result<(), OutOfMemory>
@@ -78,7 +63,7 @@ fn write_named(expected: &Expectation, out: &mut Writer) -> Result<(), OutOfMemo
         return Ok(());
     }
     out.key("attributes")?;
-    write_attributes(attributes, out)
+    write_values(attributes, out)
 }
 
 /// Writes the geometries, if they are named.
@@ -116,17 +101,6 @@ fn write_type(kind: Option<ObjectType>, out: &mut Writer) -> Result<(), OutOfMem
     out.string(name(kind))
 }
 
-/// Writes the id of an expect.
-fn write_id(id: &Id, out: &mut Writer) -> Result<(), OutOfMemory>
-    ensures before { OnOk result (out.new.before ≡ out.old.before) }
-    ensures tokens { OnOk result (out.new.tokens
-        ≡ out.old.tokens ++ tokens_of_own (codes "expect") (Some (string id.now))) }
-    ensures reads { OnOk result (OwnReadsBack (Some (string id.now))) }
-{
-    out.key("expect")?;
-    out.string(id.as_str())
-}
-
 /// Writes an expect, each point as its number. New points are added to the pool as they are met.
 pub fn write_expect(
     id: &Id,
@@ -146,7 +120,7 @@ pub fn write_expect(
     write_absent(expected.absent.as_slice(), out)?;
     write_named(expected, out)?;
     write_texts("children", &expected.children, out)?;
-    write_id(id, out)?;
+    write_text("expect", id, out)?;
     write_geometry(&expected.geometry, pool, out)?;
     write_texts("parents", &expected.parents, out)?;
     write_type(expected.kind, out)?;

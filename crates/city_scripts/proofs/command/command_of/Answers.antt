@@ -1,6 +1,5 @@
-use Rattle.city_scripts.proofs.Prelude.{sym, ap, IfOk-weaker, object, items_view, members_view, view}
+use Rattle.city_scripts.proofs.Prelude.{sym, ap, IfOk-weaker, object, members_view, view}
 use Rattle.city_tokens.specs.script.CommandForms.{PutForm, AddForm, SetForm, UnsetForm, ReshapeForm, ExpectForm}
-use Rattle.city_scripts.specs.internal.Forms.{texts_among}
 use Rattle.city_scripts.proofs.GivenForms.{given_read}
 use Rattle.city_scripts.proofs.command.command_of.Goals as goal
 
@@ -21,14 +20,14 @@ returns-in-Add c =
 pub returns-in-Set : goal.returns-in-Set
 returns-in-Set c =
     let form = rw (c.in-Some.is, c.in-Set.is) at (sym c.form_of.ensures) in
-    let same = ap (λ id. SetForm id (members_view c.in-Set.field-1.now.entries)) c.in_ok-id-in-Set.ensures in
+    let same = ap (λ id. SetForm id (object (members_view c.in-Set.field-1.now.entries))) c.in_ok-id-in-Set.ensures in
     given_read c.args.points.now (view c.args.command) _ _ _ form same c.set_command.ensures
 
 pub returns-in-Unset : goal.returns-in-Unset
 returns-in-Unset c =
     let form = rw (c.in-Some.is, c.in-Unset.is) at (sym c.form_of.ensures) in
     let same = ap (λ id. UnsetForm id
-    (texts_among (items_view c.in-Unset.field-1.now.items))) c.in_ok-id-in-Unset.ensures in
+    (object (members_view c.in-Unset.field-1.now.entries))) c.in_ok-id-in-Unset.ensures in
     IfOk-weaker c.unset_command.result _ _ (λ o. given_read c.args.points.now (view c.args.command) _ _ o form same)
     c.unset_command.ensures
 

@@ -1,7 +1,7 @@
 use Rattle.city_writer.proofs.Prelude.{drop_all}
 use Rattle.city_writer.proofs.document.PutMembers.{on_ok}
 use Rattle.city_writer.proofs.tree.ReadBack.{array_reads}
-use Rattle.city_writer.proofs.script.command.write_names.Goals as goal
+use Rattle.city_writer.proofs.script.settings.write_names.Goals as goal
 
 pub returns-clause-reads : goal.returns-clause-reads
 returns-clause-reads c =

@@ -1,6 +1,6 @@
 use Rattle.city_writer.proofs.Prelude.{◌≡◌, ◌++◌, drop, string}
 use Rattle.city_writer.proofs.tree.WrittenItems.{closing, ReadBack}
-use Rattle.city_writer.proofs.script.command.write_names.Given as goal
+use Rattle.city_writer.proofs.script.settings.write_names.Given as goal
 
 -- the rest ends the array
 abbrev pub invariant-loop-name : goal.invariant-loop-name
