@@ -68,9 +68,25 @@ OF_TEXTS = (["read"], ["delete"], ["mark"], ["back"], ["attach", "parent"], ["de
 OF_AN_ID = {
     "put": ("object", is_body),
     "add": ("object", is_body),
-    "set": ("attributes", are_attributes),
-    "unset": ("attributes", are_texts),
     "reshape": ("geometry", are_new_geometries),
+}
+# the members of an object that `members` doesn't set
+OWN = {"type", "geometry", "parents", "children", "attributes"}
+
+
+def are_others(value):
+    """Members beside the attributes, each with a value; an address has no location."""
+    return isinstance(value, dict) and not OWN & set(value) and is_body({"type": "Road", **value})
+
+
+def are_other_names(value):
+    return are_texts(value) and not OWN & set(value)
+
+
+# what a set gives and an unset takes out: one of them, or both
+GIVEN = {
+    "set": {"attributes": are_attributes, "members": are_others},
+    "unset": {"attributes": are_texts, "members": are_other_names},
 }
 # what an expect may name, at least one of them
 EXPECTED = {
@@ -94,9 +110,10 @@ def is_command(command):
     for verb, (member, is_right) in OF_AN_ID.items():
         if set(command) == {verb, member}:
             return isinstance(command[verb], str) and is_right(command[member])
-    named = set(command) - {"expect"}
-    if "expect" in command and named and named <= set(EXPECTED):
-        return isinstance(command["expect"], str) and all(EXPECTED[member](command[member]) for member in named)
+    for verb, members in {**GIVEN, "expect": EXPECTED}.items():
+        named = set(command) - {verb}
+        if verb in command and named and named <= set(members):
+            return isinstance(command[verb], str) and all(members[member](command[member]) for member in named)
     return False
 
 
@@ -116,6 +133,9 @@ def command_of(command, vertices):
             elif member == "geometry":
                 given = with_points(command, vertices)["geometry"]
             return verb, command[verb], given
+    for verb, members in GIVEN.items():
+        if verb in command:
+            return verb, command[verb], {member: command[member] for member in members if member in command}
     if "expect" in command:
         named = {member: command[member] for member in EXPECTED if member in command}
         if "geometry" in named:
@@ -194,14 +214,22 @@ def do_add(view, name, body):
     return do_put(view, name, body)
 
 
-def do_set(view, name, named):
-    with_attributes(view, name, {**attributes_at(view, name), **named})
+def do_set(view, name, given):
+    there_is(view, name)
+    if "attributes" in given:
+        with_attributes(view, name, {**attributes_at(view, name), **given["attributes"]})
+    view[name] = {**view[name], **given.get("members", {})}
     return "set"
 
 
-def do_unset(view, name, names):
-    left = {other: value for other, value in attributes_at(view, name).items() if other not in names}
-    with_attributes(view, name, left or None)
+def do_unset(view, name, given):
+    there_is(view, name)
+    if "attributes" in given:
+        found = attributes_at(view, name)
+        left = {other: value for other, value in found.items() if other not in given["attributes"]}
+        with_attributes(view, name, left or None)
+    gone = given.get("members", [])
+    view[name] = {member: value for member, value in view[name].items() if member not in gone}
     return "unset"
 
 

@@ -1,6 +1,6 @@
 """What `cityed --check` tells of a text of scripts, found a second time, in plain Python: see diagnostics.py."""
 
-from commands import MOST_COMMANDS, MOST_SCRIPTS
+from commands import MOST_COMMANDS, MOST_SCRIPTS, OWN
 from diagnostics import bad_vertex, check_document, line, read, tree_faults
 from json_tree import are_triples
 
@@ -10,8 +10,8 @@ MEMBERS = {
     "read": ["read"],
     "put": ["put", "object"],
     "add": ["add", "object"],
-    "set": ["set", "attributes"],
-    "unset": ["unset", "attributes"],
+    "set": ["set", "attributes", "members"],
+    "unset": ["unset", "attributes", "members"],
     "reshape": ["reshape", "geometry"],
     "expect": ["expect", "attributes", "absent", "type", "parents", "children", "geometry"],
     "delete": ["delete"],
@@ -100,7 +100,7 @@ def bad_command(command):
     if name is None:
         return nameless(command)
     missing = [member for member in MEMBERS[name] if member not in command]
-    if missing and (name != "expect" or len(command) == 1):
+    if missing and (name not in ("set", "unset", "expect") or missing == MEMBERS[name][1:]):
         return {"rule": "missing", "member": missing[0]}
     others = set(command) - set(MEMBERS[name])
     if others:
@@ -152,6 +152,18 @@ def bad_geometries(name, given):
     return bad_object(name, {"type": "Road", "geometry": given})
 
 
+def bad_others(name, given):
+    """What is wrong with the members beside the attributes, or with their names."""
+    if name == "unset" and (not isinstance(given, list) or not all(isinstance(item, str) for item in given)):
+        return bad_texts("members")(name, given)
+    if name == "set" and not isinstance(given, dict):
+        return {"rule": "members"}
+    own = OWN & set(given)
+    if own:
+        return {"rule": "members", "name": min(own) if name == "set" else next(it for it in given if it in own)}
+    return None if name == "unset" else bad_object(name, {"type": "Road", **given})
+
+
 def bad_type(name, given):
     """What is wrong with the type that an expect names."""
     return bad_object(name, {"type": given})
@@ -171,7 +183,7 @@ def bad_texts(member):
 
 # what is wrong with a member that isn't a text
 GIVEN = {"object": bad_object, "attributes": bad_attributes, "geometry": bad_geometries, "type": bad_type}
-GIVEN |= {member: bad_texts(member) for member in ("absent", "parents", "children")}
+GIVEN |= {member: bad_texts(member) for member in ("absent", "parents", "children")} | {"members": bad_others}
 
 
 def nearest(given):

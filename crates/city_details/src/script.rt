@@ -13,6 +13,7 @@ mod given;
 mod item;
 mod limits;
 mod nearest;
+mod others;
 mod place;
 
 use crate::diagnostic::Diagnostic;

@@ -19,6 +19,10 @@ pub enum Kind {
     Texts,
     /// The type of a city object.
     Type,
+    /// An object of members beside `attributes`, each with a value.
+    Others,
+    /// An array of the names of such members.
+    OtherNames,
 }
 
 /// A command in the form of an object. The member of the command's name is a text.
@@ -49,13 +53,13 @@ pub const FORMS: &[Form] = &[
     },
     Form {
         name: "set",
-        others: &[("attributes", Kind::Values)],
-        one_is_enough: false,
+        others: &[("attributes", Kind::Values), ("members", Kind::Others)],
+        one_is_enough: true,
     },
     Form {
         name: "unset",
-        others: &[("attributes", Kind::Names)],
-        one_is_enough: false,
+        others: &[("attributes", Kind::Names), ("members", Kind::OtherNames)],
+        one_is_enough: true,
     },
     Form {
         name: "reshape",

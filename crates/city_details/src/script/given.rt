@@ -2,6 +2,7 @@
 use crate::diagnostic::Diagnostic;
 use crate::quoted::Quoted;
 use crate::script::attributes::{are_texts, tell_no_names, tell_no_texts, tell_no_values};
+use crate::script::others::{tell_bad_other_names, tell_bad_others};
 use crate::script::forms::{Form, Kind, form_in};
 use crate::shape::{is_unsupported, tell_bad_geometry, tell_unknown_type, tell_unsupported};
 use city_model::OutOfMemory;
@@ -48,7 +49,9 @@ pub fn tell_bad_given(command: &Value, diagnostic: &mut Diagnostic) -> Result<()
         };
         match *kind {
             Kind::Values if !given.is_object() => return tell_no_values(diagnostic),
-            Kind::Names => return tell_no_names(given, diagnostic),
+            Kind::Names if !are_texts(given) => return tell_no_names(given, diagnostic),
+            Kind::Others => return tell_bad_others(given, diagnostic),
+            Kind::OtherNames => return tell_bad_other_names(*name, given, diagnostic),
             Kind::Texts if !are_texts(given) => return tell_no_texts(*name, given, diagnostic),
             Kind::Type if !is_known_type(given) => {
                 diagnostic.details.text("rule", "type")?;
