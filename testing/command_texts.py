@@ -53,7 +53,7 @@ def forms():
     """Commands of one and of two members that some command has, with values of each kind; and those of each right form
     with one member more."""
     names = "read put add object set unset expect attributes reshape geometry delete attach detach parent mark back"
-    names += " absent type parents children members"
+    names += " absent type parents children members rename to"
     values = ["a", 1, {"type": "Road"}, [], ["a"]]
     singles = [{name: value} for name, value in itertools.product([*names.split(), "more"], values)]
     pairs = [{**one, **other} for one, other in itertools.combinations(singles, 2) if one.keys() != other.keys()]

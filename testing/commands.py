@@ -64,7 +64,7 @@ def are_attributes(value):
 
 
 # the commands whose members are texts, and those of an id and something else
-OF_TEXTS = (["read"], ["delete"], ["mark"], ["back"], ["attach", "parent"], ["detach", "parent"])
+OF_TEXTS = (["read"], ["delete"], ["mark"], ["back"], ["attach", "parent"], ["detach", "parent"], ["rename", "to"])
 OF_AN_ID = {
     "put": ("object", is_body),
     "add": ("object", is_body),
@@ -318,6 +318,18 @@ def do_detach(view, child, parent):
     changed(view, child, "parents", [name for name in view[child]["parents"] if name != parent])
     changed(view, parent, "children", [name for name in view[parent]["children"] if name != child])
     return "detached"
+
+
+def do_rename(view, name, new):
+    there_is(view, name)
+    if new in view:
+        raise Refusal("Exists", id=new)
+    view[new] = view.pop(name)
+    for other in list(view):
+        for kind in ("parents", "children"):
+            if name in view[other][kind]:
+                changed(view, other, kind, [new if it == name else it for it in view[other][kind]])
+    return "renamed"
 
 
 def do_commit(view):

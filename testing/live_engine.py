@@ -235,6 +235,9 @@ class Engine:
         if verb == "delete":
             found = self.view(work).get(names[0])
             names = names + (found["parents"] if found and not found["children"] else [])
+        if verb == "rename":
+            found = self.view(work).get(names[0])
+            names = named[:2] + (found["parents"] + found["children"] if found else [])
         return [(name, SHARED if verb in ("read", "expect") else EXCLUSIVE) for name in names]
 
     def take_locks(self, work, command):

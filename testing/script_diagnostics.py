@@ -17,6 +17,7 @@ MEMBERS = {
     "delete": ["delete"],
     "attach": ["attach", "parent"],
     "detach": ["detach", "parent"],
+    "rename": ["rename", "to"],
     "mark": ["mark"],
     "back": ["back"],
 }

@@ -122,6 +122,10 @@ fn subjects_of<'r, S: Sight>(refusal: Refusal<'r>, sight: &'r S) -> Subjects<'r>
         Command::Attach(child, parent) | Command::Detach(child, parent) => {
             Subjects::Two(looked_at(child, sight), looked_at(parent, sight))
         }
+        Command::Rename(id, new) => match refusal.cause {
+            Cause::Exists(_) => Subjects::One(looked_at(new, sight)),
+            _ => Subjects::One(looked_at(id, sight)),
+        },
         Command::Mark(_) | Command::Back(_) | Command::Commit | Command::Abort => {
             match refusal.cause {
                 Cause::Orphan(id) => Subjects::One(looked_at(id, sight)),

@@ -55,6 +55,7 @@ fn copy_of(alloc: Global, command: &Command) -> Result<Command, OutOfMemory>
         Command::Delete(id) => Command::Delete(id.copy(alloc)?),
         Command::Attach(child, parent) => Command::Attach(child.copy(alloc)?, parent.copy(alloc)?),
         Command::Detach(child, parent) => Command::Detach(child.copy(alloc)?, parent.copy(alloc)?),
+        Command::Rename(id, new) => Command::Rename(id.copy(alloc)?, new.copy(alloc)?),
         Command::Mark(name) => Command::Mark(name.copy(alloc)?),
         Command::Back(name) => Command::Back(name.copy(alloc)?),
         Command::Commit => Command::Commit,

@@ -4,10 +4,11 @@ use Rattle.city_model.proofs.Prelude.{Command, Put, Attach, Mark, Back, Commit, 
 use Rattle.city_model.proofs.Prelude.{WentBack, Refused, CityMap, Action, Refuses, Edits, Marks, GoesBack, action}
 use Rattle.city_model.proofs.Prelude.{Amendment, amended, has_id, is_wrong_family, is_end, body_fault}
 use Rattle.std.specs.Prelude.{Result, if◌then◌else◌}
-use Rattle.city_model.specs.declared.command.Command.TheVariants.{Set, Unset, Reshape}
+use Rattle.city_model.specs.declared.command.Command.TheVariants.{Set, Unset, Reshape, Rename}
 use Rattle.city_model.specs.declared.command.Reply.TheVariants.{Marked}
 use Rattle.city_model.specs.Actions as actions
 use Rattle.city_model.specs.Actions.{unless, rewrites, amends, amendment_reply, put_at, amend_at, attach_at}
+use Rattle.city_model.specs.Actions.{rename_at}
 use Rattle.city_model.specs.Amendments.{NewBody, Setting, Unsetting, Reshaping}
 use Rattle.city_model.specs.Shells.{geometry_fault}
 use Rattle.city_model.specs.Scripts.{is_mark}
@@ -74,6 +75,12 @@ plain_attach m child (Some c) parent (Some p) =
 plain_attach m child None parent v = refl
 plain_attach m child w parent None = grind arith
 
+plain_rename : (m : CityMap) (id : List ℕ) (w : Option Object) (new : List ℕ) (v : Option Object)
+    → is_plain (rename_at m id w new v) ≡ true
+plain_rename m id None new v = refl
+plain_rename m id (Some o) new None = refl
+plain_rename m id (Some o) new (Some there) = refl
+
 plain_action : (m : CityMap) (c : Command) → is_end c ≡ false → is_mark c ≡ false → is_plain (action m c) ≡ true
 plain_action m (Put id body) e k = plain_unless (body_fault body) _ (plain_put m id body (m id))
 plain_action m (Set id named) e k = plain_amend m id (Setting named) (m id)
@@ -81,6 +88,7 @@ plain_action m (Unset id names) e k = plain_amend m id (Unsetting names) (m id)
 plain_action m (Reshape id geometry) e k =
     plain_unless (geometry_fault geometry) _ (plain_amend m id (Reshaping geometry) (m id))
 plain_action m (Attach child parent) e k = plain_attach m child (m child) parent (m parent)
+plain_action m (Rename id new) e k = plain_rename m id (m id) new (m new)
 plain_action m c e k = grind arith
 
 pub kind_of : (m : CityMap) (c : Command) → IsKindOf c (action m c)

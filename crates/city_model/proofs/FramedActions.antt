@@ -10,11 +10,11 @@ use Rattle.city_model.specs.declared.command.Expectation.{Expectation}
 use Rattle.city_model.specs.declared.mode.Mode.TheVariants.{Shared}
 use Rattle.city_model.specs.declared.command.Command.TheVariants.{Add, Set, Unset, Reshape, Expect}
 use Rattle.city_model.specs.Actions.{unless, rewrites, put_at, add_at, amend_at, expect_at, delete_at, attach_at}
-use Rattle.city_model.specs.Actions.{detach_at}
+use Rattle.city_model.specs.Actions.{detach_at, rename_at, renamed, renamed_id, with_renamed}
 use Rattle.city_model.specs.Amendments.{NewBody, Setting, Unsetting, Reshaping}
 use Rattle.city_model.specs.Expectations.{is_met}
 use Rattle.city_model.specs.Shells.{geometry_fault}
-use Rattle.city_model.specs.Meaning.{delete_locks}
+use Rattle.city_model.specs.Meaning.{delete_locks, rename_locks}
 use Rattle.city_model.specs.Standing.{locked_ids, exclusive_ids}
 use Rattle.city_members.proofs.Ids.{same_id_itself, same_id_back, bool_cases}
 use Rattle.city_model.proofs.IdLists.{without_absent}
@@ -125,6 +125,34 @@ detach_taken m n child parent (Some c) (Some p) below above =
 detach_taken m n child parent None v below above = refl
 detach_taken m n child parent w None below above = grind arith
 
+-- ---- a rename
+
+renamed_absent : (id new : List ℕ) (ids : List (List ℕ)) → has_id ids id ≡ false → map (renamed_id id new) ids ≡ ids
+renamed_absent id new [] h = refl
+renamed_absent id new (q ∷ qs) h = grind (arith, renamed_absent id new qs)
+
+unnamed : (id new : List ℕ) (w : Option Object) → has_id (parents_of w) id ≡ false → has_id (children_of w) id ≡ false
+    → option_map (with_renamed id new) w ≡ w
+unnamed id new w h k = grind (arith, renamed_absent)
+
+-- of the object o
+renamed_taken : (m n : CityMap) (id new : List ℕ) (o : Object) (q : List ℕ) → n id ≡ Some o → IsSound n
+    → ((p : List ℕ) → has_id (id ∷ new ∷ o.parents ++ o.children) p ≡ true → m p ≡ n p)
+    → renamed n id new q ≡ (if has_id (id ∷ new ∷ o.parents ++ o.children) q then renamed m id new q else n q)
+renamed_taken m n id new o q is t agree =
+    grind (arith, same_id_back, has_id-append, (sound_agrees n t).children_know_it q id,
+    (sound_agrees n t).parents_know_it q id, unnamed id new (n q), agree q, agree id, same_id_itself id)
+
+rename_taken : (m n : CityMap) (id new : List ℕ) (w v : Option Object) → n id ≡ w → IsSound n
+    → AgreeOn ((id, Exclusive) ∷ (new, Exclusive) ∷ rename_locks w) m n
+    → rename_at n id w new v ≡ taken_to n (rename_at m id w new v)
+rename_taken m n id new None v is t a = refl
+rename_taken m n id new (Some o) (Some there) is t a = refl
+rename_taken m n id new (Some o) None is t a =
+    let agree : (p : List ℕ) → has_id (id ∷ new ∷ o.parents ++ o.children) p ≡ true → m p ≡ n p
+    = λ p h. a p (grind (arith, locked_ids_of (o.parents ++ o.children))) in
+    ap (Edits Renamed (id ∷ new ∷ o.parents ++ o.children)) (λ i q. renamed_taken m n id new o q is t agree i)
+
 -- ---- every command
 
 first_agrees : (m n : CityMap) (id : List ℕ) (mode : Mode) (ls : List Lock) → AgreeOn ((id, mode) ∷ ls) m n
@@ -156,6 +184,9 @@ framed m n (Attach child parent) t a =
 framed m n (Detach child parent) t a =
     let both = both_agree m n child parent a in
     rw (← both.0, ← both.1) (detach_taken m n child parent (m child) (m parent) both.0 both.1)
+framed m n (Rename id new) t a =
+    let both = both_agree m n id new (λ q h. a q (grind (arith, h))) in
+    rw (← both.0, ← both.1) (rename_taken m n id new (m id) (m new) (sym both.0) t a)
 framed m n c t a = refl
 
 -- ---- the ids written by an action
@@ -219,6 +250,12 @@ at_detach m child parent (Some c) (Some p) = at_either _ (has_id c.parents paren
 at_detach m child parent (Some c) None = tt
 at_detach m child parent None v = tt
 
+at_rename : (m : CityMap) (id : List ℕ) (w : Option Object) (new : List ℕ) (v : Option Object)
+    → WritesAt (exclusive_ids ((id, Exclusive) ∷ (new, Exclusive) ∷ rename_locks w)) (rename_at m id w new v)
+at_rename m id None new v = tt
+at_rename m id (Some o) new (Some there) = tt
+at_rename m id (Some o) new None = ap (λ ids. id ∷ new ∷ ids) (exclusive_ids_of (o.parents ++ o.children))
+
 pub writes_locked : (m : CityMap) (c : Command) → WritesAt (exclusive_ids (locks_of m c)) (action m c)
 writes_locked m (Read id) = refl
 writes_locked m (Expect id e) = at_expect m id e (m id)
@@ -231,6 +268,7 @@ writes_locked m (Reshape id geometry) =
 writes_locked m (Delete id) = at_delete m id (m id)
 writes_locked m (Attach child parent) = at_attach m child parent (m child) (m parent)
 writes_locked m (Detach child parent) = at_detach m child parent (m child) (m parent)
+writes_locked m (Rename id new) = at_rename m id (m id) new (m new)
 writes_locked m c = tt
 
 -- an edit writes just the ids locked exclusively by its command

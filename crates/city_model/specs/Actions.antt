@@ -1,11 +1,11 @@
 -- The action of each command at a map.
-use Rattle.std.specs.Prelude.{ℕ, ◌==◌, ◌||◌, not, List, [], ◌∷◌, ◌++◌, length, filter, Bool, Option, Some, None}
+use Rattle.std.specs.Prelude.{ℕ, ◌==◌, ◌||◌, not, List, [], ◌∷◌, ◌++◌, length, map, filter, Bool, Option, Some, None}
 use Rattle.std.specs.Prelude.{option_map, Result, Ok, Err, if◌then◌else◌}
 use Rattle.city_model.specs.declared.object.Object.{Object}
 use Rattle.city_model.specs.declared.object.Body.{Body}
 use Rattle.city_model.specs.declared.command.Command.{Command}
 use Rattle.city_model.specs.declared.command.Command.TheVariants.{Read, Put, Add, Set, Unset, Reshape, Expect}
-use Rattle.city_model.specs.declared.command.Command.TheVariants.{Delete, Attach, Detach, Mark, Back, Commit, Abort}
+use Rattle.city_model.specs.declared.command.Command.TheVariants.{Delete, Attach, Detach, Rename, Mark, Back, Commit, Abort}
 use Rattle.city_model.specs.declared.command.Expectation.{Expectation}
 use Rattle.city_model.specs.declared.command.Cause.{Cause}
 use Rattle.city_model.specs.declared.command.Cause.TheVariants.{NoObject, HasChildren, WrongFamily, AlreadyAttached}
@@ -13,7 +13,7 @@ use Rattle.city_model.specs.declared.command.Cause.TheVariants.{NotAttached, Exi
 use Rattle.city_model.specs.declared.command.Reply.{Reply}
 use Rattle.city_model.specs.declared.command.Reply.TheVariants.{Found, Absent, Added, Replaced, Deleted, Attached}
 use Rattle.city_model.specs.declared.command.Reply.TheVariants.{Detached, AttributesSet, AttributesUnset, Reshaped}
-use Rattle.city_model.specs.declared.command.Reply.TheVariants.{Expected}
+use Rattle.city_model.specs.declared.command.Reply.TheVariants.{Expected, Renamed}
 use Rattle.city_model.specs.CityMap.{CityMap, same_id, has_id, changed}
 use Rattle.city_model.specs.Relations.{is_second_level, same_family}
 use Rattle.city_model.specs.Shells.{body_fault}
@@ -149,6 +149,29 @@ detach_at m child (Some child_object) parent (Some parent_object) =
     if has_id child_object.parents parent then Edits Detached (child ∷ parent ∷ []) (detached m child parent)
     else Refuses NotAttached
 
+-- ---- Rename
+
+-- an id in a list, with the new one for the old one
+abbrev pub renamed_id : List ℕ → List ℕ → List ℕ → List ℕ
+renamed_id id new q = if same_id id q then new else q
+
+-- the lists of an object name the new id at the place of the old one
+abbrev pub with_renamed : List ℕ → List ℕ → Object → Object
+with_renamed id new o = record {
+  body = o.body;
+  parents = map (renamed_id id new) o.parents;
+  children = map (renamed_id id new) o.children;
+}
+
+-- the object stands under the new id, and none under the old one
+abbrev pub renamed : CityMap → List ℕ → List ℕ → CityMap
+renamed m id new = changed (changed (λ q. option_map (with_renamed id new) (m q)) id None) new (m id)
+
+abbrev pub rename_at : CityMap → List ℕ → Option Object → List ℕ → Option Object → Action
+rename_at m id None new there = Refuses (NoObject id)
+rename_at m id (Some o) new (Some there) = Refuses (Exists new)
+rename_at m id (Some o) new None = Edits Renamed (id ∷ new ∷ o.parents ++ o.children) (renamed m id new)
+
 -- ---- every command
 
 abbrev pub action : CityMap → Command → Action
@@ -162,6 +185,7 @@ action m (Expect id expected) = expect_at m id expected (m id)
 action m (Delete id) = delete_at m id (m id)
 action m (Attach child parent) = attach_at m child (m child) parent (m parent)
 action m (Detach child parent) = detach_at m child (m child) parent (m parent)
+action m (Rename id new) = rename_at m id (m id) new (m new)
 action m (Mark name) = Marks name
 action m (Back name) = GoesBack name
 action m Commit = Commits

@@ -1,10 +1,10 @@
 -- The meaning of each command, on the whole map and its marks.
-use Rattle.std.specs.Prelude.{◌≡◌, ◌⊎◌, ◌==◌, ℕ, List, [], ◌∷◌, length, map, Bool, true, false, Option, Some, None}
+use Rattle.std.specs.Prelude.{◌≡◌, ◌⊎◌, ◌==◌, ℕ, List, [], ◌∷◌, ◌++◌, length, map, Bool, true, false, Option, Some, None}
 use Rattle.std.specs.Prelude.{if◌then◌else◌}
 use Rattle.city_model.specs.declared.object.Object.{Object}
 use Rattle.city_model.specs.declared.command.Command.{Command}
 use Rattle.city_model.specs.declared.command.Command.TheVariants.{Read, Put, Add, Set, Unset, Reshape, Expect}
-use Rattle.city_model.specs.declared.command.Command.TheVariants.{Delete, Attach, Detach}
+use Rattle.city_model.specs.declared.command.Command.TheVariants.{Delete, Attach, Detach, Rename}
 use Rattle.city_model.specs.declared.command.Cause.TheVariants.{NoMark, Orphan}
 use Rattle.city_model.specs.declared.command.Reply.{Reply}
 use Rattle.city_model.specs.declared.command.Reply.TheVariants.{Marked, WentBack, Committed, Aborted, Refused}
@@ -95,6 +95,11 @@ abbrev pub delete_locks : Option Object → List (List ℕ × Mode)
 delete_locks None = []
 delete_locks (Some o) = if length o.children == 0 then exclusively o.parents else []
 
+-- all relatives of an object, if it is there
+abbrev pub rename_locks : Option Object → List (List ℕ × Mode)
+rename_locks None = []
+rename_locks (Some o) = exclusively (o.parents ++ o.children)
+
 abbrev pub locks_of : CityMap → Command → List (List ℕ × Mode)
 locks_of m (Read id) = (id, Shared) ∷ []
 locks_of m (Put id body) = (id, Exclusive) ∷ []
@@ -106,4 +111,5 @@ locks_of m (Expect id expected) = (id, Shared) ∷ []
 locks_of m (Delete id) = (id, Exclusive) ∷ delete_locks (m id)
 locks_of m (Attach child parent) = (child, Exclusive) ∷ (parent, Exclusive) ∷ []
 locks_of m (Detach child parent) = (child, Exclusive) ∷ (parent, Exclusive) ∷ []
+locks_of m (Rename id new) = (id, Exclusive) ∷ (new, Exclusive) ∷ rename_locks (m id)
 locks_of m command = []

@@ -29,6 +29,8 @@ pub enum Command {
     Attach(Id, Id),
     /// Makes the first object no longer a child of the second.
     Detach(Id, Id),
+    /// Gives the object another id, in its place and in every list that named it.
+    Rename(Id, Id),
     /// Marks the current view of the script under a name. A name may be used again.
     Mark(Text),
     /// Undoes the writes of the script since the newest mark of the name. That mark stays; newer
@@ -117,6 +119,7 @@ pub enum Reply {
     Deleted,
     Attached,
     Detached,
+    Renamed,
     Marked,
     WentBack,
     AttributesSet,

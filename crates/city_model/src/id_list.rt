@@ -1,14 +1,15 @@
 //! Ids of a list, searched and compared in place, and copied without one.
-ghost use Rattle.std.specs.Prelude.{◌≡◌, ◌==◌, length, IsTrue, IfOk};
+ghost use Rattle.std.specs.Prelude.{◌≡◌, ◌==◌, ◌++◌, [], length, option_copied, IsTrue, IfOk};
 ghost use Rattle.std.specs.Iterator.{YieldsFirstRef, item_count};
 ghost use Rattle.city_model.specs.CityMap.{same_id, has_id};
-ghost use Rattle.city_model.specs.Chunks.{ids_left, ids_of};
+ghost use Rattle.city_model.specs.Chunks.{ids_left, ids_of, own_left, left_behind, IsFirst};
 ghost use Rattle.city_model.specs.SameGeometries.{same_each};
 ghost use Rattle.city_model.specs.Actions.{without_id};
 ghost use Rattle.city_model.specs.internal.RelationTests.{are_distinct, are_increasing};
 
 use crate::OutOfMemory;
 use crate::id_tree::{Entries, Entry, leaf_from};
+use crate::shared_ids::SharedIds;
 use city_members::copied::Copied;
 use city_members::sequence::Sequence;
 use city_members::text::Id;
@@ -24,6 +25,9 @@ pub struct Ids<'a> {
     pub(crate) tree: Option<&'a Entries>,
     /// Where the next leaf of the tree begins.
     pub(crate) at: usize,
+    /// The lists whose ids follow.
+    pub(crate) next: Option<&'a SharedIds>,
+    pub(crate) last: Option<&'a SharedIds>,
 }
 
 impl<'a> Ids<'a> {
@@ -36,6 +40,8 @@ impl<'a> Ids<'a> {
             leaf: &[],
             tree: None,
             at: 0,
+            next: None,
+            last: None,
         }
     }
 
@@ -48,7 +54,59 @@ impl<'a> Ids<'a> {
             leaf: &[],
             tree: Some(entries),
             at: 0,
+            next: None,
+            last: None,
         }
+    }
+
+    /// The ids of a slice, and then those of two lists. Doesn't allocate.
+    pub fn with_lists(ids: &'a [Id], next: &'a SharedIds, last: &'a SharedIds) -> Self
+        ensures { ids_left result ≡ ids.now ++ next.now ++ last.now }
+    {
+        Ids {
+            ids,
+            leaf: &[],
+            tree: None,
+            at: 0,
+            next: Some(next),
+            last: Some(last),
+        }
+    }
+
+    /// The first id before the lists that follow; `None` if they are next.
+    fn next_own(&mut self) -> Option<&'a Id>
+        ensures own { IsFirst (own_left self.old) (option_copied result) (own_left self.new) }
+        ensures behind { left_behind self.new ≡ left_behind self.old }
+    {
+        if let Some((first, others)) = self.ids.split_first() {
+            self.ids = others;
+            return Some(first);
+        }
+        if let Some((first, others)) = self.leaf.split_first() {
+            self.leaf = others;
+            return Some(&first.get().id);
+        }
+        let (leaf, at) = leaf_from(self.tree?, self.at);
+        let (first, others) = leaf.split_first()?;
+        self.leaf = others;
+        self.at = at;
+        Some(&first.get().id)
+    }
+
+    /// The first id of the lists that follow, in this order.
+    fn next_behind(&mut self) -> Option<&'a Id>
+        requires { own_left self.old ≡ [] }
+        ensures { IsFirst (left_behind self.old) (option_copied result) (ids_left self.new) }
+    {
+        for _ in 0..2 {
+            let last = self.last;
+            *self = self.next?.iter();
+            self.next = last;
+            if let Some(first) = self.next_own() {
+                return Some(first);
+            }
+        }
+        None
     }
 
     /// Whether no id is left. Doesn't allocate.
@@ -68,19 +126,10 @@ impl<'a> Iterator for Ids<'a> {
     ghost remaining = { item_count ids_left };
 
     fn next(&mut self) -> Option<&'a Id> {
-        if let Some((first, others)) = self.ids.split_first() {
-            self.ids = others;
-            return Some(first);
+        match self.next_own() {
+            Some(first) => Some(first),
+            None => self.next_behind(),
         }
-        if let Some((first, others)) = self.leaf.split_first() {
-            self.leaf = others;
-            return Some(&first.get().id);
-        }
-        let (leaf, at) = leaf_from(self.tree?, self.at);
-        let (first, others) = leaf.split_first()?;
-        self.leaf = others;
-        self.at = at;
-        Some(&first.get().id)
     }
 }
 

@@ -14,6 +14,7 @@ use crate::plan::object_lookup::ObjectLookup;
 use crate::plan::putting::{plan_add, plan_put};
 use crate::plan::reading::plan_read;
 use crate::plan::relating::{plan_attach, plan_detach};
+use crate::plan::renaming::plan_rename;
 use std::alloc::Global;
 
 mod amending;
@@ -24,6 +25,7 @@ mod objects;
 mod putting;
 mod reading;
 mod relating;
+mod renaming;
 mod writes;
 
 pub use crate::plan::writes::Writes;
@@ -68,6 +70,7 @@ pub fn plan_of<V: ObjectLookup>(
         Command::Delete(id) => plan_delete(alloc, view, id),
         Command::Attach(child, parent) => plan_attach(alloc, view, child, parent),
         Command::Detach(child, parent) => plan_detach(alloc, view, child, parent),
+        Command::Rename(id, new) => plan_rename(alloc, view, id, new),
         Command::Mark(_) | Command::Back(_) | Command::Commit | Command::Abort => unreachable!(),
     }
 }

@@ -1,14 +1,16 @@
 //! The parents or the children of an object: a list of ids, shared by its copies.
-ghost use Rattle.std.specs.Prelude.{◌≡◌, [], ◌∷◌, ◌++◌, ◌==◌, length, IfOk};
+ghost use Rattle.std.specs.Prelude.{◌≡◌, [], ◌∷◌, ◌++◌, ◌==◌, length, map, IfOk};
 ghost use Rattle.city_model.specs.CityMap.{has_id};
-ghost use Rattle.city_model.specs.Actions.{without_id};
+ghost use Rattle.city_model.specs.Actions.{renamed_id, without_id};
 ghost use Rattle.city_model.specs.Relations.{AreDistinct};
 ghost use Rattle.city_model.specs.Chunks.{ids_left};
 ghost use Rattle.city_model.specs.internal.RelationTests.{are_distinct};
 ghost use Rattle.city_model.specs.internal.Storages.{stored};
 
 use crate::OutOfMemory;
-use crate::id_list::{Ids, are_distinct, is_among, is_found_by_binary_search, without_id};
+use crate::id_list::{
+    Ids, are_distinct, is_among, is_found_by_binary_search, is_same_id, without_id,
+};
 use crate::indexed_ids::IndexedIds;
 use city_members::copied::Copied;
 use city_members::sequence::Sequence;
@@ -160,6 +162,34 @@ impl SharedIds {
             },
         }
     }
+
+    /// The ids, with the new one for the old one. Fails only when out of memory.
+    pub(crate) fn renamed(&self, alloc: Global, id: &Id, new: &Id) -> Result<SharedIds, OutOfMemory>
+        ensures { IfOk result (λ ids. ids ≡ map (renamed_id id.now new.now) self.now) }
+    {
+        if !self.has(id) {
+            return self.copy(alloc);
+        }
+        let ids = renamed_ids(alloc, id, new, self.iter())?;
+        SharedIds::from_sequence(alloc, ids)
+    }
+}
+
+/// The ids, with the new one for the old one.
+fn renamed_ids(
+    alloc: Global,
+    id: &Id,
+    new: &Id,
+    ids: Ids<'_>,
+) -> Result<Sequence<Id>, OutOfMemory>
+    ensures { IfOk result (λ all. all ≡ map (renamed_id id.now new.now) (ids_left ids.entry)) }
+{
+    let mut all = Sequence::new(alloc);
+    for other in ids {
+        let named = if is_same_id(id, other) { new } else { other };
+        all.push(named.copy(alloc)?)?;
+    }
+    Ok(all)
 }
 
 /// The list of many ids.

@@ -4,7 +4,7 @@ use Rattle.city_scripts.proofs.Prelude.{put, Command, Scripted, is_integral, [],
 use Rattle.std.proofs.Common.{◌^◌}
 use Rattle.std.specs.List.{AllByRecursion}
 use Rattle.city_model.specs.declared.command.Command.TheVariants.{Read, Put, Add, Set, Unset, Reshape, Expect}
-use Rattle.city_model.specs.declared.command.Command.TheVariants.{Delete, Attach, Detach, Mark, Back, Commit, Abort}
+use Rattle.city_model.specs.declared.command.Command.TheVariants.{Delete, Attach, Detach, Rename, Mark, Back, Commit, Abort}
 use Rattle.city_model.specs.declared.object.Point.{Point}
 use Rattle.city_tokens.proofs.Laws.{put-integral}
 use Rattle.city_writer.specs.internal.document.KeptMembers.{is_kept_geometry}
@@ -46,6 +46,7 @@ module _ (pool : List Point) (small : length pool < 2 ^ 63) where
   command_integral (Delete id) keeps = refl
   command_integral (Attach child parent) keeps = refl
   command_integral (Detach child parent) keeps = refl
+  command_integral (Rename id new) keeps = refl
   command_integral (Mark name) keeps = refl
   command_integral (Back name) keeps = refl
   command_integral Commit keeps = refl

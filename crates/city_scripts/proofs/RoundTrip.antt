@@ -11,7 +11,7 @@ use Rattle.std.proofs.lemmas.List.{length-map}
 use Rattle.std.proofs.lemmas.List.Folds.{list_all-append}
 use Rattle.city_members.specs.Kept.{kept_at_attributes, kept_at_object}
 use Rattle.city_model.specs.declared.command.Command.TheVariants.{Read, Put, Add, Set, Unset, Reshape, Expect}
-use Rattle.city_model.specs.declared.command.Command.TheVariants.{Delete, Attach, Detach, Mark, Back, Commit, Abort}
+use Rattle.city_model.specs.declared.command.Command.TheVariants.{Delete, Attach, Detach, Rename, Mark, Back, Commit, Abort}
 use Rattle.city_model.specs.CityMap.{same_id}
 use Rattle.city_model.specs.Types.{name_of}
 use Rattle.city_model.specs.declared.object.Object.{Object}
@@ -88,6 +88,7 @@ module _ (pool : List Point) (small : length pool < 2 ^ 63) where
   command_read (Delete id) keeps points = refl
   command_read (Attach child parent) keeps points = refl
   command_read (Detach child parent) keeps points = refl
+  command_read (Rename id new) keeps points = refl
   command_read (Mark name) keeps points = refl
   command_read (Back name) keeps points = refl
   command_read Commit keeps points = refl

@@ -174,6 +174,7 @@ pub fn command_of(
             to_text(alloc, child)?,
             to_text(alloc, parent)?,
         ),
+        Form::Rename(id, new) => Command::Rename(to_text(alloc, id)?, to_text(alloc, new)?),
         Form::Mark(name) => Command::Mark(to_text(alloc, name)?),
         Form::Back(name) => Command::Back(to_text(alloc, name)?),
         Form::Commit => Command::Commit,

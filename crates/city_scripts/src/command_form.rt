@@ -2,7 +2,7 @@
 ghost use Rattle.std.specs.Prelude.{◌≡◌, option_map};
 ghost use Rattle.serde_json.specs.View.{view, members_view};
 ghost use Rattle.city_tokens.specs.script.CommandForms.{text_in, word_form, first_named, of_one_text, object_form};
-ghost use Rattle.city_tokens.specs.script.CommandForms.{relation_form, reshape_form, pair_form, set_form, unset_form};
+ghost use Rattle.city_tokens.specs.script.CommandForms.{relation_form, rename_form, reshape_form, pair_form, set_form, unset_form};
 ghost use Rattle.city_tokens.specs.script.CommandForms.{expect_form, several_form, members_form, form_of};
 ghost use Rattle.city_scripts.specs.internal.Forms.{form_view};
 
@@ -32,6 +32,8 @@ pub enum Form<'v> {
     Attach(&'v str, &'v str),
     /// A child and a parent.
     Detach(&'v str, &'v str),
+    /// An id, and the new one.
+    Rename(&'v str, &'v str),
     /// The name of a mark.
     Mark(&'v str),
     /// The name of a mark.
@@ -98,6 +100,14 @@ fn relation_form(members: &Map<String, Value>) -> Option<Form<'_>>
     Some(Form::Detach(text_in(members, "detach")?, parent))
 }
 
+/// The form of a rename's two members.
+fn rename_form(members: &Map<String, Value>) -> Option<Form<'_>>
+    ensures { option_map form_view result ≡ rename_form (members_view members.now.entries) }
+{
+    let new = text_in(members, "to")?;
+    Some(Form::Rename(text_in(members, "rename")?, new))
+}
+
 /// The form of a reshape's two members.
 fn reshape_form(members: &Map<String, Value>) -> Option<Form<'_>>
     ensures { option_map form_view result ≡ reshape_form (members_view members.now.entries) }
@@ -114,6 +124,9 @@ fn pair_form(members: &Map<String, Value>) -> Option<Form<'_>>
         return Some(form);
     }
     if let Some(form) = relation_form(members) {
+        return Some(form);
+    }
+    if let Some(form) = rename_form(members) {
         return Some(form);
     }
     reshape_form(members)

@@ -69,6 +69,7 @@ fn writes_after(before: Writes, reply: &Reply) -> Writes
         | Reply::Deleted
         | Reply::Attached
         | Reply::Detached
+        | Reply::Renamed
         | Reply::AttributesSet
         | Reply::AttributesUnset
         | Reply::Reshaped => Writes::Something,

@@ -41,6 +41,7 @@ pub enum Verb {
     Delete,
     Attach,
     Detach,
+    Rename,
     Mark,
     Back,
 }
@@ -66,6 +67,7 @@ fn verb_named(name: &str) -> Option<Verb>
         "delete" => Some(Verb::Delete),
         "attach" => Some(Verb::Attach),
         "detach" => Some(Verb::Detach),
+        "rename" => Some(Verb::Rename),
         "mark" => Some(Verb::Mark),
         "back" => Some(Verb::Back),
         _ => None,
@@ -165,6 +167,7 @@ fn pair_command(alloc: Global, verb: Verb, id: Id, other: Other) -> Option<Comma
         }
         (Verb::Attach, Other::Parent(parent)) => Some(Command::Attach(id, parent)),
         (Verb::Detach, Other::Parent(parent)) => Some(Command::Detach(id, parent)),
+        (Verb::Rename, Other::To(new)) => Some(Command::Rename(id, new)),
         _ => None,
     }
 }

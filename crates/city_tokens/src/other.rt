@@ -1,4 +1,4 @@
-//! Reads a command's member beside its id: an object, a parent, attributes or geometries.
+//! Reads a command's member beside its id: an object, a parent, a new id, attributes or geometries.
 ghost use Rattle.std.specs.Prelude.{◌≡◌, IfSome, codes};
 ghost use Rattle.city_tokens.specs.internal.Commands.{other_name, IsOther};
 ghost use Rattle.city_tokens.specs.internal.Standing.{IsReadAs};
@@ -20,6 +20,8 @@ use std::alloc::Global;
 pub enum Other {
     Object(Body),
     Parent(Id),
+    /// A new id.
+    To(Id),
     /// Attributes with their values.
     Attributes(Attributes),
     /// The names of attributes.
@@ -63,6 +65,10 @@ pub fn read_other(alloc: Global, name: &str, reader: &mut Reader<'_>, depth: usi
         "parent" => {
             let parent = Id::from_tokens(alloc, reader, depth)?;
             Some(Other::Parent(parent))
+        }
+        "to" => {
+            let new = Id::from_tokens(alloc, reader, depth)?;
+            Some(Other::To(new))
         }
         "attributes" => read_attributes(alloc, reader, depth),
         "geometry" => {

@@ -3,7 +3,8 @@ ghost use Rattle.std.specs.Prelude.{◌≡◌, [], ◌∷◌, IfSome, IfNone, dr
 ghost use Rattle.city_locks.specs.Asking.{Asked, first_answer, first_ungranted};
 ghost use Rattle.city_model.specs.Chunks.{ids_left};
 ghost use Rattle.city_model.specs.CityMap.{CityMap};
-ghost use Rattle.city_model.specs.Meaning.{delete_locks, exclusively, locks_of};
+ghost use Rattle.city_model.specs.Meaning.{delete_locks, exclusively, locks_of, rename_locks};
+ghost use Rattle.city_model.specs.declared.mode.Mode.TheVariants.{Exclusive};
 ghost use Rattle.city_txn.specs.internal.State.{store_view};
 
 use crate::store::Store;
@@ -71,6 +72,7 @@ pub fn first_lock(command: &Command) -> Option<(&Id, Mode)>
         Command::Set(id, _) | Command::Unset(id, _) => Some((id, Mode::Exclusive)),
         Command::Reshape(id, _) | Command::Delete(id) => Some((id, Mode::Exclusive)),
         Command::Attach(child, _) | Command::Detach(child, _) => Some((child, Mode::Exclusive)),
+        Command::Rename(id, _) => Some((id, Mode::Exclusive)),
         Command::Mark(_) | Command::Back(_) | Command::Commit | Command::Abort => None,
     }
 }
@@ -83,6 +85,7 @@ pub fn further_locks<'a>(store: &'a Store, stamp: u64, command: &'a Command) -> 
     match command {
         Command::Delete(id) => parents_to_lock(store, stamp, id),
         Command::Attach(_, parent) | Command::Detach(_, parent) => Ids::of(slice::from_ref(parent)),
+        Command::Rename(id, new) => relatives_to_lock(store, stamp, id, new),
         _ => Ids::of(&[]),
     }
 }
@@ -95,5 +98,17 @@ fn parents_to_lock<'a>(store: &'a Store, stamp: u64, id: &Id) -> Ids<'a>
     match store.read(stamp, id) {
         Some(object) if object.children.is_empty() => object.parents.iter(),
         _ => Ids::of(&[]),
+    }
+}
+
+/// The new id, and all relatives that a rename of the id locks, if the object is there.
+fn relatives_to_lock<'a>(store: &'a Store, stamp: u64, id: &Id, new: &'a Id) -> Ids<'a>
+    ensures { exclusively (ids_left result)
+        ≡ (new.now, Exclusive) ∷ rename_locks (store_view store.now stamp id.now) }
+{
+    let first = slice::from_ref(new);
+    match store.read(stamp, id) {
+        Some(object) => Ids::with_lists(first, &object.parents, &object.children),
+        None => Ids::of(first),
     }
 }

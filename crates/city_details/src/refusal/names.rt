@@ -14,6 +14,7 @@ pub fn command_name(command: &Command) -> &'static str {
         Command::Delete(_) => "delete",
         Command::Attach(_, _) => "attach",
         Command::Detach(_, _) => "detach",
+        Command::Rename(_, _) => "rename",
         Command::Mark(_) => "mark",
         Command::Back(_) => "back",
         Command::Commit => "commit",

@@ -94,6 +94,11 @@ pub const FORMS: &[Form] = &[
         one_is_enough: false,
     },
     Form {
+        name: "rename",
+        others: &[("to", Kind::Text)],
+        one_is_enough: false,
+    },
+    Form {
         name: "mark",
         others: &[],
         one_is_enough: false,

@@ -7,7 +7,7 @@ use Rattle.city_model.specs.declared.command.Reply.{Reply}
 use Rattle.city_model.specs.declared.plan.Plan.{Plan}
 use Rattle.city_model.specs.declared.plan.Plan.TheVariants.{Refused, Writes}
 use Rattle.city_model.specs.CityMap.{CityMap}
-use Rattle.city_model.specs.Actions.{Action, Refuses, Edits, action, without_child}
+use Rattle.city_model.specs.Actions.{Action, Refuses, Edits, action, with_renamed, without_child}
 use Rattle.city_model.specs.Runs.{Change}
 
 -- the change writes the map's object at each of its ids
@@ -32,3 +32,7 @@ IsPlanOf m done plan = (command : Command) → action m command ≡ done → IsP
 -- at the parent its object in the map, without the child
 abbrev pub unlinked : CityMap → List ℕ → List ℕ → List ℕ × Option Object
 unlinked m child parent = (parent, option_map (without_child child) (m parent))
+
+-- at the relative its object in the map, with the new id for the old one
+abbrev pub renamed_at : CityMap → List ℕ → List ℕ → List ℕ → List ℕ × Option Object
+renamed_at m id new relative = (relative, option_map (with_renamed id new) (m relative))

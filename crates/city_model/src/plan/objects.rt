@@ -2,7 +2,7 @@
 ghost use Rattle.std.specs.Prelude.{◌≡◌, IfOk};
 ghost use Rattle.city_model.specs.Relations.{AreDistinct};
 ghost use Rattle.city_model.specs.Actions.{new_object, with_parent, with_child, without_parent, without_child};
-ghost use Rattle.city_model.specs.Actions.{without_id};
+ghost use Rattle.city_model.specs.Actions.{with_renamed, without_id};
 
 use crate::OutOfMemory;
 use crate::object::{Body, Object};
@@ -86,5 +86,24 @@ pub fn without_child(alloc: Global, child: &Id, object: &Object) -> Result<Objec
         body: object.body.copy(alloc)?,
         parents: object.parents.copy(alloc)?,
         children: object.children.without(alloc, child)?,
+    })
+}
+
+/// The object with the new id for the old one in its lists.
+pub fn with_renamed(
+    alloc: Global,
+    id: &Id,
+    new: &Id,
+    object: &Object,
+) -> Result<Object, OutOfMemory>
+    ensures { IfOk result (λ o. o ≡ with_renamed id.now new.now object.now) }
+{
+    let body = object.body.copy(alloc)?;
+    let parents = object.parents.renamed(alloc, id, new)?;
+    let children = object.children.renamed(alloc, id, new)?;
+    Ok(Object {
+        body,
+        parents,
+        children,
     })
 }

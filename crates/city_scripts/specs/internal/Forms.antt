@@ -5,12 +5,12 @@ use Rattle.serde_json.specs.Find.{as_str}
 use Rattle.serde_json.specs.View.{view, items_view, members_view}
 use Rattle.city_scripts.specs.declared.command_form.Form.{Form}
 use Rattle.city_scripts.specs.declared.command_form.Form.TheVariants.{Read, Put, Add, Set, Unset, Reshape, Expect}
-use Rattle.city_scripts.specs.declared.command_form.Form.TheVariants.{Delete, Attach, Detach, Mark, Back}
+use Rattle.city_scripts.specs.declared.command_form.Form.TheVariants.{Delete, Attach, Detach, Rename, Mark, Back}
 use Rattle.city_scripts.specs.declared.command_form.Form.TheVariants.{Commit, Abort}
 use Rattle.city_scripts.specs.declared.script_form.ScriptForm.{ScriptForm}
 use Rattle.city_tokens.specs.script.CommandForms.{CommandForm, ReadForm, PutForm, AddForm, SetForm, UnsetForm}
 use Rattle.city_tokens.specs.script.CommandForms.{ReshapeForm, ExpectForm, DeleteForm, AttachForm, DetachForm}
-use Rattle.city_tokens.specs.script.CommandForms.{MarkForm, BackForm, CommitForm, AbortForm}
+use Rattle.city_tokens.specs.script.CommandForms.{RenameForm, MarkForm, BackForm, CommitForm, AbortForm}
 use Rattle.city_tokens.specs.script.Scripts.{ScriptParts}
 
 -- the parts of a form
@@ -33,6 +33,7 @@ form_view (Expect id ms) = ExpectForm id.now (object (members_view ms.now.entrie
 form_view (Delete id) = DeleteForm id.now
 form_view (Attach child parent) = AttachForm child.now parent.now
 form_view (Detach child parent) = DetachForm child.now parent.now
+form_view (Rename id new) = RenameForm id.now new.now
 form_view (Mark name) = MarkForm name.now
 form_view (Back name) = BackForm name.now
 form_view Commit = CommitForm

@@ -78,6 +78,7 @@ verb_name verb.Expect = codes "expect"
 verb_name verb.Delete = codes "delete"
 verb_name verb.Attach = codes "attach"
 verb_name verb.Detach = codes "detach"
+verb_name verb.Rename = codes "rename"
 verb_name verb.Mark = codes "mark"
 verb_name verb.Back = codes "back"
 
@@ -90,6 +91,7 @@ with_verb (Some v) others = put (verb_name v.0) (string v.1) others
 abbrev pub other_name : Other → List ℕ
 other_name (other.Object body) = codes "object"
 other_name (other.Parent id) = codes "parent"
+other_name (other.To id) = codes "to"
 other_name (other.Attributes values) = codes "attributes"
 other_name (other.Names names) = codes "attributes"
 other_name (other.Geometry geometry) = codes "geometry"
@@ -98,6 +100,7 @@ other_name (other.Geometry geometry) = codes "geometry"
 abbrev pub IsOther : Other → Data → Type 0
 IsOther (other.Object body) d = IsBody body d
 IsOther (other.Parent id) d = IsString id d
+IsOther (other.To id) d = IsString id d
 IsOther (other.Attributes values) d = (d ≡ object values) × (kept_at_attributes values ≡ true)
 IsOther (other.Names names) d = IsArrayOf IsString names d
 IsOther (other.Geometry geometry) d = IsArrayOf IsGeometry geometry d

@@ -26,6 +26,7 @@ pub data CommandForm : Type 0 where
   DeleteForm : List ℕ → CommandForm
   AttachForm : List ℕ → List ℕ → CommandForm
   DetachForm : List ℕ → List ℕ → CommandForm
+  RenameForm : List ℕ → List ℕ → CommandForm
   MarkForm : List ℕ → CommandForm
   BackForm : List ℕ → CommandForm
   CommitForm : CommandForm
@@ -66,6 +67,11 @@ relation_form ms = do
   parent ← text_in (codes "parent") ms
   first_named (of_parent parent) ms
 
+abbrev pub rename_form : Members → Option CommandForm
+rename_form ms = do
+  new ← text_in (codes "to") ms
+  option_map (λ id. RenameForm id new) (text_in (codes "rename") ms)
+
 -- the commands of this object
 abbrev pub of_object : Data → Named
 of_object tree = (codes "put", λ id. PutForm id tree) ∷ (codes "add", λ id. AddForm id tree) ∷ []
@@ -83,7 +89,7 @@ reshape_form ms = do
 -- the first of the forms of two members
 abbrev pub pair_form : Members → Option CommandForm
 pair_form ms =
-    option_or (object_form ms) (option_or (relation_form ms) (reshape_form ms))
+    option_or (object_form ms) (option_or (relation_form ms) (option_or (rename_form ms) (reshape_form ms)))
 
 -- a set and an unset of attributes, of other members, or of both
 abbrev pub set_form : Members → Option CommandForm

@@ -8,7 +8,7 @@ use Rattle.city_model.specs.declared.object.Geometry.{Geometry}
 use Rattle.city_model.specs.declared.object.Body.{Body}
 use Rattle.city_model.specs.declared.command.Command.{Command}
 use Rattle.city_model.specs.declared.command.Command.TheVariants.{Read, Put, Add, Set, Unset, Reshape, Expect}
-use Rattle.city_model.specs.declared.command.Command.TheVariants.{Delete, Attach, Detach, Mark, Back, Commit, Abort}
+use Rattle.city_model.specs.declared.command.Command.TheVariants.{Delete, Attach, Detach, Rename, Mark, Back, Commit, Abort}
 use Rattle.city_tokens.specs.object.Bodies.{body_of}
 use Rattle.city_tokens.specs.shape.Geometries.{geometry_of}
 use Rattle.city_tokens.specs.tree.Lists.{list_or_absent}
@@ -16,7 +16,7 @@ use Rattle.city_tokens.specs.script.Settings.{settings_of, removals_of}
 use Rattle.city_tokens.specs.script.CommandForms.{CommandForm, ReadForm, PutForm, AddForm, SetForm, UnsetForm}
 use Rattle.city_tokens.specs.script.CommandForms.{ReshapeForm, ExpectForm, DeleteForm, AttachForm, DetachForm}
 use Rattle.city_tokens.specs.script.Expectations.{expectation_of}
-use Rattle.city_tokens.specs.script.CommandForms.{MarkForm, BackForm, CommitForm, AbortForm, form_of}
+use Rattle.city_tokens.specs.script.CommandForms.{RenameForm, MarkForm, BackForm, CommitForm, AbortForm, form_of}
 
 -- the object names parents or children
 abbrev pub names_relations : Data → Bool
@@ -41,6 +41,7 @@ command_of_form points (ExpectForm id tree) = option_map (Expect id) (expectatio
 command_of_form points (DeleteForm id) = Some (Delete id)
 command_of_form points (AttachForm child parent) = Some (Attach child parent)
 command_of_form points (DetachForm child parent) = Some (Detach child parent)
+command_of_form points (RenameForm id new) = Some (Rename id new)
 command_of_form points (MarkForm name) = Some (Mark name)
 command_of_form points (BackForm name) = Some (Back name)
 command_of_form points CommitForm = Some Commit

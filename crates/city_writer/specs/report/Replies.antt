@@ -7,7 +7,7 @@ use Rattle.city_model.specs.declared.command.Reply.{Reply}
 use Rattle.city_model.specs.declared.command.Reply.TheVariants.{Found, Absent, Added, Replaced, Deleted}
 use Rattle.city_model.specs.declared.command.Reply.TheVariants.{Attached, Detached, Marked, WentBack, Committed}
 use Rattle.city_model.specs.declared.command.Reply.TheVariants.{Aborted, Refused, AttributesSet, AttributesUnset}
-use Rattle.city_model.specs.declared.command.Reply.TheVariants.{Reshaped, Expected}
+use Rattle.city_model.specs.declared.command.Reply.TheVariants.{Reshaped, Expected, Renamed}
 use Rattle.city_writer.specs.Pool.{object_points, without_repeats}
 use Rattle.city_writer.specs.object.Canonical.{object_data}
 use Rattle.city_writer.specs.shape.Vertices.{vertices_data}
@@ -34,6 +34,7 @@ reply_data Replaced = string (codes "replaced")
 reply_data Deleted = string (codes "deleted")
 reply_data Attached = string (codes "attached")
 reply_data Detached = string (codes "detached")
+reply_data Renamed = string (codes "renamed")
 reply_data Marked = string (codes "marked")
 reply_data WentBack = string (codes "back")
 reply_data AttributesSet = string (codes "set")

@@ -3,7 +3,7 @@ use Rattle.std.specs.Prelude.{ℕ, List, [], codes, flat_map}
 use Rattle.serde_json.specs.Data.{Data, string, object, no_members, put}
 use Rattle.city_model.specs.declared.command.Command.{Command}
 use Rattle.city_model.specs.declared.command.Command.TheVariants.{Read, Put, Add, Set, Unset, Reshape, Expect}
-use Rattle.city_model.specs.declared.command.Command.TheVariants.{Delete, Attach, Detach, Mark, Back, Commit, Abort}
+use Rattle.city_model.specs.declared.command.Command.TheVariants.{Delete, Attach, Detach, Rename, Mark, Back, Commit, Abort}
 use Rattle.city_model.specs.declared.object.Body.{Body}
 use Rattle.city_model.specs.declared.object.Object.{Object}
 use Rattle.city_model.specs.declared.object.Point.{Point}
@@ -53,6 +53,7 @@ command_data pool (Attach child parent) =
     two_members (codes "attach") (string child) (codes "parent") (string parent)
 command_data pool (Detach child parent) =
     two_members (codes "detach") (string child) (codes "parent") (string parent)
+command_data pool (Rename id new) = two_members (codes "rename") (string id) (codes "to") (string new)
 command_data pool (Mark name) = one_member (codes "mark") (string name)
 command_data pool (Back name) = one_member (codes "back") (string name)
 command_data pool Commit = string (codes "commit")

@@ -83,6 +83,7 @@ pub fn write_reply(
         Reply::Deleted => out.string("deleted"),
         Reply::Attached => out.string("attached"),
         Reply::Detached => out.string("detached"),
+        Reply::Renamed => out.string("renamed"),
         Reply::Marked => out.string("marked"),
         Reply::WentBack => out.string("back"),
         Reply::AttributesSet => out.string("set"),

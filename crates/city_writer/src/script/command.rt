@@ -60,6 +60,21 @@ fn write_relation(verb: &str, child: &Id, parent: &Id, out: &mut Writer) -> Resu
     out.end_object()
 }
 
+fn write_rename(id: &Id, new: &Id, out: &mut Writer) -> Result<(), OutOfMemory>
+    ensures before { OnOk result (out.new.before ≡ out.old.before) }
+    ensures tokens { OnOk result (out.new.tokens ≡ out.old.tokens
+        ++ tokens_of (two_members (codes "rename") (string id.now) (codes "to") (string new.now))) }
+    ensures reads { OnOk result (ReadsBack
+        (two_members (codes "rename") (string id.now) (codes "to") (string new.now))) }
+{
+    out.begin_object()?;
+    out.key("rename")?;
+    out.string(id.as_str())?;
+    out.key("to")?;
+    out.string(new.as_str())?;
+    out.end_object()
+}
+
 fn write_put(
     id: &Id,
     body: &Body,
@@ -155,6 +170,7 @@ pub fn write_command(
         Command::Delete(id) => write_single("delete", id, out),
         Command::Attach(child, parent) => write_relation("attach", child, parent, out),
         Command::Detach(child, parent) => write_relation("detach", child, parent, out),
+        Command::Rename(id, new) => write_rename(id, new, out),
         Command::Mark(name) => write_single("mark", name, out),
         Command::Back(name) => write_single("back", name, out),
         Command::Commit => out.string("commit"),
