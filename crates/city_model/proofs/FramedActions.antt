@@ -8,9 +8,11 @@ use Rattle.city_model.proofs.Prelude.{without_child, exclusively, locks_of, IsSo
 use Rattle.std.specs.Prelude.{Result, Ok, Err}
 use Rattle.city_model.specs.declared.command.Expectation.{Expectation}
 use Rattle.city_model.specs.declared.mode.Mode.TheVariants.{Shared}
-use Rattle.city_model.specs.declared.command.Command.TheVariants.{Add, Set, Unset, Reshape, Expect}
+use Rattle.city_model.specs.declared.command.Command.TheVariants.{Add, Set, Unset, Reshape, Expect, Rename}
 use Rattle.city_model.specs.Actions.{unless, rewrites, put_at, add_at, amend_at, expect_at, delete_at, attach_at}
 use Rattle.city_model.specs.Actions.{detach_at, rename_at, renamed, renamed_id, with_renamed}
+use Rattle.city_model.specs.declared.command.Reply.TheVariants.{Renamed}
+use Rattle.city_model.proofs.Prelude.{◌++◌, list_any-append, map, parents_of}
 use Rattle.city_model.specs.Amendments.{NewBody, Setting, Unsetting, Reshaping}
 use Rattle.city_model.specs.Expectations.{is_met}
 use Rattle.city_model.specs.Shells.{geometry_fault}
@@ -140,7 +142,7 @@ renamed_taken : (m n : CityMap) (id new : List ℕ) (o : Object) (q : List ℕ) 
     → ((p : List ℕ) → has_id (id ∷ new ∷ o.parents ++ o.children) p ≡ true → m p ≡ n p)
     → renamed n id new q ≡ (if has_id (id ∷ new ∷ o.parents ++ o.children) q then renamed m id new q else n q)
 renamed_taken m n id new o q is t agree =
-    grind (arith, same_id_back, has_id-append, (sound_agrees n t).children_know_it q id,
+    grind (arith, same_id_back, list_any-append, (sound_agrees n t).children_know_it q id,
     (sound_agrees n t).parents_know_it q id, unnamed id new (n q), agree q, agree id, same_id_itself id)
 
 rename_taken : (m n : CityMap) (id new : List ℕ) (w v : Option Object) → n id ≡ w → IsSound n

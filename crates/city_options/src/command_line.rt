@@ -62,10 +62,12 @@ Its last command is \"commit\" or \"abort\"; the ones before it are of these for
   {\"delete\": ID}                        delete an object that has no children
   {\"attach\": CHILD, \"parent\": PARENT}   make CHILD a child of PARENT
   {\"detach\": CHILD, \"parent\": PARENT}   end that relation; both objects stay
+  {\"rename\": ID, \"to\": ID}              give the object another id, also in its relatives
   {\"mark\": NAME}                        set a mark of this name, to go back to
   {\"back\": NAME}                        undo what the script wrote since its newest mark NAME
 VALUES is {NAME: VALUE, ..} and NAMES is [NAME, ..], names and values of attributes.
 An expect names any of \"attributes\", \"absent\": NAMES, \"type\", \"geometry\", \"parents\", \"children\".
+A set and an unset take \"members\" too, those beside the attributes: VALUES and NAMES likewise.
 Boundaries in a command are indices into the script's own \"vertices\": [[x, y, z], ..].
 Numbers are whole. With --decimals others are taken, and given back as they were written.
 Vertices are whole in every CityJSON file, and count in the grid of the model's \"transform\".
