@@ -1,7 +1,7 @@
 //! Many ids: a list that is searched by id and changed in few steps.
-ghost use Rattle.std.specs.Prelude.{◌≡◌, ◌∷◌, ◌++◌, [], length, IfOk};
+ghost use Rattle.std.specs.Prelude.{◌≡◌, ◌∷◌, ◌++◌, [], length, map, IfOk};
 ghost use Rattle.city_model.specs.CityMap.{has_id};
-ghost use Rattle.city_model.specs.Actions.{without_id};
+ghost use Rattle.city_model.specs.Actions.{renamed_id, without_id};
 ghost use Rattle.city_model.specs.Chunks.{ids_left, ids_of};
 ghost use Rattle.city_model.specs.Relations.{AreDistinct};
 ghost use Rattle.city_model.specs.internal.IdTrees.{Ascends, IsIndex};
@@ -108,6 +108,30 @@ impl IndexedIds {
         };
         let by_place = by_place.without(alloc, place)?;
         let by_id = by_id.without(alloc, at)?;
+        Ok(IndexedIds { by_place, by_id })
+    }
+
+    /// The ids, with the new one for the old one. Fails only when out of memory.
+    pub(crate) fn renamed(&self, alloc: Global, id: &Id, new: &Id) -> Result<Self, OutOfMemory>
+        requires { AreDistinct self.now }
+        ensures { IfOk result (λ ids. ids ≡ map (renamed_id id.now new.now) self.now) }
+    {
+        let by_place = self.by_place.copy()?;
+        let by_id = self.by_id.copy()?;
+        let Some(at) = find(&by_id, id) else {
+            return Ok(IndexedIds { by_place, by_id });
+        };
+        let label = label_at(&by_id, at);
+        let Some(place) = find_labelled(&by_place, label, id) else {
+            return Ok(IndexedIds { by_place, by_id });
+        };
+        // (the new id takes over the label, and so the place)
+        let label = label_at(&by_place, place);
+        let id = new.copy(alloc)?;
+        let item = Item::new(alloc, Entry { label, id })?;
+        let others = by_id.without(alloc, at)?;
+        let by_id = with_item(alloc, others, item.copy()?)?;
+        let by_place = by_place.replaced(alloc, place, item)?;
         Ok(IndexedIds { by_place, by_id })
     }
 }

@@ -165,13 +165,23 @@ impl SharedIds {
 
     /// The ids, with the new one for the old one. Fails only when out of memory.
     pub(crate) fn renamed(&self, alloc: Global, id: &Id, new: &Id) -> Result<SharedIds, OutOfMemory>
+        requires { AreDistinct self.now }
         ensures { IfOk result (λ ids. ids ≡ map (renamed_id id.now new.now) self.now) }
     {
-        if !self.has(id) {
-            return self.copy(alloc);
+        match &self.storage {
+            Storage::Empty => Ok(SharedIds::new(alloc)),
+            Storage::Few(ids) => {
+                if !is_in(ids.as_slice(), id) {
+                    return self.copy(alloc);
+                }
+                let named = renamed_ids(alloc, id, new, ids.as_slice())?;
+                SharedIds::from_sequence(alloc, named)
+            },
+            Storage::Many(ids) => {
+                let named = ids.renamed(alloc, id, new)?;
+                of_many(alloc, named)
+            },
         }
-        let ids = renamed_ids(alloc, id, new, self.iter())?;
-        SharedIds::from_sequence(alloc, ids)
     }
 }
 
@@ -180,11 +190,11 @@ fn renamed_ids(
     alloc: Global,
     id: &Id,
     new: &Id,
-    ids: Ids<'_>,
+    ids: &[Id],
 ) -> Result<Sequence<Id>, OutOfMemory>
-    ensures { IfOk result (λ all. all ≡ map (renamed_id id.now new.now) (ids_left ids.entry)) }
+    ensures { IfOk result (λ all. all ≡ map (renamed_id id.now new.now) ids.now) }
 {
-    let mut all = Sequence::new(alloc);
+    let mut all = Sequence::with_capacity(alloc, ids.len())?;
     for other in ids {
         let named = if is_same_id(id, other) { new } else { other };
         all.push(named.copy(alloc)?)?;

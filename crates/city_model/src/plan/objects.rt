@@ -96,6 +96,8 @@ pub fn with_renamed(
     new: &Id,
     object: &Object,
 ) -> Result<Object, OutOfMemory>
+    requires parents { AreDistinct object.now.parents }
+    requires children { AreDistinct object.now.children }
     ensures { IfOk result (λ o. o ≡ with_renamed id.now new.now object.now) }
 {
     let body = object.body.copy(alloc)?;

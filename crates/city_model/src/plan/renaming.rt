@@ -51,6 +51,7 @@ fn rename_in_each<V: ObjectLookup>(
     relatives: Ids<'_>,
     writes: &mut Writes,
 ) -> Result<(), OutOfMemory>
+    requires sound { IsSound (V.map view.now) }
     ensures { OnOk result (writes.new
         ≡ writes.old ++ map (renamed_at (V.map view.now) id.now new.now) (ids_left relatives.entry)) }
 {
@@ -68,6 +69,7 @@ fn rename_in<V: ObjectLookup>(
     new: &Id,
     relative: &Id,
 ) -> Result<(Id, Option<Object>), OutOfMemory>
+    requires sound { IsSound (V.map view.now) }
     ensures { IfOk result (λ write. write ≡ renamed_at (V.map view.now) id.now new.now relative.now) }
 {
     let copy = relative.copy(alloc)?;
