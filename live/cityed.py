@@ -404,6 +404,10 @@ class _Commands:
     def detach(self, child, parent):
         return self._do({"detach": child, "parent": parent})
 
+    def rename(self, id, to):
+        """Gives the object another id, which its parents and children name at the same place."""
+        return self._do({"rename": id, "to": to})
+
     def mark(self, name):
         return self._do({"mark": name})
 

@@ -13,6 +13,8 @@ FAMILY |= {"Building": "Building", "BuildingPart": "Building", "BuildingRoom": "
 
 
 ATTRIBUTES = ["n", "n", "n", "t", "\u00e9", "#", ""]
+# members beside the attributes
+MEMBERS = ["address", "geographicalExtent", "creationDate"]
 # values of which some are nearly the same
 VALUES = [0, 1, 2, -1, True, False, None, "", "1", "\n", "\u00e9\U0001f600", [], [0, 1], [1, 0], [False, 1], {}]
 VALUES += [{"a": 1, "b": [2, {}]}, {"b": [2, {}], "a": 1}, {"a": 1, "b": [2, []]}, {"a": 1}, 2**63 - 1, -(2**63)]
@@ -97,7 +99,7 @@ def break_relations(choose, objects):
 
 
 VERBS = {"read": 2, "put": 3, "delete": 2, "attach": 3, "detach": 2}
-VERBS |= {"add": 2, "set": 4, "unset": 2, "reshape": 2, "expect": 2}
+VERBS |= {"add": 2, "set": 4, "unset": 2, "reshape": 2, "expect": 3, "rename": 1}
 
 
 def command(choose, types, broken):
@@ -115,13 +117,33 @@ def command(choose, types, broken):
         return {verb: child, "parent": other}
     if verb == "reshape":
         return {verb: name, "geometry": geometry(choose, shapes)}
+    if verb == "rename":
+        return {verb: name, "to": choose.choice(NAMES)}
+    if verb == "expect" and choose.random() < 0.5:
+        return {verb: name, **expected(choose, types, shapes)}
     if verb in ("set", "unset", "expect"):
         return of_attributes(choose, verb, name)
     return {verb: name}
 
 
+def expected(choose, types, shapes):
+    """What an expect may name beside attributes, one part or two; often it isn't so."""
+    named = {
+        "type": choose.choice(list(types.values())),
+        "geometry": [] if choose.random() < 0.7 else geometry(choose, shapes),
+        "parents": choose.sample(list(types), k=min(len(types), choose.randint(0, 1))),
+        "children": choose.sample(list(types), k=min(len(types), choose.randint(0, 1))),
+        "absent": choose.choices(ATTRIBUTES, k=choose.randint(0, 2)),
+    }
+    return {member: named[member] for member in choose.sample(list(named), k=choose.randint(1, 2))}
+
+
 def of_attributes(choose, verb, name):
-    """A set, an unset or an expect; the names of an unset may recur."""
+    """A set, an unset or an expect; the names of an unset may recur. Some are of members beside the attributes."""
+    if verb != "expect" and choose.random() < 0.2:
+        members = {member: choose.randint(0, 3) for member in choose.sample(MEMBERS, k=choose.randint(0, 2))}
+        given = {"members": members if verb == "set" else list(members)}
+        return {verb: name, **given, **(of_attributes(choose, verb, name) if choose.random() < 0.3 else {})}
     if verb == "unset":
         return {verb: name, "attributes": choose.choices(ATTRIBUTES, k=choose.randint(0, 3))}
     return {verb: name, "attributes": attributes(choose, 1 if verb == "expect" else 3)}
