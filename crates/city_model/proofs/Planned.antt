@@ -6,6 +6,11 @@ use Rattle.city_model.proofs.Prelude.{Edits, action, Amendment, amended, new_obj
 use Rattle.city_model.proofs.Prelude.{deleted, attached}
 use Rattle.city_model.proofs.Prelude.{detached, without_child, without_parent, with_child, with_parent, is_wrong_family}
 use Rattle.city_model.proofs.Prelude.{IsSound, Change, after_change, unlinked}
+use Rattle.city_model.proofs.Prelude.{◌++◌, list_any-append}
+use Rattle.city_model.specs.Actions.{renamed}
+use Rattle.city_model.specs.declared.command.Command.TheVariants.{Rename}
+use Rattle.city_model.specs.declared.command.Reply.TheVariants.{Renamed}
+use Rattle.city_model.specs.internal.Plans.{renamed_at}
 use Rattle.std.proofs.Common.{◌==◌}
 use Rattle.std.specs.Prelude.{Ok}
 use Rattle.city_model.specs.Actions.{creates, amends, amendment_reply, rewrites, attach_at, detach_at}
@@ -55,6 +60,36 @@ delete_writes m id o ws s is childless items =
       after = deleted m id;
       edits = grind (arith, unlinked_ids m id o.parents);
       objects = (grind (arith, same_id_itself id), unlinked_are m id o.parents apart);
+    })
+
+-- ---- a rename
+
+renamed_are : (m : CityMap) (id new : List ℕ) (ps : List (List ℕ)) → ((p : List ℕ) → has_id ps p ≡ true
+    → (same_id id p ≡ false) × (same_id new p ≡ false)) → AreOf (renamed m id new) (map (renamed_at m id new) ps)
+renamed_are m id new [] apart = tt
+renamed_are m id new (p ∷ ps) apart = grind (arith, same_id_itself, apart p, renamed_are m id new ps)
+
+renamed_ids : (m : CityMap) (id new : List ℕ) (ps : List (List ℕ)) → keys_of (map (renamed_at m id new) ps) ≡ ps
+renamed_ids m id new [] = refl
+renamed_ids m id new (p ∷ ps) = grind (arith, renamed_ids m id new ps)
+
+-- (the lists of the object o name neither it nor the free id)
+pub rename_writes : (m : CityMap) (id new : List ℕ) (o : Object) (ws : Change) → IsSound m → m id ≡ Some o
+    → m new ≡ None
+    → ws ≡ (id, None) ∷ (new, Some o) ∷ map (renamed_at m id new) (o.parents ++ o.children)
+    → AreWritesOf m (Rename id new) Renamed ws
+rename_writes m id new o ws s is free items =
+    let apart : (p : List ℕ) → has_id (o.parents ++ o.children) p ≡ true
+    → (same_id id p ≡ false) × (same_id new p ≡ false) =
+    λ p h. grind (arith, list_any-append, same_id_true, same_id_back, free, s id o is, s p) in
+    rw items (record {
+      after = renamed m id new;
+      edits = grind (arith, is, free, renamed_ids m id new (o.parents ++ o.children));
+      objects = (
+        grind (arith, same_id_itself, same_id_true, is, free),
+        grind (arith, same_id_itself, is),
+        renamed_are m id new (o.parents ++ o.children) apart,
+      );
     })
 
 -- ---- an attach and a detach

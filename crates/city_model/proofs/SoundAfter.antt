@@ -1,6 +1,6 @@
 -- A sound map stays sound under each command, and a committed script leaves a lawful one.
 use Rattle.city_model.proofs.Prelude.{◌≡◌, ℕ, List, [], ◌∷◌, ◌++◌, Bool, true, false, Option, Some, None, refl, ap}
-use Rattle.city_model.proofs.Prelude.{subst}
+use Rattle.city_model.proofs.Prelude.{subst, sym}
 use Rattle.city_model.proofs.Prelude.{◌∙◌, arith, ◌==◌, length, option_map, or_parts, if◌then◌else◌, Object, Body}
 use Rattle.city_model.proofs.Prelude.{Cause}
 use Rattle.city_model.proofs.Prelude.{Command, Put, Delete, Attach, Detach, Reply, CityMap, Action, Edits, action}
@@ -10,13 +10,15 @@ use Rattle.city_model.proofs.Prelude.{without_parent, with_child, with_parent, d
 use Rattle.city_model.proofs.Prelude.{IsSound}
 use Rattle.std.specs.Prelude.{Result, Ok, Err}
 use Rattle.std.proofs.lemmas.List.{nil_from_length}
-use Rattle.city_model.specs.declared.command.Command.TheVariants.{Add, Set, Unset, Reshape, Expect}
+use Rattle.city_model.specs.declared.command.Command.TheVariants.{Add, Set, Unset, Reshape, Expect, Rename}
 use Rattle.city_model.specs.declared.command.Expectation.{Expectation}
 use Rattle.city_model.specs.Actions.{unless, rewrites, amends, amend, amendment_reply, put_at, add_at, amend_at}
 use Rattle.city_model.specs.Actions.{expect_at, delete_at, attach_at, detach_at}
 use Rattle.city_model.specs.Amendments.{NewBody, Setting, Unsetting, Reshaping}
 use Rattle.city_model.specs.Expectations.{is_met}
+use Rattle.city_model.specs.Actions.{rename_at, renamed}
 use Rattle.city_model.proofs.ActionKinds.{map_after}
+use Rattle.city_model.proofs.Exchanged.{exchanged_map, renamed_is, sound_exchanged}
 use Rattle.city_model.proofs.Amended.{IsAmended, is_amended, amended_faultless}
 use Rattle.city_members.proofs.Ids.{same_id_itself, same_id_true, same_id_back, by_id}
 use Rattle.city_model.proofs.Relatives.{AreAgreed, set_at, agreed_as, one_more, one_less, agreed_deleted}
@@ -217,6 +219,14 @@ sound_detach m s child parent (Some c) (Some p) is at =
     either_sound (has_id c.parents parent) m _ _
     (λ e. sound_detached m s child parent (detach_allowed m child parent s (rw is e))) (λ e. s)
 
+sound_rename : (m : CityMap) → IsSound m → (id : List ℕ) (w : Option Object) (new : List ℕ) (v : Option Object)
+    → m new ≡ v → IsSound (map_after m (rename_at m id w new v))
+sound_rename m s id None new v free = s
+sound_rename m s id (Some o) new (Some there) free = s
+sound_rename m s id (Some o) new None free =
+    let same : renamed m id new ≡ exchanged_map id new m = λ i q. renamed_is id new m s free q i in
+    subst IsSound (sym same) (sound_exchanged id new m s)
+
 -- a command leaves a sound map sound
 pub sound_after : (m : CityMap) (c : Command) → IsSound m → IsSound (map_after m (action m c))
 sound_after m (Put id body) s = unless_sound (body_fault body) m _ s (sound_put m s id body (m id) refl)
@@ -228,6 +238,7 @@ sound_after m (Expect id e) s = sound_expect m s id e (m id)
 sound_after m (Delete id) s = sound_delete m s id (m id) refl
 sound_after m (Attach child parent) s = sound_attach m s child parent (m child) (m parent) refl refl
 sound_after m (Detach child parent) s = sound_detach m s child parent (m child) (m parent) refl refl
+sound_after m (Rename id new) s = sound_rename m s id (m id) new (m new) refl
 sound_after m c s = s
 
 -- and so does an edit
