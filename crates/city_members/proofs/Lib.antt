@@ -6,6 +6,7 @@ mod KeptLists
 pub mod MemberLaws
 pub mod MemberLists
 mod MemberSides
+mod Others
 pub mod Prelude
 pub mod Puts
 pub mod SameValues
