@@ -3,8 +3,8 @@
 //! - `past`: what the earlier commands of the transaction left
 //! - `objects`: an object that is missing, or there already, or of another type; `marks`: a missing mark
 //! - `names`: the names of commands and of causes
-//! - `relating`: relations that can't be; `attributes`, `unexpected`: attributes and other parts that differ; `value`: how
-//!   values are shown
+//! - `relating`: relations that can't be; `attributes`, `unexpected`: attributes and other parts that
+//!   differ; `value`: how values are shown
 mod attributes;
 mod marks;
 pub mod names;
