@@ -119,18 +119,15 @@ no_geometry_is_another_shape = (refl, (refl, refl))
 -- ---- the type and the relations
 
 -- a part with two parents
+abbrev part_of : List (List ℕ) → Object
+part_of parents = record {
+  body = record { kind = BuildingPart; geometry = []; extra = no_members };
+  parents = parents;
+  children = [];
+}
+
 abbrev part : List (List ℕ) → CityMap
-part parents = found_in (
-  (
-    codes "x",
-    record {
-      body = record { kind = BuildingPart; geometry = []; extra = no_members };
-      parents = parents;
-      children = [];
-    },
-  )
-  ∷ [],
-)
+part parents = found_in ((codes "x", part_of parents) ∷ [])
 
 abbrev two : List (List ℕ)
 two = codes "a" ∷ codes "b" ∷ []

@@ -58,11 +58,10 @@ module _ (id new : List ℕ) where
           parents_once = distinct_exchanged f.0.parents order.parents_once;
           children_once = distinct_exchanged f.0.children order.children_once;
           parents_know_it = λ p h.
-              let known = order.parents_know_it (exchanged p) (sym (has_exchanged f.0.parents p) ∙ h) in
-              (
+              let known = order.parents_know_it (exchanged p) (sym (has_exchanged f.0.parents p) ∙ h) in (
                 either_way p at ∙ sym (ap (λ x. same_id (exchanged p) x) (back at)) ∙ grind (arith, known.0, either_way),
                 ap (λ xs. has_id xs at) (children_exchanged (m (exchanged p)))
-                ∙ has_exchanged (children_of (m (exchanged p))) at ∙ known.1,
+                    ∙ has_exchanged (children_of (m (exchanged p))) at ∙ known.1,
               );
           children_know_it = λ d h.
               let known = order.children_know_it (exchanged d) (sym (has_exchanged f.0.children d) ∙ h) in

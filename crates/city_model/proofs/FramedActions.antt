@@ -142,8 +142,17 @@ renamed_taken : (m n : CityMap) (id new : List ℕ) (o : Object) (q : List ℕ) 
     → ((p : List ℕ) → has_id (id ∷ new ∷ o.parents ++ o.children) p ≡ true → m p ≡ n p)
     → renamed n id new q ≡ (if has_id (id ∷ new ∷ o.parents ++ o.children) q then renamed m id new q else n q)
 renamed_taken m n id new o q is t agree =
-    grind (arith, same_id_back, list_any-append, (sound_agrees n t).children_know_it q id,
-    (sound_agrees n t).parents_know_it q id, unnamed id new (n q), agree q, agree id, same_id_itself id)
+    grind (
+      arith,
+      same_id_back,
+      list_any-append,
+      (sound_agrees n t).children_know_it q id,
+      (sound_agrees n t).parents_know_it q id,
+      unnamed id new (n q),
+      agree q,
+      agree id,
+      same_id_itself id,
+    )
 
 rename_taken : (m n : CityMap) (id new : List ℕ) (w v : Option Object) → n id ≡ w → IsSound n
     → AgreeOn ((id, Exclusive) ∷ (new, Exclusive) ∷ rename_locks w) m n

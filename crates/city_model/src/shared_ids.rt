@@ -186,12 +186,7 @@ impl SharedIds {
 }
 
 /// The ids, with the new one for the old one.
-fn renamed_ids(
-    alloc: Global,
-    id: &Id,
-    new: &Id,
-    ids: &[Id],
-) -> Result<Sequence<Id>, OutOfMemory>
+fn renamed_ids(alloc: Global, id: &Id, new: &Id, ids: &[Id]) -> Result<Sequence<Id>, OutOfMemory>
     ensures { IfOk result (λ all. all ≡ map (renamed_id id.now new.now) ids.now) }
 {
     let mut all = Sequence::with_capacity(alloc, ids.len())?;

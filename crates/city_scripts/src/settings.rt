@@ -53,7 +53,10 @@ pub fn are_of_unset(members: &Map<String, Value>) -> bool
 fn is_own(name: &str) -> bool
     ensures { result ≡ has_id own_members name.now }
 {
-    matches!(name, "attributes" | "type" | "geometry" | "parents" | "children")
+    matches!(
+        name,
+        "attributes" | "type" | "geometry" | "parents" | "children"
+    )
 }
 
 /// Whether members stand beside `attributes`.

@@ -159,7 +159,10 @@ fn pair_command(alloc: Global, verb: Verb, id: Id, other: Other) -> Option<Comma
     match (verb, other) {
         (Verb::Put, Other::Object(body)) => Some(Command::Put(id, Shared::unshared(body))),
         (Verb::Add, Other::Object(body)) => Some(Command::Add(id, Shared::unshared(body))),
-        (Verb::Set, Other::Attributes(values)) => Some(Command::Set(id, settings_of(alloc, values)?)),
+        (Verb::Set, Other::Attributes(values)) => Some(Command::Set(
+            id,
+            settings_of(alloc, values)?,
+        )),
         (Verb::Unset, Other::Names(names)) => Some(Command::Unset(id, removals_of(alloc, names))),
         (Verb::Reshape, Other::Geometry(geometry)) => Some(Command::Reshape(id, geometry)),
         (Verb::Expect, Other::Attributes(values)) => {

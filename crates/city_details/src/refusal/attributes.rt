@@ -93,27 +93,13 @@ pub fn tell_unexpected(
         let found = attribute(object, name.as_str());
         if !is_expected(found, expected) {
             let name = name.as_str();
-            tell_one(
-                alloc,
-                name,
-                found,
-                Some(expected),
-                &mut differing,
-                message,
-            )?;
+            tell_one(alloc, name, found, Some(expected), &mut differing, message)?;
         }
     }
     for name in expected.absent.as_slice() {
         let found = attribute(object, name.as_str());
         if found.is_some() {
-            tell_one(
-                alloc,
-                name.as_str(),
-                found,
-                None,
-                &mut differing,
-                message,
-            )?;
+            tell_one(alloc, name.as_str(), found, None, &mut differing, message)?;
         }
     }
     let Differing { told, more } = differing;

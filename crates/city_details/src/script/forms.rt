@@ -141,7 +141,12 @@ pub fn form_in(members: &Map<String, Value>) -> Option<&'static Form> {
 impl Form {
     /// The first missing member.
     pub fn missing(&self, members: &Map<String, Value>) -> Option<&'static str> {
-        if self.one_is_enough && self.others.iter().any(|(name, _)| members.contains_key(*name)) {
+        if self.one_is_enough
+            && self
+                .others
+                .iter()
+                .any(|(name, _)| members.contains_key(*name))
+        {
             return None;
         }
         for (name, _) in self.others {

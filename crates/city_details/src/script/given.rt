@@ -2,8 +2,8 @@
 use crate::diagnostic::Diagnostic;
 use crate::quoted::Quoted;
 use crate::script::attributes::{are_texts, tell_no_names, tell_no_texts, tell_no_values};
-use crate::script::others::{tell_bad_other_names, tell_bad_others};
 use crate::script::forms::{Form, Kind, form_in};
+use crate::script::others::{tell_bad_other_names, tell_bad_others};
 use crate::shape::{is_unsupported, tell_bad_geometry, tell_unknown_type, tell_unsupported};
 use city_model::OutOfMemory;
 use city_model::object_type::type_named;

@@ -10,7 +10,8 @@ use std::fmt::Write;
 /// The members of an object that a set doesn't give and an unset doesn't take out by `members`.
 const OWN: &[&str] = &["attributes", "children", "geometry", "parents", "type"];
 
-const ANOTHER_WAY: &str = "Name attributes under \"attributes\"; a reshape gives a geometry, an attach relations.";
+const ANOTHER_WAY: &str =
+    "Name attributes under \"attributes\"; a reshape gives a geometry, an attach relations.";
 
 /// Tells what is wrong with the members of a set; one of them is.
 pub fn tell_bad_others(given: &Value, diagnostic: &mut Diagnostic) -> Result<(), OutOfMemory> {
