@@ -1,4 +1,5 @@
-//! Explains one fault to a person.
+//! Explains one fault, or the refused scripts of a run, to a person.
+mod ends;
 mod shown;
 
 use crate::check::scripts::{script_text_fault_of, scripts_diagnostic};
@@ -10,6 +11,7 @@ use city_details::{
 use city_doc::ReadFault;
 use city_model::OutOfMemory;
 use city_scripts::ScriptFault;
+pub use ends::{explain_ends, is_refused};
 pub use shown::shown_name;
 use std::alloc::Global;
 use std::slice;

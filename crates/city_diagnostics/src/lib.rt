@@ -1,7 +1,7 @@
 //! Diagnostics: all faults of a text, each with its place, the problem and the cure.
 //!
 //! - `check`: all faults of a document or of scripts, a line of JSON for each; `line`: one such line
-//! - `explain`: one fault, or one refused script, in indented lines for a person
+//! - `explain`: one fault, or each refused script of a run, in indented lines for a person
 #![tactic(auto)]
 
 mod check;
@@ -10,4 +10,5 @@ mod line;
 
 pub use check::{check_document, check_scripts};
 pub use city_details::{Past, Refusal, RefusedAt, Sight, why};
-pub use explain::{explain_document, explain_refusal, explain_scripts, shown_name};
+pub use explain::{explain_document, explain_ends, explain_refusal, explain_scripts};
+pub use explain::{is_refused, shown_name};

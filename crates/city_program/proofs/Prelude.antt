@@ -1,7 +1,7 @@
 -- Shared names of this crate's proofs, from std, from the libraries and from its own definitions.
 pub use Rattle.std.proofs.Common.{Bool, IfSome, List, None, Option, Some, [], ap, append-nil, append_assoc, drop, false}
 pub use Rattle.std.proofs.Common.{inl, inr, length, map, refl, string_bytes, subst, sym, true, ℕ, ◌++◌, ◌+◌, ◌<◌, ◌∙◌}
-pub use Rattle.std.proofs.Common.{◌∷◌, ◌≡◌}
+pub use Rattle.std.proofs.Common.{◌∷◌, ◌≡◌, ◌≤◌}
 pub use Rattle.std.specs.Global.{Vec}
 pub use Rattle.std.specs.Io.KnownBytes.{Appends, Keeps}
 pub use Rattle.city_program.specs.Programs.{EndsAsked}

@@ -1,13 +1,14 @@
 -- The bytes on standard error, line by line, and the program's end with them.
-use Rattle.city_program.proofs.Prelude.{◌≡◌, ◌<◌, ◌+◌, ℕ, Bool, false, List, [], ◌∷◌, ◌++◌, length, Option}
+use Rattle.city_program.proofs.Prelude.{◌≡◌, ◌<◌, ◌≤◌, ◌+◌, ℕ, Bool, false, List, [], ◌∷◌, ◌++◌, length, Option}
 use Rattle.city_program.proofs.Prelude.{true, inl, inr, refl, sym, ap, subst, ◌∙◌, append_assoc, append-nil, Vec}
 use Rattle.city_program.proofs.Prelude.{Appends, Asked, ServeFault, seen_text, EndsAsked, IsSeenTold}
 use Rattle.std.proofs.Common.{arith, get_or, take}
-use Rattle.std.proofs.lemmas.List.{take_more, length-take-le}
+use Rattle.std.proofs.lemmas.List.{take_all, take_more, length-take-le}
 use Rattle.city_program.specs.declared.status.Status.{Status}
 use Rattle.city_serve.specs.FaultTexts.{fault_text}
 use Rattle.city_program.specs.Programs.{Streams, IsAnswered, IsTold, IsToldFault, IsUnanswered, done_text, is_explained}
 use Rattle.city_program.specs.Programs.{seen_lines, memory_line, no_faults_line, TakesLocked, reading, steps_inside}
+use Rattle.city_program.specs.Programs.{tells_refused}
 use Rattle.city_serve.specs.Steps.{Takes}
 use Rattle.city_program.specs.internal.Telling.{IsToldAfter, IsFaultText, IsFound, IsAnsweredAs, is_withheld_at}
 use Rattle.city_program.specs.internal.Telling.{tells_no_faults}
@@ -45,12 +46,20 @@ told_next viewer all seen given u v w before after within at same told line fine
     ) in
     subst (Appends u w) (sym lines) (appends_more u v w first this (told (line.1 fine)) (line.0 fine))
 
+-- all viewers are told of, and then the lines behind theirs are told
+pub told_all : (viewer : ℕ) (all : List (Vec ℕ)) (behind : List ℕ) (u v w : Option (List ℕ)) (ending : Status)
+    (before after : Bool) → length all ≤ viewer → AreToldTo viewer all u v before → IsToldAfter before v w after behind
+    → IsSeenTold ending ending u w after all behind
+told_all viewer all behind u v w ending before after over told line =
+    let whole = subst (λ seen. IsTold u v before (seen_lines 0 seen)) (take_all viewer all over) told in
+    inl (refl, λ fine. appends_more u v w (seen_lines 0 all) behind (whole (line.1 fine)) (line.0 fine))
+
 -- memory is short for the line of this viewer
-pub told_in_part : (viewer : ℕ) (all : List (Vec ℕ)) (u v w : Option (List ℕ)) (ending status : Status)
-    (before after : Bool) → viewer < length all → status ≡ Status.Failed
+pub told_in_part : (viewer : ℕ) (all : List (Vec ℕ)) (behind : List ℕ) (u v w : Option (List ℕ))
+    (ending status : Status) (before after : Bool) → viewer < length all → status ≡ Status.Failed
     → AreToldTo viewer all u v before → IsToldAfter before v w after memory_line
-    → IsSeenTold ending status u w after all
-told_in_part viewer all u v w ending status before after within failed told line =
+    → IsSeenTold ending status u w after all behind
+told_in_part viewer all behind u v w ending status before after within failed told line =
     let lines = seen_lines 0 (take viewer all) in
     inr (failed, (viewer, within, λ fine. appends_more u v w lines memory_line (told (line.1 fine)) (line.0 fine)))
 
@@ -84,27 +93,30 @@ plainly_withheld s (Asked.Files options destination model scripts) terminal seen
 plainly_withheld s (Asked.Text text) terminal seen is = refl
 
 module _ (terminal : Bool) (s : Streams) (told telling : Option (List ℕ)) (mute : Bool) where
-  found : (asked : Asked) (status : Status) (seen : List (Vec ℕ)) → IsFound s asked seen
+  found : (asked : Asked) (status : Status) (seen : List (Vec ℕ)) (behind : List ℕ)
+      → (tells_refused terminal asked ≡ false → behind ≡ []) → IsFound s asked seen
       → TakesLocked asked s (steps_inside asked false)
-      → IsSeenTold Status.Faulty status told telling mute seen → EndsAsked terminal asked status s told telling mute
-  found (Asked.Check options model scripts) status seen is steps (inl lines) =
+      → IsSeenTold Status.Faulty status told telling mute seen behind
+      → EndsAsked terminal asked status s told telling mute
+  found (Asked.Check options model scripts) status seen behind none is steps (inl lines) =
       let check = Asked.Check options model scripts in
       subst (λ status. EndsAsked terminal check status s told telling mute) (sym lines.0) (
         is.1,
-        subst (λ seen. IsTold told telling mute (seen_lines 0 seen)) is.0 lines.1,
+        subst (λ behind. IsTold told telling mute behind) (none refl)
+            (subst (λ seen. IsTold told telling mute (seen_lines 0 seen ++ behind)) is.0 lines.1),
         subst (Takes s.begun s.ended) (append-nil (reading check)) steps,
       )
-  found (Asked.Check options model scripts) status seen is steps (inr failed) =
+  found (Asked.Check options model scripts) status seen behind none is steps (inr failed) =
       absurd (none_within failed.1.0 seen is.0 failed.1.1)
-  found (Asked.Input options destination) status seen is steps lines = absurd is
-  found (Asked.Files options destination model scripts) status seen is steps lines = absurd is
-  found (Asked.Text text) status seen is steps lines = absurd is
+  found (Asked.Input options destination) status seen behind none is steps lines = absurd is
+  found (Asked.Files options destination model scripts) status seen behind none is steps lines = absurd is
+  found (Asked.Text text) status seen behind none is steps lines = absurd is
 
-  module _ (asked : Asked) where
+  module _ (asked : Asked) (behind : List ℕ) (none : tells_refused terminal asked ≡ false → behind ≡ []) where
     ends_so : (ending : Status) (withheld : Bool) (status : Status) (seen : List (Vec ℕ))
         → IsAnswered s asked seen withheld → TakesLocked asked s (steps_inside asked withheld)
-        → (IsTold told telling mute (seen_lines 0 seen) → EndsAsked terminal asked ending s told telling mute)
-        → IsSeenTold ending status told telling mute seen → EndsAsked terminal asked status s told telling mute
+        → (IsTold told telling mute (seen_lines 0 seen ++ behind) → EndsAsked terminal asked ending s told telling mute)
+        → IsSeenTold ending status told telling mute seen behind → EndsAsked terminal asked status s told telling mute
     ends_so ending withheld status seen answered steps ends (inl lines) =
         subst (λ status. EndsAsked terminal asked status s told telling mute) (sym lines.0) (ends lines.1)
     ends_so ending withheld status seen answered steps ends (inr failed) =
@@ -119,14 +131,16 @@ module _ (terminal : Bool) (s : Streams) (told telling : Option (List ℕ)) (mut
 
     pub ends_told : (ending status : Status) (seen : List (Vec ℕ)) → tells_no_faults ending asked terminal ≡ false
         → IsAnsweredAs s asked seen ending → TakesLocked asked s (steps_inside asked (is_withheld_at ending))
-        → IsSeenTold ending status told telling mute seen → EndsAsked terminal asked status s told telling mute
+        → IsSeenTold ending status told telling mute seen behind → EndsAsked terminal asked status s told telling mute
     ends_told Status.Done status seen none answered steps lines =
         let text = plainly_done asked terminal seen none in
         ends_so Status.Done false status seen answered steps (λ are. record {
           seen = seen;
           answered = answered;
           steps = steps;
-          is_told = subst (IsTold told telling mute) text are;
+          behind = behind;
+          unexplained = none;
+          is_told = subst (λ first. IsTold told telling mute (first ++ behind)) text are;
         }) lines
     ends_told Status.Withheld status seen none answered steps lines =
         let text = plainly_withheld s asked terminal seen answered in
@@ -134,12 +148,15 @@ module _ (terminal : Bool) (s : Streams) (told telling : Option (List ℕ)) (mut
           seen = seen;
           answered = answered;
           steps = steps;
-          is_told = subst (IsTold told telling mute) text are;
+          behind = behind;
+          unexplained = none;
+          is_told = subst (λ first. IsTold told telling mute (first ++ behind)) text are;
         }) lines
-    ends_told Status.Faulty status seen none is steps lines = found asked status seen is steps lines
+    ends_told Status.Faulty status seen none is steps lines = found asked status seen behind none is steps lines
     ends_told Status.Failed status seen none answered steps lines = absurd answered
     ends_told Status.Refused status seen none answered steps lines = absurd answered
 
+  module _ (asked : Asked) where
     pub ends_faulty : (before : Bool) (f : ServeFault) → IsUnanswered s asked f
         → ((text : List ℕ) × IsToldFault (is_explained terminal asked) f text
         × IsToldAfter before told telling mute text)
@@ -158,7 +175,14 @@ module _ (terminal : Bool) (s : Streams) (told telling : Option (List ℕ)) (mut
       → EndsAsked terminal asked Status.Done s told telling mute
   ends_faultless (Asked.Check options model scripts) Status.Done seen answered steps on line =
       subst (λ t. EndsAsked t (Asked.Check options model scripts) Status.Done s told telling mute) (sym on)
-      (record { seen = seen; answered = answered; steps = steps; is_told = line })
+      (record {
+        seen = seen;
+        answered = answered;
+        steps = steps;
+        behind = [];
+        unexplained = λ _. refl;
+        is_told = subst (IsTold told telling mute) (sym (append-nil no_faults_line)) line;
+      })
   ends_faultless (Asked.Input options destination) Status.Done seen answered steps on line = absurd (cc)
   ends_faultless (Asked.Files options destination model scripts) Status.Done seen answered steps on line = absurd (cc)
   ends_faultless (Asked.Text text) Status.Done seen answered steps on line = absurd (cc)

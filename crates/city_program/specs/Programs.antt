@@ -201,6 +201,12 @@ is_explained terminal (Asked.Files options destination model scripts) = terminal
 is_explained terminal (Asked.Check options model scripts) = terminal || options.explain
 is_explained terminal (Asked.Text text) = terminal
 
+-- the scripts that a run refuses are explained on a terminal, and on request
+abbrev pub tells_refused : Bool → Asked → Bool
+tells_refused terminal (Asked.Input options destination) = terminal || options.explain
+tells_refused terminal (Asked.Files options destination model scripts) = terminal || options.explain
+tells_refused terminal _ = false
+
 -- the line of a fault, and any lines behind it if it is explained; if memory is short for it, the line of running out
 -- of memory
 abbrev pub IsToldFault : Bool → ServeFault → List ℕ → Type 0
@@ -220,13 +226,16 @@ done_text _ terminal seen = seen_lines 0 seen
 
 -- ---- how the program ends
 
--- the request is done, and standard error has got what each viewer saw, or on a terminal that a check found no fault
+-- the request is done, and standard error has got what each viewer saw, or on a terminal that a check found no fault.
+-- More lines may follow if refused scripts are explained
 pub record IsDone (terminal : Bool) (asked : Asked) (withheld : Bool) (s : Streams) (told telling : Option (List ℕ))
     (mute : Bool) : Type 0 where
   pub seen : List (Vec ℕ)
   pub answered : IsAnswered s asked seen withheld
   pub steps : TakesLocked asked s (steps_inside asked withheld)
-  pub is_told : IsTold told telling mute (done_text asked terminal seen)
+  pub behind : List ℕ
+  pub unexplained : tells_refused terminal asked ≡ false → behind ≡ []
+  pub is_told : IsTold told telling mute (done_text asked terminal seen ++ behind)
 
 -- the request is done, and standard error has got what some viewers saw, and that memory ran out for the next
 pub record IsDoneToldInPart (asked : Asked) (s : Streams) (told telling : Option (List ℕ)) (mute : Bool)

@@ -1,10 +1,12 @@
-//! Explains a fault behind its line: the file, the place in it, the mistake, and the repair.
+//! Explains a fault behind its line: the file, the place in it, the mistake, and the repair. Explains refused scripts
+//! behind a report.
 use city_desk::RunFault;
-use city_diagnostics::{explain_document, explain_scripts, shown_name};
+use city_diagnostics::{explain_document, explain_ends, explain_scripts, is_refused, shown_name};
 use city_doc::ReadFault;
 use city_model::OutOfMemory;
+use city_model::end::End;
 use city_options::command_line::Asked;
-use city_scripts::ScriptFault;
+use city_scripts::{ScriptFault, read_scripts};
 use city_serve::{Device, ServeFault, Text, TextFiles, Texts};
 use std::alloc::Global;
 use std::io;
@@ -50,6 +52,24 @@ pub(crate) fn explanation<F: TextFiles, R, W>(
         ServeFault::Changed => told_of(alloc, asked, CHANGED),
         ServeFault::Run(_) => Ok(String::new(alloc)),
     }
+}
+
+/// The explanation of each script that a run refused, in the order of the ends. Empty if there is none, or if the city
+/// before the run isn't kept.
+pub(crate) fn refusals(alloc: Global, texts: Texts, ends: &[End]) -> Result<String, OutOfMemory> {
+    let Texts {
+        scripts, before, ..
+    } = texts;
+    let Some(before) = before else {
+        return Ok(String::new(alloc));
+    };
+    if !ends.iter().any(is_refused) {
+        return Ok(String::new(alloc));
+    }
+    let Ok(read) = read_scripts(alloc, scripts.bytes.as_slice()) else {
+        return Err(OutOfMemory);
+    };
+    explain_ends(alloc, before, read.as_slice(), ends)
 }
 
 /// The explanation of a fault of a document.

@@ -7,19 +7,21 @@ ghost use Rattle.city_program.specs.SeenTexts.{seen_text};
 ghost use Rattle.city_program.specs.declared.status.Status.{Status};
 ghost use Rattle.city_program.specs.Programs.{is_explained, IsUnanswered, IsUnansweredBy, IsLineTold, IsToldFault};
 ghost use Rattle.city_program.specs.Programs.{HasOutputAndScripts, NamesScripts, output_of, steps_inside};
-ghost use Rattle.city_program.specs.Programs.{Ends, EndsAsked, memory_line};
+ghost use Rattle.city_program.specs.Programs.{Ends, EndsAsked, memory_line, tells_refused};
 ghost use Rattle.city_program.specs.internal.Telling.{run_status, check_status, IsAnsweredAs, IsFaultText, IsToldAfter};
 ghost use Rattle.city_program.specs.internal.Telling.{IsSeenTold, is_check, is_withheld_at, tells_no_faults};
 ghost use Rattle.city_serve.specs.Steps.{Step, Takes, under_lock};
 
 use crate::check::check;
-use crate::explain::explanation;
+use crate::explain::{explanation, refusals};
 use crate::seen_line::seen_line;
 use crate::status::Status;
 use city_crew::Gate;
 use city_desk::RunFault;
+use city_members::sequence::Sequence;
 use city_model::OutOfMemory;
 use city_model::city::City;
+use city_model::end::End;
 use city_options::command_line::{Asked, LineFault, asked_by};
 use city_serve::fault_line::fault_line;
 use city_serve::serve::{read_input, write_output};
@@ -127,6 +129,7 @@ fn run_asked<T: Threads + Wait + Sync, G: Gate + Sync, F: OutputFiles, R: Read, 
         return Status::Refused;
     }
     let mut texts = Texts::unread(alloc);
+    texts.explained = tells_refused(terminal, asked);
     match answer(
         rt, alloc, gate, seed, files, &mut texts, asked, input, output,
     ) {
@@ -135,11 +138,47 @@ fn run_asked<T: Threads + Wait + Sync, G: Gate + Sync, F: OutputFiles, R: Read, 
                 tell(errors, NO_FAULTS);
                 return Status::Done;
             }
-            tell_seen(alloc, answer.seen.as_slice(), answer.status, errors)
+            let behind = refused_lines(alloc, terminal, asked, texts, answer.ends.as_slice());
+            tell_seen(
+                alloc,
+                answer.seen.as_slice(),
+                behind.as_str(),
+                answer.status,
+                errors,
+            )
         }
         Err(fault) => tell_unanswered(
             alloc, terminal, fault, asked, texts, files, input, output, errors,
         ),
+    }
+}
+
+/// The lines of the scripts that a run refused: none if they aren't explained, or memory is short for them.
+fn refused_lines(
+    alloc: Global,
+    terminal: bool,
+    asked: &Asked<'_>,
+    texts: Texts,
+    ends: &[End],
+) -> String
+    ensures { tells_refused terminal asked.now ≡ false → string_bytes result ≡ [] }
+{
+    if !tells_refused(terminal, asked) {
+        return String::new(alloc);
+    }
+    match refusals(alloc, texts, ends) {
+        Ok(lines) => lines,
+        Err(OutOfMemory) => String::new(alloc),
+    }
+}
+
+/// Whether the scripts that a run refuses are explained: on a terminal, and on request.
+fn tells_refused(terminal: bool, asked: &Asked<'_>) -> bool
+    ensures { result ≡ tells_refused terminal asked.now }
+{
+    match asked {
+        Asked::Input(options, _) | Asked::Files(options, _, _, _) => terminal || options.explain,
+        Asked::Check(_, _, _) | Asked::Text(_) => false,
     }
 }
 
@@ -235,6 +274,8 @@ fn is_explained(terminal: bool, asked: &Asked<'_>) -> bool
 struct Answered {
     /// For each viewer, the numbers of the changes it saw.
     seen: Vec<Vec<u64>>,
+    /// The ends of the scripts of a run, oldest first.
+    ends: Sequence<End>,
     status: Status,
 }
 
@@ -246,6 +287,7 @@ fn check_answer(alloc: Global, faulty: bool) -> Answered
     let status = if faulty { Status::Faulty } else { Status::Done };
     Answered {
         seen: Vec::new(alloc),
+        ends: Sequence::new(alloc),
         status,
     }
 }
@@ -264,6 +306,7 @@ fn run_answer(delivered: Delivered, city: City) -> Answered
     };
     Answered {
         seen: delivered.seen,
+        ends: delivered.ends,
         status,
     }
 }
@@ -389,6 +432,7 @@ fn answer_inside<T: Threads + Wait + Sync, G: Gate + Sync, F: OutputFiles, R: Re
             }
             Ok(Answered {
                 seen: Vec::new(alloc),
+                ends: Sequence::new(alloc),
                 status: Status::Done,
             })
         }
@@ -399,7 +443,8 @@ fn answer_inside<T: Threads + Wait + Sync, G: Gate + Sync, F: OutputFiles, R: Re
         }
         Asked::Input(options, destination) => {
             let (document, scripts) = read_input(alloc, input)?;
-            *texts = Texts::given(document, scripts);
+            texts.document = Text::given(document);
+            texts.scripts = Text::given(scripts);
             let (to, options) = (*destination, *options);
             let (delivered, city) = serve_to(
                 rt, alloc, gate, seed, texts, files, to, output, options,
@@ -418,22 +463,34 @@ fn answer_inside<T: Threads + Wait + Sync, G: Gate + Sync, F: OutputFiles, R: Re
     }
 }
 
-/// Tells what each viewer saw. The output is written by then: if errors can't be, the status is the
-/// run's.
+/// Tells what each viewer saw, and the lines behind that. The output is written by then: if errors can't
+/// be, the status is the run's.
 fn tell_seen<E: Write>(
     alloc: Global,
     seen: &[Vec<u64>],
+    behind: &str,
     status: Status,
     errors: &mut Device<E>,
 ) -> Status
-    ensures { IsSeenTold status result (E.contents errors.old.0) (E.contents errors.new.0) errors.new.1 seen.now }
+    ensures { IsSeenTold status result (E.contents errors.old.0) (E.contents errors.new.0) errors.new.1
+        seen.now behind.now }
 {
     for (viewer, numbers) in seen.iter().enumerate() {
         let Ok(()) = tell_viewer(alloc, viewer, numbers.as_slice(), errors) else {
             return tell_memory(errors);
         };
     }
+    tell_lines(errors, behind);
     status
+}
+
+/// Tells lines, if there are any.
+fn tell_lines<E: Write>(errors: &mut Device<E>, lines: &str)
+    ensures { IsToldAfter errors.old.1 (E.contents errors.old.0) (E.contents errors.new.0) errors.new.1 lines.now }
+{
+    if !lines.is_empty() {
+        tell(errors, lines);
+    }
 }
 
 /// Tells what a viewer saw. Out of memory, it tells nothing.

@@ -16,6 +16,7 @@ use crate::fault::ServeFault;
 use crate::output_files::OutputFiles;
 use crate::serve::write_output;
 use city_desk::Output;
+use city_members::sequence::Sequence;
 use city_model::end::{End, Outcome};
 use city_options::Destination;
 use std::io::Write;
@@ -25,6 +26,8 @@ use std::io::Write;
 pub struct Delivered {
     /// For each viewer, the numbers of the changes it saw.
     pub seen: Vec<Vec<u64>>,
+    /// The ends of the scripts, oldest first.
+    pub ends: Sequence<End>,
     /// Whether the model was written nowhere, since a script ended refused or out of memory.
     pub withheld: bool,
 }
@@ -73,6 +76,7 @@ pub(crate) fn deliver<F: OutputFiles, W: Write>(
     )?;
     Ok(Delivered {
         seen: output.seen,
+        ends: output.ends,
         withheld,
     })
 }

@@ -62,7 +62,7 @@ pub(crate) fn run<R: Threads + Wait + Sync, G: Gate + Sync>(
 
 /// Runs scripts on a document's city, both of whole numbers, and gives the final city beside the
 /// output. Lets the texts go once they are read: the output is written into the memory of the
-/// document. A large document is read by as many threads as run and look. One worker without
+/// document. Scripts that are to be explained stay, and a copy of the city. A large document is read by as many threads as run and look. One worker without
 /// viewers needs no thread beside its own, and passes no gate.
 pub(crate) fn run_whole<R: Threads + Wait + Sync, G: Gate + Sync>(
     rt: &R,
@@ -91,6 +91,7 @@ pub(crate) fn run_whole<R: Threads + Wait + Sync, G: Gate + Sync>(
     );
     let pieces = pieces_for(options.workers + options.viewers);
     let (city, list) = read_texts_by(rt, alloc, model, commands, pieces)?;
+    texts.keep(alloc, &city);
     let room = texts.take_memory(alloc);
     let (output, city) = run_read_texts(rt, alloc, gate, seed, city, list, room, options)?;
     Ok((output, city))

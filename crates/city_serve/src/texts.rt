@@ -1,8 +1,13 @@
 //! The two texts at work, as long as they are needed.
 ghost use Rattle.std.specs.Prelude.{◌≡◌, []};
+ghost use Rattle.city_model.specs.CityMap.{object_at};
+ghost use Rattle.city_model.specs.Relations.{IsLawful};
 ghost use Rattle.city_serve.specs.declared.texts.Stage.{Stage};
 ghost use Rattle.city_serve.specs.Stages.{is_unread, is_given};
 
+use city_members::copied::Copied;
+use city_model::city::City;
+use city_session::Session;
 use std::alloc::Global;
 use std::mem::replace;
 
@@ -76,6 +81,11 @@ impl Text {
 pub struct Texts {
     pub document: Text,
     pub scripts: Text,
+    /// Whether the scripts that are refused when they run will be explained: then the scripts stay, and the
+    /// city is kept as it was.
+    pub explained: bool,
+    /// A session on the city as it was read, if that is kept and there was memory for it.
+    pub before: Option<Session>,
 }
 
 impl Texts {
@@ -84,6 +94,8 @@ impl Texts {
         Texts {
             document: Text::unread(alloc),
             scripts: Text::unread(alloc),
+            explained: false,
+            before: None,
         }
     }
 
@@ -95,12 +107,30 @@ impl Texts {
         Texts {
             document: Text::given(document),
             scripts: Text::given(scripts),
+            explained: false,
+            before: None,
         }
     }
 
-    /// Gives back the memory of the scripts, and hands over that of the document.
+    /// Keeps a city as it is, to explain the scripts that it refuses. If memory is short for that, they
+    /// aren't explained. The copy shares the objects' contents.
+    pub(crate) fn keep(&mut self, alloc: Global, city: &City)
+        requires { IsLawful (object_at city.now.1) }
+        ensures document { self.new.document ≡ self.old.document }
+        ensures scripts { self.new.scripts ≡ self.old.scripts }
+    {
+        if self.explained {
+            if let Ok(copy) = city.copy(alloc) {
+                self.before = Some(Session::open(alloc, copy));
+            }
+        }
+    }
+
+    /// Gives back the memory of the scripts, unless they are to stay, and hands over that of the document.
     pub(crate) fn take_memory(&mut self, alloc: Global) -> Vec<u8> {
-        self.scripts.let_go(alloc);
+        if !self.explained {
+            self.scripts.let_go(alloc);
+        }
         replace(&mut self.document.bytes, Vec::new(alloc))
     }
 }

@@ -12,10 +12,11 @@ use Rattle.city_program.specs.Programs.{Streams, IsAnswered, IsChecked, IsTold, 
 abbrev pub IsToldAfter : Bool → Option (List ℕ) → Option (List ℕ) → Bool → List ℕ → Type 0
 IsToldAfter failed_before old new failed text = IsTold old new failed text × (failed ≡ false → failed_before ≡ false)
 
--- if all viewers were told of, it has got their lines, and the status is the request's. If not, memory was short
-abbrev pub IsSeenTold : Status → Status → Option (List ℕ) → Option (List ℕ) → Bool → List (Vec ℕ) → Type 0
-IsSeenTold done status old new failed seen =
-    ((status ≡ done) × IsTold old new failed (seen_lines 0 seen))
+-- if all viewers were told of, it has got their lines and those behind them, and the status is the request's. If not,
+-- memory was short
+abbrev pub IsSeenTold : Status → Status → Option (List ℕ) → Option (List ℕ) → Bool → List (Vec ℕ) → List ℕ → Type 0
+IsSeenTold done status old new failed seen behind =
+    ((status ≡ done) × IsTold old new failed (seen_lines 0 seen ++ behind))
     ⊎ ((status ≡ Status.Failed) × IsToldInPart old new failed seen)
 
 -- the line of a fault and the lines behind it; if memory is short for that, the line of running out of memory

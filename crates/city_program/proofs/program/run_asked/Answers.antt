@@ -19,10 +19,13 @@ returns-else-tells_no_faults-clause-ended g c =
     let telling = g.E.Write.contents c.tell_seen.new.errors.0 in
     let mute = c.tell_seen.new.errors.1 in
     let answer = c.in-Ok.answer in
-    ends_told c.args.terminal _ told telling mute c.args.asked.now answer.status c.tell_seen.result answer.seen.items
-    (sym c.tells_no_faults.ensures ∙ c.if-tells_no_faults.false) c.in-Ok.ensures.answered c.in-Ok.ensures.steps
-    (subst (IsSeenTold answer.status c.tell_seen.result told telling mute) c.as_slice.ensures.value
-    c.tell_seen.ensures)
+    let behind = c.as_str.result.now in
+    ends_told c.args.terminal _ told telling mute c.args.asked.now behind
+    (λ plain. c.as_str.ensures.value ∙ c.refused_lines-behind.ensures plain) answer.status c.tell_seen.result
+    answer.seen.items (sym c.tells_no_faults.ensures ∙ c.if-tells_no_faults.false) c.in-Ok.ensures.answered
+    c.in-Ok.ensures.steps
+    (subst (λ seen. IsSeenTold answer.status c.tell_seen.result told telling mute seen behind)
+    c.as_slice-2.ensures.value c.tell_seen.ensures)
 
 pub returns-in-Err-clause-ended : goal.returns-in-Err-clause-ended
 returns-in-Err-clause-ended g c =
