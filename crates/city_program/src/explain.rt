@@ -1,5 +1,8 @@
 //! Explains a fault behind its line: the file, the place in it, the mistake, and the repair. Explains refused scripts
 //! behind a report.
+ghost use Rattle.std.specs.Prelude.{◌≡◌, [], false, string_bytes};
+ghost use Rattle.city_program.specs.Programs.{is_explained, tells_refused};
+
 use city_desk::RunFault;
 use city_diagnostics::{explain_document, explain_ends, explain_scripts, is_refused, shown_name};
 use city_doc::ReadFault;
@@ -30,11 +33,74 @@ enum Named<'a> {
     Stream(&'static str),
 }
 
+/// The lines behind a fault's line: none if it isn't explained, or memory is short for them.
+pub(crate) fn behind_line<F: OutputFiles, R: Read, W: Write>(
+    alloc: Global,
+    terminal: bool,
+    fault: &ServeFault,
+    asked: &Asked<'_>,
+    texts: &Texts,
+    files: &F,
+    input: &Device<R>,
+    output: &Device<W>,
+) -> String
+    ensures { is_explained terminal asked.now ≡ false → string_bytes result ≡ [] }
+{
+    if !is_explained(terminal, asked) {
+        return String::new(alloc);
+    }
+    match explanation(alloc, fault, asked, texts, files, input, output) {
+        Ok(lines) => lines,
+        Err(OutOfMemory) => String::new(alloc),
+    }
+}
+
+/// Whether a fault is explained: on a terminal, and on request.
+fn is_explained(terminal: bool, asked: &Asked<'_>) -> bool
+    ensures { result ≡ is_explained terminal asked.now }
+{
+    match asked {
+        Asked::Input(options, _) | Asked::Files(options, _, _, _) | Asked::Check(options, _, _) => {
+            terminal || options.explain
+        }
+        Asked::Text(_) => terminal,
+    }
+}
+
+/// The lines of the scripts that a run refused: none if they aren't explained, or memory is short for them.
+pub(crate) fn refused_lines(
+    alloc: Global,
+    terminal: bool,
+    asked: &Asked<'_>,
+    texts: Texts,
+    ends: &[End],
+) -> String
+    ensures { tells_refused terminal asked.now ≡ false → string_bytes result ≡ [] }
+{
+    if !tells_refused(terminal, asked) {
+        return String::new(alloc);
+    }
+    match refusals(alloc, texts, ends) {
+        Ok(lines) => lines,
+        Err(OutOfMemory) => String::new(alloc),
+    }
+}
+
+/// Whether the scripts that a run refuses are explained: on a terminal, and on request.
+pub(crate) fn tells_refused(terminal: bool, asked: &Asked<'_>) -> bool
+    ensures { result ≡ tells_refused terminal asked.now }
+{
+    match asked {
+        Asked::Input(options, _) | Asked::Files(options, _, _, _) => terminal || options.explain,
+        Asked::Check(_, _, _) | Asked::Text(_) => false,
+    }
+}
+
 /// The explanation of a fault of a request: indented lines, each with its newline. Empty for a
 /// fault of neither a text nor a file.
 ///
 /// The texts are as the fault left them, and so are the files and the streams.
-pub(crate) fn explanation<F: TextFiles, R, W>(
+fn explanation<F: TextFiles, R, W>(
     alloc: Global,
     fault: &ServeFault,
     asked: &Asked<'_>,
@@ -56,7 +122,7 @@ pub(crate) fn explanation<F: TextFiles, R, W>(
 
 /// The explanation of each script that a run refused, in the order of the ends. Empty if there is none, or if the city
 /// before the run isn't kept.
-pub(crate) fn refusals(alloc: Global, texts: Texts, ends: &[End]) -> Result<String, OutOfMemory> {
+fn refusals(alloc: Global, texts: Texts, ends: &[End]) -> Result<String, OutOfMemory> {
     let Texts {
         scripts, before, ..
     } = texts;

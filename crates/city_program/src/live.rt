@@ -1,6 +1,6 @@
 //! Answers the words of a live command line.
 
-use crate::program::{MEMORY_LINE, refuse_line, tell};
+use crate::tell::{MEMORY_LINE, refuse_line, tell};
 use crate::status::Status;
 use city_model::OutOfMemory;
 use city_options::{AskedLive, LiveLine, live_by};

@@ -1,29 +1,24 @@
 //! Answers the words of a command line.
-ghost use Rattle.std.specs.Prelude.{◌≡◌, ◌++◌, ◌∷◌, [], ℕ, List, true, false, drop, map, string_bytes, option_map, IfOk};
-ghost use Rattle.std.specs.Prelude.{IfErr, OnOk};
+ghost use Rattle.std.specs.Prelude.{◌≡◌, [], ℕ, List, true, false, drop, map, string_bytes, option_map, IfOk, IfErr};
 ghost use Rattle.city_options.specs.CommandLines.{HasOptions};
-ghost use Rattle.city_serve.specs.FaultTexts.{fault_text};
-ghost use Rattle.city_program.specs.SeenTexts.{seen_text};
 ghost use Rattle.city_program.specs.declared.status.Status.{Status};
-ghost use Rattle.city_program.specs.Programs.{is_explained, IsUnanswered, IsUnansweredBy, IsLineTold, IsToldFault};
+ghost use Rattle.city_program.specs.Programs.{is_explained, IsUnanswered, IsUnansweredBy, IsToldFault};
 ghost use Rattle.city_program.specs.Programs.{HasOutputAndScripts, NamesScripts, output_of, steps_inside};
-ghost use Rattle.city_program.specs.Programs.{Ends, EndsAsked, memory_line, tells_refused};
-ghost use Rattle.city_program.specs.internal.Telling.{run_status, check_status, IsAnsweredAs, IsFaultText, IsToldAfter};
-ghost use Rattle.city_program.specs.internal.Telling.{IsSeenTold, is_check, is_withheld_at, tells_no_faults};
+ghost use Rattle.city_program.specs.Programs.{Ends, EndsAsked, tells_refused};
+ghost use Rattle.city_program.specs.internal.Telling.{run_status, check_status, IsAnsweredAs, IsToldAfter};
+ghost use Rattle.city_program.specs.internal.Telling.{is_check, is_withheld_at, tells_no_faults};
 ghost use Rattle.city_serve.specs.Steps.{Step, Takes, under_lock};
 
 use crate::check::check;
-use crate::explain::{explanation, refusals};
-use crate::seen_line::seen_line;
+use crate::explain::{behind_line, refused_lines, tells_refused};
 use crate::status::Status;
+use crate::tell::{refuse_line, tell, tell_fault, tell_seen};
 use city_crew::Gate;
 use city_desk::RunFault;
 use city_members::sequence::Sequence;
-use city_model::OutOfMemory;
 use city_model::city::City;
 use city_model::end::End;
-use city_options::command_line::{Asked, LineFault, asked_by};
-use city_serve::fault_line::fault_line;
+use city_options::command_line::{Asked, asked_by};
 use city_serve::serve::{read_input, write_output};
 use city_serve::serve_texts::serve_to;
 use city_serve::{Delivered, Device, OutputFiles, ServeFault, Text, Texts};
@@ -32,9 +27,6 @@ use std::io::{Read, Write};
 use std::mem::forget;
 use std::sync::Wait;
 use std::thread::Threads;
-
-/// Told if memory runs out.
-pub(crate) const MEMORY_LINE: &str = "cityed: out of memory\n";
 
 /// Told on a terminal if a check finds no fault.
 const NO_FAULTS: &str = "cityed: no faults\n";
@@ -153,35 +145,6 @@ fn run_asked<T: Threads + Wait + Sync, G: Gate + Sync, F: OutputFiles, R: Read, 
     }
 }
 
-/// The lines of the scripts that a run refused: none if they aren't explained, or memory is short for them.
-fn refused_lines(
-    alloc: Global,
-    terminal: bool,
-    asked: &Asked<'_>,
-    texts: Texts,
-    ends: &[End],
-) -> String
-    ensures { tells_refused terminal asked.now ≡ false → string_bytes result ≡ [] }
-{
-    if !tells_refused(terminal, asked) {
-        return String::new(alloc);
-    }
-    match refusals(alloc, texts, ends) {
-        Ok(lines) => lines,
-        Err(OutOfMemory) => String::new(alloc),
-    }
-}
-
-/// Whether the scripts that a run refuses are explained: on a terminal, and on request.
-fn tells_refused(terminal: bool, asked: &Asked<'_>) -> bool
-    ensures { result ≡ tells_refused terminal asked.now }
-{
-    match asked {
-        Asked::Input(options, _) | Asked::Files(options, _, _, _) => terminal || options.explain,
-        Asked::Check(_, _, _) | Asked::Text(_) => false,
-    }
-}
-
 /// Whether it is told that a check found no fault: on a terminal.
 fn tells_no_faults(terminal: bool, asked: &Asked<'_>, status: Status) -> bool
     ensures { result ≡ tells_no_faults status asked.now terminal }
@@ -233,40 +196,6 @@ fn tell_unanswered<F: OutputFiles, R: Read, W: Write, E: Write>(
 {
     let behind = behind_line(alloc, terminal, &fault, asked, &texts, files, input, output);
     tell_fault(alloc, &fault, behind.as_str(), errors)
-}
-
-/// The lines behind a fault's line: none if it isn't explained, or memory is short for them.
-fn behind_line<F: OutputFiles, R: Read, W: Write>(
-    alloc: Global,
-    terminal: bool,
-    fault: &ServeFault,
-    asked: &Asked<'_>,
-    texts: &Texts,
-    files: &F,
-    input: &Device<R>,
-    output: &Device<W>,
-) -> String
-    ensures { is_explained terminal asked.now ≡ false → string_bytes result ≡ [] }
-{
-    if !is_explained(terminal, asked) {
-        return String::new(alloc);
-    }
-    match explanation(alloc, fault, asked, texts, files, input, output) {
-        Ok(lines) => lines,
-        Err(OutOfMemory) => String::new(alloc),
-    }
-}
-
-/// Whether a fault is explained: on a terminal, and on request.
-fn is_explained(terminal: bool, asked: &Asked<'_>) -> bool
-    ensures { result ≡ is_explained terminal asked.now }
-{
-    match asked {
-        Asked::Input(options, _) | Asked::Files(options, _, _, _) | Asked::Check(options, _, _) => {
-            terminal || options.explain
-        }
-        Asked::Text(_) => terminal,
-    }
 }
 
 /// The result of a request, once done.
@@ -461,110 +390,4 @@ fn answer_inside<T: Threads + Wait + Sync, G: Gate + Sync, F: OutputFiles, R: Re
             Ok(run_answer(delivered, city))
         }
     }
-}
-
-/// Tells what each viewer saw, and the lines behind that. The output is written by then: if errors can't
-/// be, the status is the run's.
-fn tell_seen<E: Write>(
-    alloc: Global,
-    seen: &[Vec<u64>],
-    behind: &str,
-    status: Status,
-    errors: &mut Device<E>,
-) -> Status
-    ensures { IsSeenTold status result (E.contents errors.old.0) (E.contents errors.new.0) errors.new.1
-        seen.now behind.now }
-{
-    for (viewer, numbers) in seen.iter().enumerate() {
-        let Ok(()) = tell_viewer(alloc, viewer, numbers.as_slice(), errors) else {
-            return tell_memory(errors);
-        };
-    }
-    tell_lines(errors, behind);
-    status
-}
-
-/// Tells lines, if there are any.
-fn tell_lines<E: Write>(errors: &mut Device<E>, lines: &str)
-    ensures { IsToldAfter errors.old.1 (E.contents errors.old.0) (E.contents errors.new.0) errors.new.1 lines.now }
-{
-    if !lines.is_empty() {
-        tell(errors, lines);
-    }
-}
-
-/// Tells what a viewer saw. Out of memory, it tells nothing.
-fn tell_viewer<E: Write>(
-    alloc: Global,
-    viewer: usize,
-    seen: &[u64],
-    errors: &mut Device<E>,
-) -> Result<(), OutOfMemory>
-    ensures told { OnOk result (IsToldAfter errors.old.1 (E.contents errors.old.0) (E.contents errors.new.0)
-        errors.new.1 (seen_text viewer seen.now ++ 10 ∷ [])) }
-    ensures kept { IfErr result (λ _. errors.new ≡ errors.old) }
-{
-    let mut line = seen_line(alloc, viewer, seen)?;
-    line.push_str("\n")?;
-    tell(errors, line.as_str());
-    Ok(())
-}
-
-/// Tells why the command line is refused, or that memory ran out for it.
-pub fn refuse_line<E: Write>(alloc: Global, fault: &LineFault, errors: &mut Device<E>) -> Status
-    ensures { IsLineTold result fault.now (E.contents errors.old.0) (E.contents errors.new.0) errors.new.1 }
-{
-    match fault {
-        LineFault::Refused(text) => {
-            tell(errors, text.as_str());
-            Status::Refused
-        }
-        LineFault::OutOfMemory => tell_memory(errors),
-    }
-}
-
-/// Tells that memory ran out.
-fn tell_memory<E: Write>(errors: &mut Device<E>) -> Status
-    ensures status { result ≡ Status.Failed }
-    ensures told { IsToldAfter errors.old.1 (E.contents errors.old.0) (E.contents errors.new.0) errors.new.1
-        memory_line }
-{
-    tell(errors, MEMORY_LINE);
-    Status::Failed
-}
-
-/// Tells a fault, with its explanation behind its line. If memory is short for that, tells that
-/// memory ran out.
-fn tell_fault<E: Write>(
-    alloc: Global,
-    fault: &ServeFault,
-    behind: &str,
-    errors: &mut Device<E>,
-) -> Status
-    ensures status { result ≡ Status.Failed }
-    ensures told { (text : List ℕ) × IsFaultText fault.now behind.now text
-        × IsToldAfter errors.old.1 (E.contents errors.old.0) (E.contents errors.new.0) errors.new.1 text }
-{
-    match ended_line(alloc, fault, behind) {
-        Ok(line) => tell(errors, line.as_str()),
-        Err(OutOfMemory) => tell(errors, MEMORY_LINE),
-    }
-    Status::Failed
-}
-
-/// The line to report a fault, its newline, and the lines behind it.
-fn ended_line(alloc: Global, fault: &ServeFault, behind: &str) -> Result<String, OutOfMemory>
-    ensures { IfOk result (λ s. string_bytes s ≡ (fault_text fault.now ++ 10 ∷ []) ++ behind.now) }
-{
-    let mut line = fault_line(alloc, fault)?;
-    line.push_str("\n")?;
-    line.push_str(behind)?;
-    Ok(line)
-}
-
-/// Writes a text to errors. If that fails, only the status is left, and nobody is told.
-pub(crate) fn tell<E: Write>(errors: &mut Device<E>, text: &str)
-    ensures { IsToldAfter errors.old.1 (E.contents errors.old.0) (E.contents errors.new.0) errors.new.1 text.now }
-{
-    let _ = write_output(errors, text.as_bytes());
 }

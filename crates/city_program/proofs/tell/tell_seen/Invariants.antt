@@ -1,5 +1,5 @@
 use Rattle.city_program.proofs.Telling.{AreToldTo}
-use Rattle.city_program.proofs.program.tell_seen.Given as goal
+use Rattle.city_program.proofs.tell.tell_seen.Given as goal
 
 abbrev pub invariant-loop-viewer : goal.invariant-loop-viewer
 invariant-loop-viewer g l =

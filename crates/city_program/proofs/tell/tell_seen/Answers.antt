@@ -2,7 +2,7 @@ use Rattle.city_program.proofs.Prelude.{subst}
 use Rattle.city_program.specs.Programs.{memory_line}
 use Rattle.city_program.specs.internal.Telling.{IsToldAfter}
 use Rattle.city_program.proofs.Telling.{told_all, told_next, told_in_part}
-use Rattle.city_program.proofs.program.tell_seen.Goals as goal
+use Rattle.city_program.proofs.tell.tell_seen.Goals as goal
 
 pub loop-viewer-preserved : goal.loop-viewer-preserved
 loop-viewer-preserved g c =
