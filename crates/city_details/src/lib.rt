@@ -25,7 +25,7 @@ pub use document::{Document, ModelFault, ObjectFault};
 pub use quoted::Quoted;
 pub use refusal::names::cause_name;
 pub use refusal::past::Past;
-pub use refusal::{Refusal, RefusedAt, Sight, refusal_diagnostic};
+pub use refusal::{Refusal, RefusedAt, Sight, geometries_of, refusal_diagnostic};
 pub use refusal_text::why;
 pub use script::{ScriptsFault, script_diagnostic};
 pub use text::{TextFault, text_diagnostic};

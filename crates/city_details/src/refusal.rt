@@ -200,7 +200,7 @@ fn narrow_to(diagnostic: &mut Diagnostic, word: &str, id: &Id) -> Result<(), Out
 }
 
 /// The geometries that a command gives.
-fn geometries_of(command: &Command) -> &[Geometry] {
+pub fn geometries_of(command: &Command) -> &[Geometry] {
     match command {
         Command::Put(_, body) | Command::Add(_, body) => body.get().geometry.get().as_slice(),
         Command::Reshape(_, geometry) => geometry.get().as_slice(),

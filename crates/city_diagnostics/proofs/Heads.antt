@@ -8,7 +8,8 @@ use Rattle.city_diagnostics.proofs.Prelude.{OutOfMemory, Relations, TooLong, Unk
 use Rattle.city_scripts.specs.declared.fault.ScriptFault.{ScriptFault}
 use Rattle.city_scripts.specs.AllFaults.{rank_of as script_rank_of}
 use Rattle.city_diagnostics.specs.ScriptLines.{TellsScript, script_name_of}
-use Rattle.city_diagnostics.specs.internal.Heads.{with_head, with_named, with_script_named}
+use Rattle.city_diagnostics.specs.Warnings.{WarnsOf}
+use Rattle.city_diagnostics.specs.internal.Heads.{with_head, with_named, with_place, with_script_named}
 use Rattle.city_details.specs.Why.{worded, told_message, told_cure}
 use Rattle.city_details.proofs.Words.{message_there, cure_there}
 
@@ -156,3 +157,15 @@ script_told (ScriptFault.BadVertex n i) message cure ms =
     (codes "script") (number (unsigned n)) (codes "command") (number (unsigned i))
     is_script is_command refl in
     record { fault = all.0; named = (all.1, all.2) }
+
+-- so is a warning
+pub warned : (name : List ℕ) (n i : ℕ) (message cure : List ℕ) (ms : Members)
+    → let placed = with_place n i (worded message cure ms) in
+    WarnsOf name (object (put (codes "warning") (string name)
+    (put (codes "text") (string (codes "scripts")) placed)))
+warned name n i message cure ms = record {
+  text = simp (get_member-put, get_member-put_apart);
+  warning = simp get_member-put;
+  message = (told_message message, message_there message, simp (get_member-put, get_member-put_apart));
+  cure = (told_cure cure, cure_there cure, simp (get_member-put, get_member-put_apart));
+}

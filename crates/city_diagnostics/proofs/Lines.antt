@@ -4,6 +4,7 @@ use Rattle.city_diagnostics.proofs.Prelude.{AreLinesOf, IsLineOf, FirstLineIs, D
 use Rattle.city_diagnostics.proofs.Prelude.{compact_text, ◌+◌, ◌<◌, ◌⊎◌, arith, length, take, get_or, inl}
 use Rattle.city_diagnostics.proofs.Prelude.{inr, subst}
 use Rattle.std.proofs.lemmas.List.{length-append, take_more}
+use Rattle.city_diagnostics.specs.Warnings.{AreWarnings, Warns, WarnsOf}
 
 -- a line more
 pub one_more : {F : Type 0} (tells : F → Data → Type 0) (fs : List F) (f : F) (lines line : List ℕ)
@@ -63,3 +64,9 @@ grown {F} tells fs n f lines line more below is told this joined =
     subst (λ (s : List ℕ). AreLinesOf tells (take (n + 1) fs) s) (sym joined)
     (subst (λ (gs : List F). AreLinesOf tells gs (lines ++ line)) (sym taken)
     (one_more tells (take n fs) f lines line told this))
+
+-- a warning more
+pub one_warning_more : (lines line : List ℕ) → AreWarnings lines → IsLineOf Warns line → AreWarnings (lines ++ line)
+one_warning_more lines line told this =
+    let warns = this.1 in
+    (told.0 ++ warns.0 ∷ [], one_more WarnsOf told.0 warns.0 lines line told.1 (this.0, warns.1, this.2))

@@ -8,6 +8,7 @@ ghost use Rattle.city_diagnostics.specs.Lines.{AreLinesOf, FirstLineIs, IsLineOf
 ghost use Rattle.city_diagnostics.specs.ModelLines.{Tells};
 
 pub mod scripts;
+mod warnings;
 
 use crate::line::document_line;
 use city_details::{
@@ -18,6 +19,7 @@ use city_model::OutOfMemory;
 pub use scripts::check_scripts;
 use serde_json::Value;
 use std::alloc::Global;
+pub use warnings::warn_scripts;
 
 /// Writes a line of JSON for each fault of a document, in the order of the faults' numbers and then
 /// of the ids.

@@ -6,10 +6,11 @@ ghost use Rattle.city_scripts.specs.AllFaults.{rank_of as script_rank_of};
 ghost use Rattle.city_diagnostics.specs.Lines.{IsLineOf, IsLineOfMembers};
 ghost use Rattle.city_diagnostics.specs.ModelLines.{Tells, name_of};
 ghost use Rattle.city_diagnostics.specs.ScriptLines.{TellsScript, script_name_of};
+ghost use Rattle.city_diagnostics.specs.Warnings.{Warns};
 ghost use Rattle.city_diagnostics.specs.internal.Heads.{with_named, with_head};
 ghost use Rattle.city_diagnostics.specs.internal.Heads.{with_script_named, with_place};
 
-use city_details::{Details, Diagnostic};
+use city_details::{Details, Diagnostic, RefusedAt};
 use city_doc::ReadFault;
 use city_model::OutOfMemory;
 use city_scripts::ScriptFault;
@@ -46,6 +47,22 @@ pub fn script_line(
         script_name_of(fault),
     )?;
     add_script_named(&mut details, fault)?;
+    line_of(alloc, details)
+}
+
+/// The line of a warning about a command of scripts, with its newline.
+pub fn warning_line(
+    alloc: Global,
+    at: RefusedAt<'_>,
+    name: &str,
+    diagnostic: Diagnostic,
+) -> Result<String, OutOfMemory>
+    ensures { IfOk result (λ line. IsLineOf Warns (string_bytes line)) }
+{
+    let mut details = diagnostic.into_details()?;
+    add_place(&mut details, at.script, at.command)?;
+    details.text("text", "scripts")?;
+    details.text("warning", name)?;
     line_of(alloc, details)
 }
 

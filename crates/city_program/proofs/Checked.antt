@@ -1,9 +1,10 @@
 -- The output of a check, by the texts read.
 use Rattle.city_program.proofs.Prelude.{◌≡◌, ◌++◌, ◌∷◌, ℕ, Bool, true, false, List, [], Option, None, Some, IfSome}
-use Rattle.city_program.proofs.Prelude.{refl, sym, inl, inr, subst, Vec, Appends, Asked, ServeFault}
+use Rattle.city_program.proofs.Prelude.{refl, sym, inl, inr, subst, append-nil, Vec, Appends, Asked, ServeFault}
 use Rattle.std.proofs.Common.{Bor}
-use Rattle.city_program.specs.Checks.{AreModelLines, AreScriptsLines, AreCheckLines, AreFirstOf, HasLines, OfFiles}
+use Rattle.city_program.specs.Checks.{AreModelLines, AreScriptsLines, IsCheckOutput, AreFirstOf, HasLines, OfFiles}
 use Rattle.city_program.specs.Checks.{reading_of}
+use Rattle.city_diagnostics.specs.Warnings.{AreWarnings}
 use Rattle.city_serve.proofs.Taken.{takes_more}
 use Rattle.city_serve.specs.Served.{IsDeviceFault}
 use Rattle.city_serve.specs.Steps.{Step, Takes}
@@ -19,20 +20,51 @@ pub lines_of : (P : List ℕ → Type 0) (known : Option (List ℕ)) (read : Lis
 lines_of P None read is lines = tt
 lines_of P (Some all) read is lines = subst P is lines
 
-pub model_and_scripts : (texts : Folder) (decimals : Bool) (model scripts first behind lines : List ℕ)
-    → IfSome (texts model) (λ all. AreModelLines decimals all first)
+pub model_alone : (texts : Folder) (decimals : Bool) (model lines : List ℕ) (faulty : Bool) → HasLines faulty lines
+    → IfSome (texts model) (λ all. AreModelLines decimals all lines)
+    → OfFiles texts model None (λ all none. IsCheckOutput decimals all none faulty lines)
+model_alone texts decimals model lines faulty has of_model = alone (texts model) of_model
+  where
+    alone : (d : Option (List ℕ)) → IfSome d (λ all. AreModelLines decimals all lines)
+        → IfSome d (λ all. IsCheckOutput decimals all None faulty lines)
+    alone None m = tt
+    alone (Some all) m = record {
+      lines = lines;
+      warnings = [];
+      of_faults = record {
+        first = lines;
+        behind = [];
+        of_model = m;
+        of_scripts = refl;
+        lines_are = sym (append-nil lines);
+      };
+      faulty_is = has;
+      of_warnings = refl;
+      output_is = sym (append-nil lines);
+    }
+
+pub model_and_scripts : (texts : Folder) (decimals : Bool) (model scripts first behind lines warnings output : List ℕ)
+    (faulty : Bool) → IfSome (texts model) (λ all. AreModelLines decimals all first)
     → IfSome (texts scripts) (λ all. AreScriptsLines decimals all behind) → lines ≡ first ++ behind
-    → OfFiles texts model (Some scripts) (λ all more. AreCheckLines decimals all more lines)
-model_and_scripts texts decimals model scripts first behind lines of_model of_scripts are =
+    → HasLines faulty lines → AreWarnings warnings → output ≡ lines ++ warnings
+    → OfFiles texts model (Some scripts) (λ all more. IsCheckOutput decimals all more faulty output)
+model_and_scripts texts decimals model scripts first behind lines warnings output faulty of_model of_scripts are has
+    warns is =
     both (texts model) (texts scripts) of_model of_scripts
   where
     both : (d c : Option (List ℕ)) → IfSome d (λ all. AreModelLines decimals all first)
         → IfSome c (λ all. AreScriptsLines decimals all behind)
-        → IfSome d (λ all. IfSome c (λ more. AreCheckLines decimals all (Some more) lines))
+        → IfSome d (λ all. IfSome c (λ more. IsCheckOutput decimals all (Some more) faulty output))
     both None c m s = tt
     both (Some all) None m s = tt
-    both (Some all) (Some more) m s =
-        record { first = first; behind = behind; of_model = m; of_scripts = s; lines_are = are }
+    both (Some all) (Some more) m s = record {
+      lines = lines;
+      warnings = warnings;
+      of_faults = record { first = first; behind = behind; of_model = m; of_scripts = s; lines_are = are };
+      faulty_is = has;
+      of_warnings = warns;
+      output_is = is;
+    }
 
 -- ---- steps
 
@@ -74,7 +106,7 @@ module _ (s : Streams) (options : Options) (model : Bor (List ℕ)) (scripts : O
 pub checked_as : (s : Streams) (asked : Asked) (options : Options) (model : Bor (List ℕ))
     (scripts : Option (Bor (List ℕ))) (seen : List (Vec ℕ)) (status : Status) (faulty : Bool)
     → asked ≡ Asked.Check options model scripts → seen ≡ [] → status ≡ check_status faulty → s.after ≡ s.before
-    → OfLines s (Asked.Check options model scripts) (λ lines. HasLines faulty lines × Appends s.old s.new lines)
+    → OfLines s (Asked.Check options model scripts) faulty (Appends s.old s.new)
     → IsAnsweredAs s asked seen status
 checked_as s asked options model scripts seen status faulty asks none status_is same lines =
     let check = Asked.Check options model scripts in

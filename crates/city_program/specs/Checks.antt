@@ -10,6 +10,7 @@ use Rattle.city_scripts.specs.Faults.{ScriptTextFault}
 use Rattle.city_diagnostics.specs.Lines.{AreLinesOf, FirstLineIs}
 use Rattle.city_diagnostics.specs.ModelLines.{Tells}
 use Rattle.city_diagnostics.specs.ScriptLines.{TellsScript}
+use Rattle.city_diagnostics.specs.Warnings.{AreWarnings}
 use Rattle.city_serve.specs.Decimals.{IsGiven}
 use Rattle.city_serve.specs.Destinations.{Folder}
 use Rattle.city_serve.specs.Steps.{Step}
@@ -63,6 +64,21 @@ pub record AreCheckLines (decimals : Bool) (model : List ℕ) (scripts : Option 
 abbrev pub HasLines : Bool → List ℕ → Type 0
 HasLines true lines = lines ≢ []
 HasLines false lines = lines ≡ []
+
+-- the warnings about the scripts, if there are any
+abbrev pub AreWarningsOf : Option (List ℕ) → List ℕ → Type 0
+AreWarningsOf None warnings = warnings ≡ []
+AreWarningsOf (Some text) warnings = AreWarnings warnings
+
+-- the output of a check: the lines of all faults, if there are any, and warnings behind them
+pub record IsCheckOutput (decimals : Bool) (model : List ℕ) (scripts : Option (List ℕ)) (faulty : Bool)
+    (output : List ℕ) : Type 0 where
+  pub lines : List ℕ
+  pub warnings : List ℕ
+  pub of_faults : AreCheckLines decimals model scripts lines
+  pub faulty_is : HasLines faulty lines
+  pub of_warnings : AreWarningsOf scripts warnings
+  pub output_is : output ≡ lines ++ warnings
 
 -- the model is read, and then the scripts, if there are any
 abbrev pub reading_of : List ℕ → Option (List ℕ) → List Step

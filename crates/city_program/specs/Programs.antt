@@ -8,7 +8,7 @@ use Rattle.city_options.specs.declared.command_line.Asked.{Asked}
 use Rattle.city_options.specs.declared.command_line.LineFault.{LineFault}
 use Rattle.city_serve.specs.declared.fault.ServeFault.{ServeFault}
 use Rattle.city_program.specs.declared.status.Status.{Status}
-use Rattle.city_program.specs.Checks.{AreCheckLines, AreFirstOf, HasLines, OfFiles, reading_of}
+use Rattle.city_program.specs.Checks.{IsCheckOutput, AreFirstOf, OfFiles, reading_of}
 use Rattle.city_options.specs.CommandLines.{IsName, Line, IsLineOf, AnswersNames, AnswersOptions, AsksForText}
 use Rattle.city_options.specs.CommandLines.{HasOptions, IsShown, MeetsUnknownOption}
 use Rattle.city_serve.specs.Destinations.{Folder, IsDelivered, IsDeliveryFault, IsLockFault, goes_nowhere}
@@ -102,17 +102,17 @@ OfTexts s (Asked.Files options destination model scripts) P =
 OfTexts s (Asked.Check options model scripts) P = ⊤
 OfTexts s (Asked.Text text) P = ⊤
 
--- a property of the lines of a check, if the checked texts are known
-abbrev pub OfLines : Streams → Asked → (List ℕ → Type 0) → Type 0
-OfLines s (Asked.Check options model scripts) P =
+-- a property of the output of a check that found faults or none, if the checked texts are known
+abbrev pub OfLines : Streams → Asked → Bool → (List ℕ → Type 0) → Type 0
+OfLines s (Asked.Check options model scripts) faulty P =
     OfFiles s.before model.now (option_map (λ t. t.now) scripts) (λ document commands.
-    (lines : List ℕ) × AreCheckLines options.decimals document commands lines × P lines)
-OfLines s _ P = ⊤
+    (output : List ℕ) × IsCheckOutput options.decimals document commands faulty output × P output)
+OfLines s _ faulty P = ⊤
 
--- output has got the lines of a check, some or none, and all files are as they were
+-- output has got the lines of a check that found faults or none, and all files are as they were
 abbrev pub IsChecked : Streams → Asked → Bool → Type 0
 IsChecked s asked faulty =
-    (s.after ≡ s.before) × OfLines s asked (λ lines. HasLines faulty lines × Appends s.old s.new lines)
+    (s.after ≡ s.before) × OfLines s asked faulty (Appends s.old s.new)
 
 -- the request is done: the output of a run on the two texts went to its destination, or output has got the text. The
 -- model of a run may be withheld
@@ -152,7 +152,7 @@ IsUnansweredBy s (Asked.Files options destination model scripts) f steps =
 IsUnansweredBy s (Asked.Check options model scripts) f steps =
     IsUnread s (Asked.Check options model scripts) true f steps
     ⊎ (IsOutputCut s f × (steps ≡ reading (Asked.Check options model scripts))
-    × OfLines s (Asked.Check options model scripts) (AppendsSome s.old s.new))
+    × ((faulty : Bool) × OfLines s (Asked.Check options model scripts) faulty (AppendsSome s.old s.new)))
 IsUnansweredBy s (Asked.Text text) f steps =
     IsOutputCut s f × (steps ≡ []) × AppendsSome s.old s.new (string_bytes text)
 

@@ -1,16 +1,17 @@
-//! Tells all faults of a model and of scripts, and runs nothing.
+//! Tells all faults of a model and of scripts, and warns of scripts; runs nothing.
 
-ghost use Rattle.std.specs.Prelude.{◌≡◌, ◌⊎◌, ◌∷◌, [], true, List, ℕ, option_map, IfOk, IfErr, IfSome, OnOk};
+ghost use Rattle.std.specs.Prelude.{◌≡◌, ◌⊎◌, ◌∷◌, [], true, Bool, List, ℕ, option_map, IfOk, IfErr, IfSome, OnOk};
 ghost use Rattle.std.specs.Io.KnownBytes.{Appends, Keeps};
 ghost use Rattle.city_serve.specs.declared.fault.ServeFault.{ServeFault};
-ghost use Rattle.city_program.specs.Checks.{AreCheckLines, AreModelLines, AreScriptsLines, HasLines, IsJudged};
+ghost use Rattle.city_diagnostics.specs.Warnings.{AreWarnings};
+ghost use Rattle.city_program.specs.Checks.{IsCheckOutput, AreModelLines, AreScriptsLines, IsJudged};
 ghost use Rattle.city_program.specs.Checks.{AreFirstOf, OfFiles, reading_of};
 ghost use Rattle.city_program.specs.internal.Telling.{MayRead};
 ghost use Rattle.city_serve.specs.Steps.{Step, Takes};
 ghost use Rattle.city_serve.specs.Served.{IsDeviceFault};
 ghost use Rattle.city_serve.specs.ServedTexts.{AppendsSome};
 
-use city_diagnostics::{check_document, check_scripts};
+use city_diagnostics::{check_document, check_scripts, warn_scripts};
 use city_model::OutOfMemory;
 use city_serve::serve::write_output;
 use city_serve::{Device, ServeFault, Text, TextFiles, Texts, encode_text};
@@ -18,7 +19,7 @@ use std::alloc::Global;
 use std::io::Write;
 
 /// Writes a line for each fault of the model, then for each of the scripts if there are any, and
-/// says whether there is a line.
+/// warnings behind them. Says whether there is a fault.
 ///
 /// The model is read to its end before the scripts are opened. Nothing is written before all lines
 /// are known, and each text is let go once its lines are.
@@ -33,8 +34,8 @@ pub(crate) fn check<F: TextFiles, W: Write>(
 ) -> Result<bool, ServeFault>
     ensures checked { IfOk result (λ faulty.
         OfFiles (F.text files.old) model.now (option_map (λ s. s.now) scripts.entry)
-        (λ document commands. (lines : List ℕ) × AreCheckLines decimals document commands lines
-        × (HasLines faulty lines × Appends (W.contents output.old.0) (W.contents output.new.0) lines))) }
+        (λ document commands. (lines : List ℕ) × IsCheckOutput decimals document commands faulty lines
+        × Appends (W.contents output.old.0) (W.contents output.new.0) lines)) }
     ensures texts { F.text files.new ≡ F.text files.old }
     ensures steps { OnOk result (Takes (F.steps files.old) (F.steps files.new)
         (reading_of model.now (option_map (λ s. s.now) scripts.entry))) }
@@ -43,18 +44,18 @@ pub(crate) fn check<F: TextFiles, W: Write>(
         × AreFirstOf (reading_of model.now (option_map (λ s. s.now) scripts.entry)) steps)
         ⊎ ((f ≡ ServeFault.Write) × (output.new.1 ≡ true)
         × (steps ≡ reading_of model.now (option_map (λ s. s.now) scripts.entry))
-        × OfFiles (F.text files.old) model.now (option_map (λ s. s.now) scripts.entry)
-        (λ document commands. (lines : List ℕ) × AreCheckLines decimals document commands lines
-        × AppendsSome (W.contents output.old.0) (W.contents output.new.0) lines)))) }
+        × ((faulty : Bool) × OfFiles (F.text files.old) model.now (option_map (λ s. s.now) scripts.entry)
+        (λ document commands. (lines : List ℕ) × IsCheckOutput decimals document commands faulty lines
+        × AppendsSome (W.contents output.old.0) (W.contents output.new.0) lines))))) }
 {
-    let lines = all_lines(alloc, files, texts, decimals, model, scripts)?;
+    let (lines, faulty) = all_lines(alloc, files, texts, decimals, model, scripts)?;
     if !write_output(output, lines.as_slice()) {
         return Err(ServeFault::Write);
     }
-    Ok(!lines.is_empty())
+    Ok(faulty)
 }
 
-/// The lines of all faults of the model and the scripts.
+/// The lines of all faults of the model and the scripts, and the warnings behind them; and whether there is a fault.
 fn all_lines<F: TextFiles>(
     alloc: Global,
     files: &mut F,
@@ -62,9 +63,9 @@ fn all_lines<F: TextFiles>(
     decimals: bool,
     model: &str,
     scripts: Option<&str>,
-) -> Result<Vec<u8>, ServeFault>
+) -> Result<(Vec<u8>, bool), ServeFault>
     ensures lines { IfOk result (λ v. OfFiles (F.text files.old) model.now (option_map (λ s. s.now) scripts.entry)
-        (λ document commands. AreCheckLines decimals document commands v.items)) }
+        (λ document commands. IsCheckOutput decimals document commands v.1 v.0.items)) }
     ensures texts { F.text files.new ≡ F.text files.old }
     ensures steps { OnOk result (Takes (F.steps files.old) (F.steps files.new)
         (reading_of model.now (option_map (λ s. s.now) scripts.entry))) }
@@ -74,11 +75,14 @@ fn all_lines<F: TextFiles>(
 {
     let mut lines = model_lines(alloc, files, texts, decimals, model)?;
     let Some(scripts) = scripts else {
-        return Ok(lines);
+        let faulty = !lines.is_empty();
+        return Ok((lines, faulty));
     };
-    let more = more_lines(alloc, files, texts, decimals, scripts)?;
+    let (more, warnings) = more_lines(alloc, files, texts, decimals, scripts)?;
     lines.extend_from_slice(more.as_slice())?;
-    Ok(lines)
+    let faulty = !lines.is_empty();
+    lines.extend_from_slice(warnings.as_slice())?;
+    Ok((lines, faulty))
 }
 
 /// The lines of all faults of the model.
@@ -101,16 +105,17 @@ fn model_lines<F: TextFiles>(
     Ok(lines)
 }
 
-/// The lines of all faults of the scripts.
+/// The lines of all faults of the scripts, and the warnings.
 fn more_lines<F: TextFiles>(
     alloc: Global,
     files: &mut F,
     texts: &mut Texts,
     decimals: bool,
     scripts: &str,
-) -> Result<Vec<u8>, ServeFault>
+) -> Result<(Vec<u8>, Vec<u8>), ServeFault>
     ensures lines { IfOk result (λ v. IfSome (F.text files.old scripts.now)
-        (λ all. AreScriptsLines decimals all v.items)) }
+        (λ all. AreScriptsLines decimals all v.0.items)) }
+    ensures warnings { IfOk result (λ v. AreWarnings v.1.items) }
     ensures texts { F.text files.new ≡ F.text files.old }
     ensures steps { OnOk result (Takes (F.steps files.old) (F.steps files.new) (Step.Read scripts.now ∷ [])) }
     ensures fault { IfErr result (λ f. IsDeviceFault true f
@@ -132,14 +137,20 @@ fn document_lines(alloc: Global, decimals: bool, text: &mut Text) -> Result<Vec<
     Ok(lines)
 }
 
-/// Returns the lines of all faults of scripts, and lets them go.
-fn scripts_lines(alloc: Global, decimals: bool, text: &mut Text) -> Result<Vec<u8>, OutOfMemory>
-    ensures { IfOk result (λ v. AreScriptsLines decimals text.old.bytes.items v.items) }
+/// Returns the lines of all faults of scripts, and the warnings; lets the scripts go.
+fn scripts_lines(
+    alloc: Global,
+    decimals: bool,
+    text: &mut Text,
+) -> Result<(Vec<u8>, Vec<u8>), OutOfMemory>
+    ensures lines { IfOk result (λ v. AreScriptsLines decimals text.old.bytes.items v.0.items) }
+    ensures warnings { IfOk result (λ v. AreWarnings v.1.items) }
 {
     judge(alloc, decimals, text)?;
     let lines = check_scripts(alloc, text.bytes.as_slice(), text.is_given())?;
+    let warnings = warn_scripts(alloc, text.bytes.as_slice())?;
     text.let_go(alloc);
-    Ok(lines)
+    Ok((lines, warnings))
 }
 
 /// Prepares a text for judging: if numbers of any form are taken, it is encoded as for a run.
