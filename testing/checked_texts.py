@@ -46,17 +46,23 @@ def agree(program, document, scripts, decimals, wanted):
     if not tells(answer, wanted):
         raise Different(document, scripts, answer, [decimals, wanted])
     refused = run_refused(program, document, scripts, options)
-    if refused != (fault_line(wanted[0]) if wanted else None):
-        raise Different(document, scripts, refused, wanted[:1])
+    faults = list(filter(is_fault, wanted))
+    if refused != (fault_line(faults[0]) if faults else None):
+        raise Different(document, scripts, refused, faults[:1])
 
 
 def tells(answer, wanted):
     """Whether a check has answered with the wanted lines, and nothing else."""
     status, output, error = answer
-    if (status, error) != (1 if wanted else 0, b"") or not is_of_lines(output):
+    if (status, error) != (1 if any(map(is_fault, wanted)) else 0, b"") or not is_of_lines(output):
         return False
     lines = [json.loads(each) for each in output.splitlines()]
     return len(lines) == len(wanted) and all(map(is_told, lines, wanted))
+
+
+def is_fault(line):
+    """Whether a line tells a fault, not a warning."""
+    return "number" in line
 
 
 def is_of_lines(output):

@@ -1,7 +1,7 @@
 """What `cityed --check` tells of a text of scripts, found a second time, in plain Python: see diagnostics.py."""
 
 from commands import MOST_COMMANDS, MOST_SCRIPTS
-from diagnostics import bad_vertex, check_document, line, read, tree_faults
+from diagnostics import bad_vertex, check_document, line, neighbours, open_shell, read, surfaces_of, tree_faults
 from json_tree import are_triples
 
 ENDS = ("commit", "abort")
@@ -58,7 +58,47 @@ def check_scripts(text, decimals=False):
                 details = bad_vertex(shaped_in(command), len(script.get("vertices", [])))
                 if details:
                     misplaced.append(line("scripts", 8, "BadVertex", script=number, command=place, **details))
-    return lines + misplaced
+    return lines + misplaced or warnings(tree)
+
+
+def warnings(scripts):
+    """The lines of commands that are refused whatever the model holds, in scripts without a fault."""
+    lines = []
+    for number, script in enumerate(scripts):
+        for place, command in enumerate(script["commands"]):
+            shaped = shaped_in(command)
+            for name, find in (("ShortRing", short_ring), ("SameTwice", same_twice), ("OpenShell", open_shell)):
+                details = find(shaped, script.get("vertices", []))
+                if details:
+                    where = {"script": number, "command": place, "object": shaped_id(command)}
+                    there = {key: value for key, value in details.items() if value is not None}
+                    lines.append({"text": "scripts", "warning": name, **where, **there})
+                    break
+    return lines
+
+
+def shaped_id(command):
+    """The id of a put, an add or a reshape."""
+    return next(command[name] for name in ("put", "add", "reshape") if name in command)
+
+
+def short_ring(obj, vertices):
+    for place, rings in surfaces_of(obj):
+        if not rings:
+            return {**place, "rule": "no ring"}
+        for ring, positions in enumerate(rings):
+            if len(positions) < 3:
+                return {**place, "ring": ring, "rule": "short ring", "points": len(positions)}
+    return None
+
+
+def same_twice(obj, vertices):
+    for place, rings in surfaces_of(obj):
+        for ring, positions in enumerate(rings):
+            for one, other in neighbours(positions):
+                if vertices[one] == vertices[other]:
+                    return {**place, "ring": ring, "rule": "equal neighbours", "point": vertices[one]}
+    return None
 
 
 def bad_script(script):
