@@ -100,7 +100,18 @@ def form_of_text(text):
         return "gzip"
     if text[:2] in (b"\xfe\xff", b"\xff\xfe") or 0 in text[:2]:
         return "UTF-16"
+    if any(is_feature(it) for it in text.split(b"\n", 2)[:2]):
+        return "CityJSONSeq"
     return None
+
+
+def is_feature(text):
+    """Whether a line is a line of CityJSONSeq."""
+    try:
+        tree = WrittenParser(text).whole_text()
+    except Fault:
+        return False
+    return isinstance(tree, dict) and tree.get("type") == "CityJSONFeature"
 
 
 def first_fraction(tree, path=()):

@@ -1,6 +1,7 @@
 """Common mistakes, and what has to be told of each: what mistakes.py plays."""
 
 import gzip
+import json
 from dataclasses import dataclass, field
 
 MODEL = b"""{
@@ -89,6 +90,8 @@ def of_scripts(mistake, fault, changes, **wanted):
 
 NO_PARENTS = [(b'"children": ["b12-roof"],\n', b"\n"), (b', "parents": ["b12"]', b"")]
 READ = b'{"read": "b12"}'
+ONE_LINE = json.dumps(json.loads(MODEL)).encode() + b"\n"
+FEATURE = b'{"type": "CityJSONFeature", "id": "b13", "CityObjects": {"b13": {"type": "Building"}}, "vertices": []}\n'
 COMMAND = ["script 0\\b.*command 1\\b"]
 
 CASES = [
@@ -190,6 +193,15 @@ CASES = [
     of_model(
         "a model that gzip compressed", "2 NotJson", [], texts={NAMES[0]: gzip.compress(MODEL)}, what=["gzip"],
         cure=["Decompress"], members={"fault": "NotJson", "form": "gzip"},
+    ),
+    of_model(
+        "CityJSONSeq", "2 NotJson", [], texts={NAMES[0]: ONE_LINE + FEATURE}, what=["CityJSONSeq"], cure=["cjseq collect"],
+        members={"fault": "NotJson", "form": "CityJSONSeq"},
+    ),
+    of_model(
+        "a line of CityJSONSeq", '4 NotCityJson "type"', [], texts={NAMES[0]: FEATURE}, where=["type"],
+        what=["CityJSONSeq"], cure=["cjseq collect"],
+        members={"fault": "NotCityJson", "member": "type", "given": "CityJSONFeature"},
     ),
     of_model(
         "NaN as a number", "2 NotJson", [(b'"height": 9', b'"height": NaN')],

@@ -1,6 +1,6 @@
 //! Diagnostics of texts in general.
 mod expected;
-mod form;
+pub mod form;
 mod fraction;
 mod numeral;
 
@@ -26,6 +26,9 @@ const RESTORE: &str =
 const WITHOUT_MARK: &str = "Save it in UTF-8 without a byte order mark.";
 
 const DECOMPRESS: &str = "Decompress it first, as gunzip does.";
+
+/// What to do about a line of CityJSONSeq.
+pub const COLLECT: &str = "Make one CityJSON document of the sequence, as `cjseq collect` does.";
 
 const AS_UTF8: &str = "Save it in UTF-8.";
 
@@ -56,7 +59,7 @@ pub fn text_diagnostic(
         TextFault::TooLong => {
             diagnostic.tell("The text has more than 67,108,864 bytes.", SPLIT)?;
         }
-        TextFault::NotJson => match TextForm::of(text) {
+        TextFault::NotJson => match TextForm::of(alloc, text)? {
             Some(form) => tell_form(form, &mut diagnostic)?,
             None => tell_not_json(alloc, text, is_given, &mut diagnostic)?,
         },
@@ -75,6 +78,10 @@ fn tell_form(form: TextForm, diagnostic: &mut Diagnostic) -> Result<(), OutOfMem
             WITHOUT_MARK,
         ),
         TextForm::Gzip => ("The text is compressed by gzip.", DECOMPRESS),
+        TextForm::CityJsonSeq => (
+            "The text is CityJSONSeq, which has a JSON text in each line.",
+            COLLECT,
+        ),
         TextForm::Utf16 => ("The text is in UTF-16, and JSON is read in UTF-8.", AS_UTF8),
     };
     diagnostic.tell(message, cure)

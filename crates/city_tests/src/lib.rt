@@ -18,6 +18,8 @@ macro_rules! model {
 #[cfg(test)]
 mod board;
 #[cfg(test)]
+mod copies;
+#[cfg(test)]
 mod core_calls;
 #[cfg(test)]
 mod files;

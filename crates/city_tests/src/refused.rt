@@ -3,6 +3,7 @@
 //! without memory to begin with says so and ends.
 ghost use Rattle.std.specs.Prelude.{◌≡◌, IfSome};
 
+mod copies;
 mod hands;
 
 use crate::board::{commit_next, counted, opened_to_one, shown, turn};

@@ -2,6 +2,8 @@
 use crate::diagnostic::Diagnostic;
 use crate::path::{Step, path_text};
 use crate::quoted::Quoted;
+use crate::text::COLLECT;
+use crate::text::form::FEATURE;
 use city_model::OutOfMemory;
 use city_tokens::{triple_at, triple_of};
 use serde_json::{Map, Value};
@@ -73,6 +75,12 @@ fn tell_wrong_text(
         )?;
         return Ok(());
     };
+    if name == "type" && given == FEATURE {
+        return diagnostic.tell(
+            "The document is a CityJSONFeature, as the lines of CityJSONSeq are.",
+            COLLECT,
+        );
+    }
     let given = Quoted(given);
     let wanted = if name == "type" { "CityJSON" } else { "2.0" };
     write!(
