@@ -34,7 +34,7 @@ enum Named<'a> {
 }
 
 /// The lines behind a fault's line: none if it isn't explained, or memory is short for them.
-pub(crate) fn behind_line<F: OutputFiles, R: Read, W: Write>(
+pub(crate) fn behind_line<F: TextFiles, R, W>(
     alloc: Global,
     terminal: bool,
     fault: &ServeFault,
