@@ -1,4 +1,5 @@
 pub mod Among
+pub mod Asking
 pub mod Ids
 pub mod LocksAsked
 pub mod Once
