@@ -1,19 +1,13 @@
 //! The holders of each locked id.
-ghost use Rattle.std.specs.Prelude.{◌≡◌, ℕ, List, cond, OnOk, OnErr, None, Some, [], true, is_some};
-ghost use Rattle.std.specs.Ordering.{nat_cmp};
-ghost use Rattle.std.specs.Cmp.Lexicographic.{slice_cmp};
-ghost use Rattle.std.specs.BTreeMap.{get};
-ghost use Rattle.city_locks.specs.Holders.{with_holder, without};
+ghost use Rattle.std.specs.Prelude.{◌≡◌, ℕ, List, cond, [], true, is_some};
+ghost use Rattle.city_locks.specs.Holders.{without};
 ghost use Rattle.city_model.specs.CityMap.{same_id, has_id};
 ghost use Rattle.city_locks.specs.Locks.{holders_of, answer_of, mode_of};
 
 use crate::answer::Answer;
 use crate::holders::Holders;
-use city_members::copied::Copied;
 use city_members::text::Id;
-use city_model::OutOfMemory;
 use city_model::mode::Mode;
-use std::alloc::Global;
 use std::collections::BTreeMap;
 
 /// The answer to an asker of the id.

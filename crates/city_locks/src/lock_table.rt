@@ -1,17 +1,15 @@
 //! The lock table.
 ghost use Rattle.std.specs.Prelude.{◌≡◌, ◌≢◌, ℕ, List, ◌==◌, ◌&&◌, cond, OnOk, OnErr, IfOk, None, Some, [], ◌∷◌};
 ghost use Rattle.std.specs.Prelude.{true, is_some, option_map};
-ghost use Rattle.std.specs.Ordering.{nat_cmp};
-ghost use Rattle.std.specs.Cmp.Lexicographic.{slice_cmp};
-ghost use Rattle.std.specs.BTreeMap.{get};
 ghost use Rattle.city_model.specs.declared.mode.Mode.{Mode};
 ghost use Rattle.city_model.specs.Chunks.{ids_left};
 ghost use Rattle.city_model.specs.Meaning.{exclusively};
 ghost use Rattle.city_locks.specs.Asking.{Asked, first_answer, first_ungranted};
 ghost use Rattle.city_locks.specs.Mode.{stronger};
-ghost use Rattle.city_locks.specs.Holders.{with_holder, without};
+ghost use Rattle.city_locks.specs.Holders.{answer_among, mode_among, with_holder, without};
 ghost use Rattle.city_model.specs.CityMap.{same_id, has_id};
 ghost use Rattle.city_locks.specs.Locks.{holders_of, answer_of, mode_of, Lawful, HoldOnce};
+ghost use Rattle.city_locks.specs.internal.Asks.{Asks, AsksAmong, ListsAlso};
 ghost use Rattle.city_locks.specs.internal.Listing.{ids_of, IsListed};
 ghost use Rattle.city_locks.specs.WaitDie.{IsWaitDie, IsInConflict};
 
