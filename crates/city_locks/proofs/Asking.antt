@@ -3,10 +3,7 @@ use Rattle.city_locks.proofs.Prelude.{◌≡◌, ◌≢◌, ℕ, cond, List, [],
 use Rattle.city_locks.proofs.Prelude.{Mode, Answer, Granted, Wait, Die, Holder, answer_among, mode_among, with_holder}
 use Rattle.city_locks.proofs.Prelude.{Locks, holders_of, answer_of, mode_of, same_id, has_id, ids_of, is_at}
 use Rattle.std.proofs.Common.{◌⊎◌, inl, inr, subst, nat_cmp, true, OnOk}
-use Rattle.std.proofs.lemmas.Cmp.{nat_list_cmp_total}
-use Rattle.std.proofs.lemmas.Map.Lookups.{btree_map_from_get, exact_bytes}
-use Rattle.std.specs.BTreeMap.{BTreeMap, IsOrdered, get}
-use Rattle.std.specs.Cmp.Lexicographic.{slice_cmp}
+use Rattle.std.specs.BTreeMap.{BTreeMap}
 use Rattle.city_locks.specs.internal.Asks.{Adds, Asks, AsksAmong, ListsAlso}
 use Rattle.city_locks.specs.internal.Listing.{IsListed}
 use Rattle.city_locks.proofs.Tables.{listed_added, listed_also}
@@ -54,9 +51,3 @@ module _ {s : ℕ} {id : List ℕ} {m : Mode} {E : Type 0} {v w : Locks} where
       asked_keeps (λ t. IsListed t j) (Ok a) k (listed_also v l j i more)
       (λ g adds. listed_added adds l j i more (own g))
   asked_listed (Err e) l j k i more own = subst (λ t. IsListed t j) (sym k.err) (listed_also v l j i more)
-
--- two tables that are looked up the same are the same
-pub same_entries : (m n : BTreeMap (List ℕ) (List Holder)) → IsOrdered (slice_cmp nat_cmp) m
-    → IsOrdered (slice_cmp nat_cmp) n
-    → ((q : List ℕ) → get (slice_cmp nat_cmp) m q ≡ get (slice_cmp nat_cmp) n q) → m.entries ≡ n.entries
-same_entries m n s t h = btree_map_from_get nat_list_cmp_total m n s t h (λ x y e. exact_bytes x y e)

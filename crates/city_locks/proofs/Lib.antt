@@ -5,3 +5,4 @@ pub mod LocksAsked
 pub mod Once
 pub mod Prelude
 pub mod Tables
+pub mod Written

@@ -3,7 +3,8 @@ use Rattle.city_locks.proofs.Prelude.{◌≡◌, ℕ, ◌==◌, ◌&&◌, cond, 
 use Rattle.city_locks.proofs.Prelude.{◌+◌, ◌<◌, length, take, get_or, is_at, Mode, Granted, stronger, with_holder}
 use Rattle.city_locks.proofs.Prelude.{without, same_id, has_id, Locks, holders_of, answer_of, mode_of, Lawful, ids_of}
 use Rattle.city_locks.proofs.Prelude.{same_id_true, same_id_itself}
-use Rattle.std.proofs.Common.{nat_cmp}
+use Rattle.std.proofs.Common.{nat_cmp, subst, sym, unwrap_or}
+use Rattle.std.specs.Map.{lookup}
 use Rattle.std.specs.Prelude.{if◌then◌else◌}
 use Rattle.std.specs.BTreeMap.{BTreeMap, get}
 use Rattle.city_locks.specs.Locks.{HoldOnce}
@@ -41,6 +42,13 @@ module _ {v w : Locks} {s : ℕ} {id : List ℕ} {m : Mode} (h : Adds v w s id m
 -- each lock stays listed
 pub listed_also : (v : Locks) (l k : BTreeMap ℕ (List (List ℕ))) → IsListed v l → ListsAlso l k → IsListed v k
 listed_also v l k i more = record { listed = λ t q x. more.listed t q (i.listed t q x) }
+
+-- the lists as they were
+pub lists_same : (l k : BTreeMap ℕ (List (List ℕ))) → k.entries ≡ l.entries → ListsAlso l k
+lists_same l k e = record {
+  listed = λ t q x.
+      subst (λ (es : List (ℕ × List (List ℕ))). has_id (unwrap_or (lookup (is_at (nat_cmp t)) es) []) q ≡ true) (sym e) x;
+}
 
 -- an id listed at its stamp, last: it is there, and the others stay listed
 pub listed_last : (l k : BTreeMap ℕ (List (List ℕ))) (s : ℕ) (id : List ℕ) →
