@@ -1,5 +1,5 @@
 -- What asking for a lock does to a table, and to the holders of the id.
-use Rattle.std.specs.Prelude.{◌≡◌, ◌≢◌, ◌×◌, ℕ, List, cond, true, None, Result, IfOk, OnOk, OnErr}
+use Rattle.std.specs.Prelude.{◌≡◌, ◌≢◌, ℕ, List, cond, true, None, Result, IfOk, OnOk, OnErr}
 use Rattle.std.specs.BTreeMap.{BTreeMap}
 use Rattle.city_model.specs.CityMap.{same_id, has_id}
 use Rattle.city_model.specs.declared.mode.Mode.{Mode}
