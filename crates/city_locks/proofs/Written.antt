@@ -1,10 +1,10 @@
 -- A map in which the value that is there was written.
 use Rattle.std.proofs.Common.{◌≡◌, ℕ, List, Bool, true, false, Some, cond, ap, sym, ◌∙◌, refl, nat_cmp}
-use Rattle.std.proofs.Common.{Ordering, Less, Equal, Greater}
+use Rattle.std.proofs.Common.{Ordering, Less, Equal, Greater, is_eq}
 use Rattle.std.proofs.lemmas.Cmp.{nat_cmp_total, nat_list_cmp_total}
 use Rattle.std.proofs.lemmas.Map.Lookups.{CmpEqualImpliesEq, btree_map_from_get, exact_bytes}
 use Rattle.std.specs.BTreeMap.{BTreeMap, IsOrdered, get, is_at}
-use Rattle.std.specs.Cmp.{IsTotalOrder, is_eq}
+use Rattle.std.specs.Cmp.{IsTotalOrder}
 use Rattle.std.specs.Cmp.Lexicographic.{slice_cmp}
 use Rattle.std.specs.FinMap.{nat_cmp-IsAntisymmetric}
 use Rattle.city_members.proofs.Ids.{bool_cases}
