@@ -1,8 +1,8 @@
 -- A table after a lock was asked for.
-use Rattle.city_locks.proofs.Prelude.{◌≡◌, ◌≢◌, ℕ, cond, List, [], Result, Ok, None, Some, arith, ap, sym, ◌∙◌, refl}
+use Rattle.city_locks.proofs.Prelude.{◌≡◌, ◌≢◌, ℕ, cond, List, [], Result, Ok, None, arith, sym, refl}
 use Rattle.city_locks.proofs.Prelude.{Mode, Answer, Granted, Wait, Die, Holder, answer_among, mode_among, with_holder}
-use Rattle.city_locks.proofs.Prelude.{Locks, holders_of, answer_of, mode_of, same_id, has_id, ids_of, is_at}
-use Rattle.std.proofs.Common.{◌⊎◌, inl, inr, subst, nat_cmp, true, OnOk, Err}
+use Rattle.city_locks.proofs.Prelude.{Locks, holders_of, answer_of, mode_of, same_id, has_id, ids_of}
+use Rattle.std.proofs.Common.{◌⊎◌, inl, inr, subst, true, OnOk, Err}
 use Rattle.std.specs.BTreeMap.{BTreeMap}
 use Rattle.city_locks.specs.internal.Asks.{Adds, Asks, AsksAmong, ListsAlso}
 use Rattle.city_locks.specs.internal.Listing.{IsListed}

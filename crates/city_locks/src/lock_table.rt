@@ -262,7 +262,9 @@ fn ask_at(
             ask_among(there, locked, alloc, stamp, id, mode)
         }
         Ok(Entry::Vacant(place)) => {
-            let first = first_holder(locked, alloc, stamp, id, mode)?;
+            let Ok(first) = first_holder(locked, alloc, stamp, id, mode) else {
+                return Err(OutOfMemory);
+            };
             place.insert(first);
             Ok(Answer::Granted)
         }

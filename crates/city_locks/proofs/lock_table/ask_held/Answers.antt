@@ -8,7 +8,7 @@ pub returns-in-Some : goal.returns-in-Some
 returns-in-Some c =
     let here : holders_of c.args.holders.now.entries c.args.id.now ≡ c.in-Some.there.now = search rules in
     let asks : Asks c.args.stamp c.args.id.now c.args.mode c.ask_among.result c.args.holders.now.entries
-        (c.get_mut.follows.lender c.ask_among.new.there).entries =
+    (c.get_mut.follows.lender c.ask_among.new.there).entries =
     asked_there c.ask_among.result c.ask_among.ensures.asks here (λ q. search rules) (λ e. search (rules, set_value_same)) in
     record {
       asks = asks;
