@@ -2,7 +2,7 @@
 use Rattle.std.specs.Prelude.{◌≡◌, ◌<◌, ◌≤◌, ◌==◌, ◌+◌, ◌-◌, ◌^◌, ◌++◌, ℕ, List, [], ◌∷◌, Bool, true, false, Option, None}
 use Rattle.std.specs.Prelude.{Some, is_some, option_map, length, take, if◌then◌else◌, refl, Result, Ok, Err}
 use Rattle.std.specs.Prelude.{min}
-use Rattle.std.proofs.Common.{sym, ◌∙◌, ap, subst, arith, inl, inr}
+use Rattle.std.proofs.Common.{sym, ◌∙◌, ap, ap₂, subst, arith, inl, inr}
 use Rattle.std.proofs.lemmas.Bool.{cases_eq, ne_eqb, eq-eqb, false≢true}
 use Rattle.std.proofs.lemmas.List.{length-append}
 use Rattle.city_model.specs.declared.command.Command.{Command}
@@ -14,18 +14,15 @@ use Rattle.city_model.specs.Marks.{Snapshot, unmarked}
 use Rattle.city_model.specs.Relations.{IsLawful, HasNoOrphan}
 use Rattle.city_model.specs.Runs.{model_after}
 use Rattle.city_model.specs.Standing.{Answered}
-use Rattle.city_txn.specs.Acting.{IsAct, with_step}
-use Rattle.city_txn.specs.declared.txn_core.Step.{Step}
-use Rattle.city_txn.specs.declared.txn_core.Step.TheVariants as steps
-use Rattle.city_txn.specs.declared.txn_core.TxnFault.{TxnFault}
-use Rattle.city_txn.specs.declared.txn_core.TxnFault.TheVariants as faults
 use Rattle.city_txn.specs.CoreState.{CoreState, committed, view, snapshot, is_open, held, StandsUnderLocks, KeepsOthers}
 use Rattle.city_txn.specs.CoreState.{IsTransactionEnd, IsRolledBack}
 use Rattle.city_session.specs.Grown.{Grown, Closed, max_commands, unrefused, with_reply, scripts_of, ends_from}
 use Rattle.city_session.specs.Grown.{is_full_there, IsTold}
 use Rattle.city_session.specs.Live.{SessionState, grown_at, IsStanding, IsLive}
-use Rattle.city_session.specs.Acting.{GrowsTo, IsActed, HasEnded, IsForgotten}
+use Rattle.city_session.specs.Acting.{GrowsTo, told_after, IsAnswered, IsActed, HasEnded, IsForgotten}
+use Rattle.city_session.specs.declared.acted.Acted.{Acted}
 use Rattle.city_session.specs.declared.acted.Acted.TheVariants as acts
+use Rattle.city_session.specs.internal.Answering.{IsAnsweredIn}
 use Rattle.city_session.specs.internal.Recorded.{left, left_by_all, IsRunAt, IsRecorded}
 use Rattle.city_session.proofs.AsScripts.{trace_of, ends_as, leads_to, ends_last, with_end}
 use Rattle.city_session.proofs.Ran.{left_by_more, run_more, told_at, within_at, scripted_at, lawful_at, are_scripts}
@@ -178,40 +175,6 @@ grows_as_told : (stamp : ℕ) (growing : List (ℕ × Grown))
     → GrowsTo stamp (option_map (λ g. g) (grown_at growing stamp)) growing growing
 grows_as_told stamp growing = grows_same stamp _ growing (map_same (grown_at growing stamp))
 
--- one that was done
-pub act_done : {start : CityValue} {closed : List Closed} {ended stamps : ℕ} {growing after : List (ℕ × Grown)}
-    {core new : CoreState} {stamp : ℕ} {command : Command} {step : Step} {reply : Reply}
-    → IsRecorded start closed ended stamps growing core → IsAct stamp command (Ok step) core new
-    → step ≡ steps.Done reply
-    → GrowsTo stamp (option_map (with_reply command reply) (grown_at growing stamp)) growing after
-    → IsRecorded start closed ended stamps after new
-act_done {new = new} {stamp = stamp} {command = command} {reply = reply} r k is grows =
-    acted r stamp (with_reply command reply) (λ g. refl) k.keeps k.city k.opened grows (λ g st.
-    subst (λ (x : Step). StandsUnderLocks new stamp (with_step (Ok x) command g.told)) is (k.own g.told st))
-
--- any other
-pub act_other : {start : CityValue} {closed : List Closed} {ended stamps : ℕ} {growing : List (ℕ × Grown)}
-    {core new : CoreState} {stamp : ℕ} {command : Command} {result : Result Step TxnFault}
-    → IsRecorded start closed ended stamps growing core → IsAct stamp command result core new
-    → ((done : List Answered) → with_step result command done ≡ done)
-    → IsRecorded start closed ended stamps growing new
-act_other {growing = growing} {new = new} {stamp = stamp} r k stays =
-    acted r stamp (λ g. g) (λ g. refl) k.keeps k.city k.opened
-    (grows_as_told stamp growing)
-    (λ g st. subst (StandsUnderLocks new stamp) (stays g.told) (k.own g.told st))
-
-pub act_waits : {start : CityValue} {closed : List Closed} {ended stamps : ℕ} {growing : List (ℕ × Grown)}
-    {core new : CoreState} {stamp : ℕ} {command : Command} {step : Step}
-    → IsRecorded start closed ended stamps growing core → IsAct stamp command (Ok step) core new → step ≡ steps.Wait
-    → IsRecorded start closed ended stamps growing new
-act_waits {command = command} r k is = act_other r k (λ done. ap (λ (x : Step). with_step (Ok x) command done) is)
-
-pub act_dies : {start : CityValue} {closed : List Closed} {ended stamps : ℕ} {growing : List (ℕ × Grown)}
-    {core new : CoreState} {stamp : ℕ} {command : Command} {step : Step}
-    → IsRecorded start closed ended stamps growing core → IsAct stamp command (Ok step) core new → step ≡ steps.Die
-    → IsRecorded start closed ended stamps growing new
-act_dies {command = command} r k is = act_other r k (λ done. ap (λ (x : Step). with_step (Ok x) command done) is)
-
 -- ---- the open ones looked up the same
 
 pub regrown : {start : CityValue} {closed : List Closed} {ended stamps : ℕ} {growing after : List (ℕ × Grown)}
@@ -227,6 +190,29 @@ regrown r same = record {
   given = r.given;
   counted = r.counted;
 }
+
+-- told nothing, the open ones are looked up as before
+grown_same : (stamp : ℕ) (growing after : List (ℕ × Grown))
+    → GrowsTo stamp (option_map (λ g. g) (grown_at growing stamp)) growing after
+    → (t : ℕ) → grown_at after t ≡ grown_at growing t
+grown_same stamp growing after grows t = grows t ∙ sym (grows_as_told stamp growing t)
+
+-- a command was answered
+pub act_answered : {start : CityValue} {closed : List Closed} {ended stamps : ℕ} {growing after : List (ℕ × Grown)}
+    {core new : CoreState} {stamp : ℕ} {command : Command} {full : Bool} (answer : Acted)
+    → IsRecorded start closed ended stamps growing core → IsAnsweredIn stamp command full answer core new
+    → GrowsTo stamp (option_map (told_after command answer) (grown_at growing stamp)) growing after
+    → IsRecorded start closed ended stamps after new
+act_answered {stamp = stamp} {command = command} (acts.Replied reply) r k grows =
+    acted r stamp (with_reply command reply) (λ g. refl) k.1.keeps k.1.city k.1.opened grows (λ g. k.1.own g.told)
+act_answered {stamp = stamp} acts.Waits r k grows =
+    acted r stamp (λ g. g) (λ g. refl) k.1.keeps k.1.city k.1.opened grows (λ g. k.1.own g.told)
+act_answered {stamp = stamp} acts.Dies r k grows =
+    acted r stamp (λ g. g) (λ g. refl) k.1.keeps k.1.city k.1.opened grows (λ g. k.1.own g.told)
+act_answered {start} {closed} {ended} {stamps} {growing} {after} {core} {new} {stamp} acts.TooMany r k grows =
+    subst (IsRecorded start closed ended stamps after) (sym k.1) (regrown r (grown_same stamp growing after grows))
+act_answered {stamp = stamp} acts.NoMemory r k grows =
+    acted r stamp (λ g. g) (λ g. refl) k.1.keeps k.1.city k.1.opened grows (λ g. k.1.own g.told)
 
 none_from : (o : Option Grown) → is_some o ≡ false → o ≡ None
 none_from None h = refl
@@ -364,6 +350,35 @@ abbrev pub state : CityValue → List Closed → List (ℕ × Grown) → ℕ →
 state start closed growing stamps core =
     record { start = start; closed = closed; growing = growing; stamps = stamps; core = core }
 
+module _ {stamp : ℕ} {command : Command} {full : Bool} {core new : CoreState} where
+  -- only one that is full has no room
+  full_then : (answer : Acted) → IsAnsweredIn stamp command full answer core new → full ≡ true
+      → answer ≡ acts.TooMany
+  full_then (acts.Replied reply) k h = absurd (false≢true (sym k.0 ∙ h))
+  full_then acts.Waits k h = absurd (false≢true (sym k.0 ∙ h))
+  full_then acts.Dies k h = absurd (false≢true (sym k.0 ∙ h))
+  full_then acts.TooMany k h = refl
+  full_then acts.NoMemory k h = absurd (false≢true (sym k.0 ∙ h))
+
+  city_then : (answer : Acted) → IsAnsweredIn stamp command full answer core new → committed new ≡ committed core
+  city_then (acts.Replied reply) k = k.1.city
+  city_then acts.Waits k = k.1.city
+  city_then acts.Dies k = k.1.city
+  city_then acts.TooMany k = ap committed k.1
+  city_then acts.NoMemory k = k.1.city
+
+module _ {start : CityValue} {closed : List Closed} {stamps stamp : ℕ} {growing after : List (ℕ × Grown)}
+    {command : Command} {core new : CoreState} where
+  answered_then : (answer : Acted)
+      → IsAnsweredIn stamp command (is_full_there (grown_at growing stamp)) answer core new
+      → (is_full_there (grown_at growing stamp) ≡ true → after ≡ growing)
+      → IsAnswered stamp command answer (state start closed growing stamps core) (state start closed after stamps new)
+  answered_then (acts.Replied reply) k same = k.1
+  answered_then acts.Waits k same = k.1
+  answered_then acts.Dies k same = k.1
+  answered_then acts.TooMany k same = (k.0, ap₂ (λ g c. state start closed g stamps c) (same k.0) k.1)
+  answered_then acts.NoMemory k same = k.1
+
 module _ {start : CityValue} {closed : List Closed} {growing : List (ℕ × Grown)} {stamps : ℕ} {core : CoreState}
     {seen : SessionState} (run : state start closed growing stamps core ≡ seen) where
   -- a fact about the session inside, as one about what is seen of it
@@ -373,81 +388,21 @@ module _ {start : CityValue} {closed : List Closed} {growing : List (ℕ × Grow
   pub seen_open : (stamp : ℕ) → is_open seen.core stamp ≡ true → is_open core stamp ≡ true
   seen_open stamp h = ap (λ (v : SessionState). is_open v.core stamp) run ∙ h
 
-  not_both : {A : Type 0} (b : Bool) → b ≡ false → b ≡ true → A
-  not_both b f t = absurd (false≢true (sym f ∙ t))
-
-  pub seen_done : {stamp : ℕ} {command : Command} {step : Step} {reply : Reply} {after : List (ℕ × Grown)}
-      {new : CoreState} → is_full_there (grown_at growing stamp) ≡ false → IsAct stamp command (Ok step) core new
-      → step ≡ steps.Done reply
-      → GrowsTo stamp (option_map (with_reply command reply) (grown_at growing stamp)) growing after
-      → IsActed stamp command (acts.Replied reply) seen (state start closed after stamps new)
-  seen_done {stamp} {command} {step} {reply} {after} {new} room k is grows =
-      seen_as (λ v. IsActed stamp command (acts.Replied reply) v (state start closed after stamps new)) (record {
-        room = not_both _ room;
-        answered = subst (λ (x : Step). IsAct stamp command (Ok x) core new) is k;
+  -- a command was answered
+  pub seen_acted : {stamp : ℕ} {command : Command} {after : List (ℕ × Grown)} {new : CoreState} (answer : Acted)
+      → IsAnsweredIn stamp command (is_full_there (grown_at growing stamp)) answer core new
+      → GrowsTo stamp (option_map (told_after command answer) (grown_at growing stamp)) growing after
+      → (is_full_there (grown_at growing stamp) ≡ true → after ≡ growing)
+      → IsActed stamp command answer seen (state start closed after stamps new)
+  seen_acted {stamp} {command} {after} {new} answer k grows same =
+      seen_as (λ v. IsActed stamp command answer v (state start closed after stamps new)) (record {
+        room = full_then answer k;
+        answered = answered_then answer k same;
         growing = grows;
         given = refl;
         start = refl;
         closed = refl;
-        city = k.city;
-      })
-
-  module _ {stamp : ℕ} {command : Command} {new : CoreState} where
-    pub seen_waits : {step : Step} → is_full_there (grown_at growing stamp) ≡ false
-        → IsAct stamp command (Ok step) core new → step ≡ steps.Wait
-        → IsActed stamp command acts.Waits seen (state start closed growing stamps new)
-    seen_waits room k is =
-        seen_as (λ v. IsActed stamp command acts.Waits v (state start closed growing stamps new)) (record {
-          room = not_both _ room;
-          answered = subst (λ (x : Step). IsAct stamp command (Ok x) core new) is k;
-          growing = grows_as_told stamp growing;
-          given = refl;
-          start = refl;
-          closed = refl;
-          city = k.city;
-        })
-
-    pub seen_dies : {step : Step} → is_full_there (grown_at growing stamp) ≡ false
-        → IsAct stamp command (Ok step) core new → step ≡ steps.Die
-        → IsActed stamp command acts.Dies seen (state start closed growing stamps new)
-    seen_dies room k is =
-        seen_as (λ v. IsActed stamp command acts.Dies v (state start closed growing stamps new)) (record {
-          room = not_both _ room;
-          answered = subst (λ (x : Step). IsAct stamp command (Ok x) core new) is k;
-          growing = grows_as_told stamp growing;
-          given = refl;
-          start = refl;
-          closed = refl;
-          city = k.city;
-        })
-
-    pub seen_no_memory : {fault : TxnFault} → is_full_there (grown_at growing stamp) ≡ false
-        → IsAct stamp command (Err fault) core new → is_open core stamp ≡ true
-        → IsActed stamp command acts.NoMemory seen (state start closed growing stamps new)
-    seen_no_memory {fault} room k open_then =
-        let is : fault ≡ faults.OutOfMemory =
-        k.fault ∙ ap (λ b. if b then faults.OutOfMemory else faults.NotOpen stamp) open_then in
-        seen_as (λ v. IsActed stamp command acts.NoMemory v (state start closed growing stamps new)) (record {
-          room = not_both _ room;
-          answered = subst (λ (x : TxnFault). IsAct stamp command (Err x) core new) is k;
-          growing = grows_as_told stamp growing;
-          given = refl;
-          start = refl;
-          closed = refl;
-          city = k.city;
-        })
-
-  pub seen_full : {stamp : ℕ} {command : Command} → is_full_there (grown_at growing stamp) ≡ true
-      → IsActed stamp command acts.TooMany seen seen
-  seen_full {stamp} {command} full =
-      seen_as (λ v. IsActed stamp command acts.TooMany v v) (record {
-        room = λ _. refl;
-        answered = (full, refl);
-        growing = grows_as_told stamp growing;
-        given = refl;
-        start = refl;
-        closed = refl;
-        city = refl;
+        city = city_then answer k;
       })
 
   pub seen_ended : {stamp : ℕ} {after : List (ℕ × Grown)} {new : CoreState} {more : List Closed} (g : Grown)

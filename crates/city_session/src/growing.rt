@@ -1,12 +1,18 @@
 //! The open transactions of a session, by their stamps.
-ghost use Rattle.std.specs.Prelude.{◌≡◌, ◌<◌, [], None, Some, false, length, option_map, OnOk, OnErr, IfSome, MatchOption};
-ghost use Rattle.city_session.specs.Grown.{unrefused, max_commands, is_full_there, with_reply};
+ghost use Rattle.std.specs.Prelude.{◌≡◌, ◌<◌, [], None, Some, true, false, length, is_some, option_map, OnOk, OnErr};
+ghost use Rattle.std.specs.Prelude.{IfSome, MatchOption};
+ghost use Rattle.city_model.specs.Scripts.{is_end};
+ghost use Rattle.city_txn.specs.CoreState.{is_open};
+ghost use Rattle.city_session.specs.Grown.{unrefused, max_commands, is_full_there};
 ghost use Rattle.city_session.specs.Live.{grown_at};
-ghost use Rattle.city_session.specs.Acting.{GrowsTo};
+ghost use Rattle.city_session.specs.Acting.{GrowsTo, told_after};
+ghost use Rattle.city_session.specs.internal.Answering.{IsAnsweredIn};
 
+use crate::acted::Acted;
 use crate::transaction::Transaction;
 use city_model::OutOfMemory;
-use city_model::command::{Command, Reply};
+use city_model::command::Command;
+use city_txn::Core;
 use std::alloc::Global;
 use std::collections::BTreeMap;
 use std::marker::Model;
@@ -70,14 +76,20 @@ impl Growing {
         Ok(())
     }
 
-    /// Adds a reply to the transaction of the stamp, if there is one. Doesn't allocate.
-    pub fn hear(&mut self, stamp: u64, command: &Command, reply: &Reply)
-        requires { is_full_there (grown_at self.old stamp) ≡ false }
-        ensures { GrowsTo stamp (option_map (with_reply command.now reply.now) (grown_at self.old stamp)) self.old
+    /// Does a command of the stamp's transaction, which is there, in the core. The transaction is looked up once.
+    pub fn act(&mut self, core: &mut Core, stamp: u64, command: &Command) -> Acted
+        requires there { is_some (grown_at self.old stamp) ≡ true }
+        requires opened { is_open core.old stamp ≡ true }
+        requires goes_on { is_end command.now ≡ false }
+        ensures answered { IsAnsweredIn stamp command.now (is_full_there (grown_at self.old stamp)) result core.old
+            core.new }
+        ensures grows { GrowsTo stamp (option_map (told_after command.now result) (grown_at self.old stamp)) self.old
             self.new }
+        ensures full { is_full_there (grown_at self.old stamp) ≡ true → self.new ≡ self.old }
     {
-        if let Some(transaction) = self.by_stamp.get_mut(&stamp) {
-            transaction.hear(command, reply);
+        match self.by_stamp.get_mut(&stamp) {
+            Some(transaction) => transaction.act(core, stamp, command),
+            None => unreachable!(),
         }
     }
 

@@ -30,7 +30,7 @@ use city_model::city::City;
 use city_model::command::{Cause, Command};
 use city_model::id_list::Ids;
 use city_model::object::Object;
-use city_txn::{Conflict, Core, Prepared, Step};
+use city_txn::{Conflict, Core, Prepared};
 use std::alloc::Global;
 use std::marker::Model;
 
@@ -171,18 +171,7 @@ impl Session {
         requires goes_on { is_end command.now ≡ false }
         ensures { IsActed stamp command.now result self.old self.new }
     {
-        if self.growing.is_full(stamp) {
-            return Acted::TooMany;
-        }
-        match self.core.act(stamp, command) {
-            Ok(Step::Done(reply)) => {
-                self.growing.hear(stamp, command, &reply);
-                Acted::Replied(reply)
-            }
-            Ok(Step::Wait) => Acted::Waits,
-            Ok(Step::Die) => Acted::Dies,
-            Err(_) => Acted::NoMemory,
-        }
+        self.growing.act(&mut self.core, stamp, command)
     }
 
     /// Whether `act` would answer `Waits`, unless memory runs out. Doesn't allocate.

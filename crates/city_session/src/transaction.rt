@@ -1,12 +1,18 @@
 //! An open transaction.
-ghost use Rattle.std.specs.Prelude.{◌≡◌, ◌<◌, [], length, false, not};
+ghost use Rattle.std.specs.Prelude.{◌≡◌, ◌<◌, [], length, false, true, not};
 ghost use Rattle.city_model.specs.Meaning.{is_refusal};
+ghost use Rattle.city_model.specs.Scripts.{is_end};
+ghost use Rattle.city_txn.specs.CoreState.{is_open};
+ghost use Rattle.city_session.specs.Acting.{told_after};
 ghost use Rattle.city_session.specs.Grown.{unrefused, max_commands, is_full, with_reply, writes_after, writes_of};
+ghost use Rattle.city_session.specs.internal.Answering.{IsAnsweredIn};
 
 use crate::MAX_COMMANDS;
+use crate::acted::Acted;
 use crate::ghosts::told::Told;
 use crate::writes::Writes;
 use city_model::command::{Command, Reply};
+use city_txn::{Core, Step};
 use std::marker::Model;
 
 /// An open transaction of a session.
@@ -117,8 +123,29 @@ impl Transaction {
         self.commands + 1 == MAX_COMMANDS
     }
 
+    /// Does a command in the core, under the locks of its stamp, and adds the reply.
+    pub fn act(&mut self, core: &mut Core, stamp: u64, command: &Command) -> Acted
+        requires opened { is_open core.old stamp ≡ true }
+        requires goes_on { is_end command.now ≡ false }
+        ensures answered { IsAnsweredIn stamp command.now (is_full self.old) result core.old core.new }
+        ensures told { self.new ≡ told_after command.now result self.old }
+    {
+        if self.is_full() {
+            return Acted::TooMany;
+        }
+        match core.act(stamp, command) {
+            Ok(Step::Done(reply)) => {
+                self.hear(command, &reply);
+                Acted::Replied(reply)
+            }
+            Ok(Step::Wait) => Acted::Waits,
+            Ok(Step::Die) => Acted::Dies,
+            Err(_) => Acted::NoMemory,
+        }
+    }
+
     /// Adds a reply. Doesn't allocate.
-    pub fn hear(&mut self, command: &Command, reply: &Reply)
+    fn hear(&mut self, command: &Command, reply: &Reply)
         requires { is_full self.old ≡ false }
         ensures { self.new ≡ with_reply command.now reply.now self.old }
     {

@@ -152,7 +152,8 @@ fn word_command(word: &str) -> Option<Command>
 }
 
 impl FromTokens for Command {
-    const ROOM: usize = 8;
+    // (an edit and a commit)
+    const ROOM: usize = 2;
 
     ghost stands = { IsCommand };
 

@@ -1,4 +1,4 @@
-use Rattle.city_tokens.proofs.Prelude.{◌≤◌, length, ap, ◌∙◌, arith, value}
+use Rattle.city_tokens.proofs.Prelude.{◌≤◌, length, ap, arith, value}
 use Rattle.json.specs.Lex.{tokens}
 use Rattle.city_tokens.specs.tree.Texts.{max_text}
 use Rattle.city_tokens.proofs.Conversions.{whole_read}
@@ -9,5 +9,5 @@ returns g c =
     let read = c.in_ok-read.ensures in
     let short : length c.args.bytes.now ≤ max_text = grind arith in
     let text = c.in-Ok.ensures.cases in
-    let v = rw (c.in_ok-reader.ensures ∙ ap tokens text.0) at read.1 in
+    let v = rw (ap tokens text.0) at read.1 in
     (read.0, (short, (text.1, whole_read (value 127 (tokens c.args.bytes.now)) read.0 v.read)), v.whole, read.2)
