@@ -33,6 +33,7 @@ RUN = "city_scheduler::in_turn::*run_each"
 MOST_OF_A_SET = 1.3
 MOST_OF_A_SIZE = 1.1
 TIMES = 4  # a size, and so many times that size
+HANDLED = 5  # so often city_scenarios handles the requests of a session: twice one by one, and in lists of three lengths
 SCRIPTS = 100  # the scripts whose sets are counted
 SETS = (1, 40)  # the sets of a script
 ROUNDS = 40  # how often each kind of request is counted at a size
@@ -112,8 +113,8 @@ class Counted:
         return self.callgrind(f"--toggle-collect={RUN}", text, 1)[1]
 
     def of_session(self, session):
-        """The instructions of all requests of a session."""
-        return self.callgrind(f"--toggle-collect={HANDLE}", session.scenario(), 0)[1]
+        """The instructions of all requests of a session, on the average of all times that they are handled."""
+        return self.callgrind(f"--toggle-collect={HANDLE}", session.scenario(), 0)[1] / HANDLED
 
     def of_each(self, session):
         """The instructions of each request of a session."""

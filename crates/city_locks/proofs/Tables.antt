@@ -3,18 +3,20 @@ use Rattle.city_locks.proofs.Prelude.{◌≡◌, ℕ, ◌==◌, ◌&&◌, cond, 
 use Rattle.city_locks.proofs.Prelude.{◌+◌, ◌<◌, length, take, get_or, is_at, Mode, Granted, stronger, with_holder}
 use Rattle.city_locks.proofs.Prelude.{without, same_id, has_id, Locks, holders_of, answer_of, mode_of, Lawful, ids_of}
 use Rattle.city_locks.proofs.Prelude.{same_id_true, same_id_itself}
-use Rattle.std.proofs.Common.{nat_cmp, subst, sym, unwrap_or}
-use Rattle.std.specs.Map.{lookup}
+use Rattle.std.proofs.Common.{nat_cmp}
 use Rattle.std.specs.Prelude.{if◌then◌else◌}
 use Rattle.std.specs.BTreeMap.{BTreeMap, get}
 use Rattle.city_locks.specs.Locks.{HoldOnce}
-use Rattle.city_locks.specs.internal.Asks.{Adds, ListsAlso}
 use Rattle.city_locks.specs.internal.Listing.{IsListed}
 use Rattle.city_locks.proofs.Among.{mode_with, mode_without, without_absent, without_twice, lawful_with, lawful_without}
 use Rattle.city_locks.proofs.Among.{own_answers}
 use Rattle.city_locks.proofs.Once.{once_with, once_without}
 use Rattle.city_model.proofs.IdLists.{more_has, more_has_last}
 use Rattle.city_locks.proofs.Ids.{has_id_more, stamp_apart, stamp_here}
+
+-- w is v with the lock added
+pub record Adds (v w : Locks) (s : ℕ) (id : List ℕ) (m : Mode) : Type 0 where
+  pub holders : (q : List ℕ) → holders_of w q ≡ cond (same_id id q) (with_holder (holders_of v id) s m) (holders_of v q)
 
 module _ {v w : Locks} {s : ℕ} {id : List ℕ} {m : Mode} (h : Adds v w s id m) where
   pub mode_added : (t : ℕ) (q : List ℕ)
@@ -33,30 +35,18 @@ module _ {v w : Locks} {s : ℕ} {id : List ℕ} {m : Mode} (h : Adds v w s id m
   once_added o q = grind (arith, h.holders q, once_with, same_id_true)
 
   -- if the new lock is listed, each lock stays listed
-  pub listed_added : (l k : BTreeMap ℕ (List (List ℕ))) → IsListed v l → ListsAlso l k
-      → (mode_of v s id ≡ None → has_id (ids_of k s) id ≡ true) → IsListed w k
-  listed_added l k i more own = record {
-    listed = λ t q x. grind (arith, mode_added t q, i.listed t q, more.listed t q, same_id_true id q);
+  pub listed_added : (l : BTreeMap ℕ (List (List ℕ))) → IsListed v l → has_id (ids_of l s) id ≡ true → IsListed w l
+  listed_added l i own = record {
+    listed = λ t q x. grind (arith, mode_added t q, i.listed t q, same_id_true id q);
   }
 
--- each lock stays listed
-pub listed_also : (v : Locks) (l k : BTreeMap ℕ (List (List ℕ))) → IsListed v l → ListsAlso l k → IsListed v k
-listed_also v l k i more = record { listed = λ t q x. more.listed t q (i.listed t q x) }
-
--- the lists as they were
-pub lists_same : (l k : BTreeMap ℕ (List (List ℕ))) → k.entries ≡ l.entries → ListsAlso l k
-lists_same l k e = record {
-  listed = λ t q x.
-      subst (λ (es : List (ℕ × List (List ℕ))). has_id (unwrap_or (lookup (is_at (nat_cmp t)) es) []) q ≡ true) (sym e) x;
-}
-
 -- an id listed at its stamp, last: it is there, and the others stay listed
-pub listed_last : (l k : BTreeMap ℕ (List (List ℕ))) (s : ℕ) (id : List ℕ) →
+pub listed_last : (v : Locks) (l k : BTreeMap ℕ (List (List ℕ))) (s : ℕ) (id : List ℕ) →
     ((t : ℕ) → get nat_cmp k t ≡ (if is_at (nat_cmp s) t then Some (ids_of l s ++ id ∷ []) else get nat_cmp l t))
-    → (has_id (ids_of k s) id ≡ true) × ListsAlso l k
-listed_last l k s id h = (
+    → IsListed v l → (has_id (ids_of k s) id ≡ true) × IsListed v k
+listed_last v l k s id h i = (
   grind (arith, h s, stamp_here, more_has_last, same_id_itself),
-  record { listed = λ t q x. grind (arith, h t, stamp_here, stamp_apart, more_has) },
+  record { listed = λ t q x. grind (arith, h t, i.listed t q, stamp_here, stamp_apart, more_has) },
 )
 
 -- ---- the locks of a stamp taken out

@@ -1,4 +1,3 @@
 -- Specs for the crate's own clauses and proofs only.
-pub mod Asks
 pub mod Listing
 pub mod Table

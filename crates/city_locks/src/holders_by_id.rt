@@ -1,13 +1,19 @@
 //! The holders of each locked id.
-ghost use Rattle.std.specs.Prelude.{◌≡◌, ℕ, List, cond, [], true, is_some};
-ghost use Rattle.city_locks.specs.Holders.{without};
+ghost use Rattle.std.specs.Prelude.{◌≡◌, ℕ, List, cond, OnOk, OnErr, None, Some, [], true, is_some};
+ghost use Rattle.std.specs.Ordering.{nat_cmp};
+ghost use Rattle.std.specs.Cmp.Lexicographic.{slice_cmp};
+ghost use Rattle.std.specs.BTreeMap.{get};
+ghost use Rattle.city_locks.specs.Holders.{with_holder, without};
 ghost use Rattle.city_model.specs.CityMap.{same_id, has_id};
 ghost use Rattle.city_locks.specs.Locks.{holders_of, answer_of, mode_of};
 
 use crate::answer::Answer;
 use crate::holders::Holders;
+use city_members::copied::Copied;
 use city_members::text::Id;
+use city_model::OutOfMemory;
 use city_model::mode::Mode;
+use std::alloc::Global;
 use std::collections::BTreeMap;
 
 /// The answer to an asker of the id.
@@ -28,6 +34,68 @@ pub fn mode_at(held: &BTreeMap<Id, Holders>, stamp: u64, id: &Id) -> Option<Mode
         Some(holders) => holders.mode(stamp),
         None => None,
     }
+}
+
+/// Makes the stamp a holder of the id; `is_held` says whether the id has holders. If memory runs
+/// out, all holders stay as they are; this happens only if the stamp doesn't hold the id yet.
+pub fn grant(
+    held: &mut BTreeMap<Id, Holders>,
+    alloc: Global,
+    stamp: u64,
+    id: &Id,
+    mode: Mode,
+    is_held: bool,
+) -> Result<(), OutOfMemory>
+    requires { is_held ≡ is_some (get (slice_cmp nat_cmp) held.old id.now) }
+    ensures ok { OnOk result ((q : List ℕ) → holders_of held.new.entries q ≡ cond (same_id id.now q)
+        (with_holder (holders_of held.old.entries id.now) stamp mode) (holders_of held.old.entries q)) }
+    ensures err { OnErr result (held.new.entries ≡ held.old.entries) }
+    ensures absent { OnErr result (mode_of held.old.entries stamp id.now ≡ None) }
+{
+    if is_held {
+        grant_beside(held, stamp, id, mode)
+    } else {
+        grant_first(held, alloc, stamp, id, mode)
+    }
+}
+
+/// Makes the stamp a holder of an id with holders.
+fn grant_beside(
+    held: &mut BTreeMap<Id, Holders>,
+    stamp: u64,
+    id: &Id,
+    mode: Mode,
+) -> Result<(), OutOfMemory>
+    requires { is_some (get (slice_cmp nat_cmp) held.old id.now) ≡ true }
+    ensures ok { OnOk result ((q : List ℕ) → get (slice_cmp nat_cmp) held.new q ≡ cond (same_id id.now q)
+        (Some (with_holder (holders_of held.old.entries id.now) stamp mode)) (get (slice_cmp nat_cmp) held.old q)) }
+    ensures err { OnErr result (held.new.entries ≡ held.old.entries) }
+    ensures absent { OnErr result (mode_of held.old.entries stamp id.now ≡ None) }
+{
+    match held.get_mut(id) {
+        Some(holders) => holders.grant(stamp, mode),
+        None => unreachable!(),
+    }
+}
+
+/// Makes the stamp the only holder of an id without holders.
+fn grant_first(
+    held: &mut BTreeMap<Id, Holders>,
+    alloc: Global,
+    stamp: u64,
+    id: &Id,
+    mode: Mode,
+) -> Result<(), OutOfMemory>
+    requires { get (slice_cmp nat_cmp) held.old id.now ≡ None }
+    ensures ok { OnOk result ((q : List ℕ) → get (slice_cmp nat_cmp) held.new q
+        ≡ cond (same_id id.now q) (Some (with_holder [] stamp mode)) (get (slice_cmp nat_cmp) held.old q)) }
+    ensures err { OnErr result (held.new.entries ≡ held.old.entries) }
+{
+    let key = id.copy(alloc)?;
+    let mut holders = Holders::new(alloc);
+    holders.grant(stamp, mode)?;
+    held.insert(key, holders)?;
+    Ok(())
 }
 
 /// Removes the stamp from the holders of all ids. `ids` has at least the ids that it holds. If it

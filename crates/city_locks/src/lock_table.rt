@@ -1,15 +1,17 @@
 //! The lock table.
 ghost use Rattle.std.specs.Prelude.{◌≡◌, ◌≢◌, ℕ, List, ◌==◌, ◌&&◌, cond, OnOk, OnErr, IfOk, None, Some, [], ◌∷◌};
 ghost use Rattle.std.specs.Prelude.{true, is_some, option_map};
+ghost use Rattle.std.specs.Ordering.{nat_cmp};
+ghost use Rattle.std.specs.Cmp.Lexicographic.{slice_cmp};
+ghost use Rattle.std.specs.BTreeMap.{get};
 ghost use Rattle.city_model.specs.declared.mode.Mode.{Mode};
 ghost use Rattle.city_model.specs.Chunks.{ids_left};
 ghost use Rattle.city_model.specs.Meaning.{exclusively};
 ghost use Rattle.city_locks.specs.Asking.{Asked, first_answer, first_ungranted};
 ghost use Rattle.city_locks.specs.Mode.{stronger};
-ghost use Rattle.city_locks.specs.Holders.{answer_among, mode_among, with_holder, without};
+ghost use Rattle.city_locks.specs.Holders.{with_holder, without};
 ghost use Rattle.city_model.specs.CityMap.{same_id, has_id};
 ghost use Rattle.city_locks.specs.Locks.{holders_of, answer_of, mode_of, Lawful, HoldOnce};
-ghost use Rattle.city_locks.specs.internal.Asks.{Asks, AsksAmong, ListsAlso};
 ghost use Rattle.city_locks.specs.internal.Listing.{ids_of, IsListed};
 ghost use Rattle.city_locks.specs.WaitDie.{IsWaitDie, IsInConflict};
 
@@ -17,6 +19,7 @@ use crate::answer::Answer;
 use crate::by_stamp::push;
 use crate::holders::{Holder, Holders};
 use crate::holders_by_id;
+use crate::lock_request::LockRequest;
 use city_members::copied::Copied;
 use city_members::sequence::Sequence;
 use city_members::text::Id;
@@ -25,7 +28,6 @@ use city_model::id_list::Ids;
 use city_model::mode::Mode;
 use std::alloc::Global;
 use std::collections::BTreeMap;
-use std::collections::btree_map::Entry;
 use std::marker::Model;
 
 /// The holders of each id, with their modes.
@@ -88,14 +90,19 @@ impl LockTable {
         ensures lawful { Lawful self.new }
         ensures once { HoldOnce self.new }
     {
-        ask_at(
-            &mut self.holders,
-            &mut self.locked,
-            self.alloc,
-            stamp,
-            id,
-            mode,
-        )
+        let there = LockRequest::at(&self.holders, stamp, id, mode);
+        if let Answer::Granted = there.answer {
+            acquire(
+                &mut self.holders,
+                &mut self.locked,
+                self.alloc,
+                stamp,
+                id,
+                mode,
+                there,
+            )?;
+        }
+        Ok(there.answer)
     }
 
     /// Releases all locks of the stamp, and no others. If it has none, nothing changes. Doesn't
@@ -240,113 +247,51 @@ impl LockTable {
     }
 }
 
-/// Asks for the id in the mode. The id is looked up once.
-fn ask_at(
+/// Makes the stamp, whose request is given, a holder of the id, and lists the id at the stamp.
+///
+/// If memory runs out, all holders stay as they are. The id may then be listed and not held: a
+/// release passes over it.
+fn acquire(
     holders: &mut BTreeMap<Id, Holders>,
     locked: &mut BTreeMap<u64, Sequence<Id>>,
     alloc: Global,
     stamp: u64,
     id: &Id,
     mode: Mode,
-) -> Result<Answer, OutOfMemory>
-    requires { IsListed holders.old.entries locked.old }
-    ensures asks { Asks stamp id.now mode result holders.old.entries holders.new.entries }
+    there: LockRequest,
+) -> Result<(), OutOfMemory>
+    requires listed { IsListed holders.old.entries locked.old }
+    requires own { there.own ≡ mode_of holders.old.entries stamp id.now }
+    requires is_held { there.is_held ≡ is_some (get (slice_cmp nat_cmp) holders.old id.now) }
+    ensures ok { OnOk result ((q : List ℕ) → holders_of holders.new.entries q
+        ≡ cond (same_id id.now q) (with_holder (holders_of holders.old.entries id.now) stamp mode)
+        (holders_of holders.old.entries q)) }
+    ensures err { OnErr result (holders.new.entries ≡ holders.old.entries) }
+    ensures absent { OnErr result (mode_of holders.old.entries stamp id.now ≡ None) }
     ensures listed { IsListed holders.new.entries locked.new }
 {
-    let Ok(key) = id.copy(alloc) else {
-        return ask_held(holders, locked, alloc, stamp, id, mode);
-    };
-    match holders.entry(key) {
-        Ok(Entry::Occupied(there)) => {
-            let there = there.into_mut();
-            ask_among(there, locked, alloc, stamp, id, mode)
-        }
-        Ok(Entry::Vacant(place)) => {
-            let Ok(first) = first_holder(locked, alloc, stamp, id, mode) else {
-                return Err(OutOfMemory);
-            };
-            place.insert(first);
-            Ok(Answer::Granted)
-        }
-        Err(_) => Err(OutOfMemory),
-    }
-}
-
-/// Asks for the id in the mode, when memory for another id has run out.
-fn ask_held(
-    holders: &mut BTreeMap<Id, Holders>,
-    locked: &mut BTreeMap<u64, Sequence<Id>>,
-    alloc: Global,
-    stamp: u64,
-    id: &Id,
-    mode: Mode,
-) -> Result<Answer, OutOfMemory>
-    requires { IsListed holders.old.entries locked.old }
-    ensures asks { Asks stamp id.now mode result holders.old.entries holders.new.entries }
-    ensures listed { IsListed holders.new.entries locked.new }
-{
-    match holders.get_mut(id) {
-        Some(there) => ask_among(there, locked, alloc, stamp, id, mode),
-        None => Err(OutOfMemory),
-    }
-}
-
-/// Asks for the id in the mode among its holders. If the stamp becomes one, the id is listed first: if memory runs out
-/// then, the id may be listed and not held, and a release passes over it.
-fn ask_among(
-    there: &mut Holders,
-    locked: &mut BTreeMap<u64, Sequence<Id>>,
-    alloc: Global,
-    stamp: u64,
-    id: &Id,
-    mode: Mode,
-) -> Result<Answer, OutOfMemory>
-    ensures asks { AsksAmong stamp mode result there.old there.new }
-    ensures lists { ListsAlso locked.old locked.new }
-    ensures own { OnOk result (answer_among there.old stamp mode ≡ Answer.Granted
-        → mode_among there.old stamp ≡ None → has_id (ids_of locked.new stamp) id.now ≡ true) }
-{
-    match there.answer(stamp, mode) {
-        Answer::Granted => {
-            list_unheld(locked, alloc, stamp, id, there.mode(stamp))?;
-            there.grant(stamp, mode)?;
-            Ok(Answer::Granted)
-        }
-        Answer::Wait => Ok(Answer::Wait),
-        Answer::Die => Ok(Answer::Die),
-    }
-}
-
-/// The stamp as the only holder of the id, which is listed at the stamp.
-fn first_holder(
-    locked: &mut BTreeMap<u64, Sequence<Id>>,
-    alloc: Global,
-    stamp: u64,
-    id: &Id,
-    mode: Mode,
-) -> Result<Holders, OutOfMemory>
-    ensures holders { IfOk result (λ holders. holders ≡ with_holder [] stamp mode) }
-    ensures lists { ListsAlso locked.old locked.new }
-    ensures own { OnOk result (has_id (ids_of locked.new stamp) id.now ≡ true) }
-{
-    let mut holders = Holders::new(alloc);
-    holders.grant(stamp, mode)?;
-    list_unheld(locked, alloc, stamp, id, None)?;
-    Ok(holders)
+    list_unheld(holders, locked, alloc, stamp, id, there.own)?;
+    holders_by_id::grant(holders, alloc, stamp, id, mode, there.is_held)?;
+    Ok(())
 }
 
 /// Lists the id at the stamp, unless the stamp holds it and so has it listed.
 fn list_unheld(
+    holders: &BTreeMap<Id, Holders>,
     locked: &mut BTreeMap<u64, Sequence<Id>>,
     alloc: Global,
     stamp: u64,
     id: &Id,
     own: Option<Mode>,
 ) -> Result<(), OutOfMemory>
-    ensures own { OnOk result (own ≡ None → has_id (ids_of locked.new stamp) id.now ≡ true) }
-    ensures absent { OnErr result (own ≡ None) }
-    ensures lists { ListsAlso locked.old locked.new }
+    requires listed { IsListed holders.now.entries locked.old }
+    requires own { own ≡ mode_of holders.now.entries stamp id.now }
+    ensures own { OnOk result (has_id (ids_of locked.new stamp) id.now ≡ true) }
+    ensures absent { OnErr result (mode_of holders.now.entries stamp id.now ≡ None) }
+    ensures listed { IsListed holders.now.entries locked.new }
 {
+    // (only the contract uses it)
+    let _ = holders;
     match own {
         Some(_) => Ok(()),
         None => {

@@ -17,7 +17,7 @@ use Rattle.city_model.specs.Standing.{Answered}
 use Rattle.city_txn.specs.CoreState.{CoreState, committed, view, snapshot, is_open, held, StandsUnderLocks, KeepsOthers}
 use Rattle.city_txn.specs.CoreState.{IsTransactionEnd, IsRolledBack}
 use Rattle.city_session.specs.Grown.{Grown, Closed, max_commands, unrefused, with_reply, scripts_of, ends_from}
-use Rattle.city_session.specs.Grown.{is_full_there, IsTold}
+use Rattle.city_session.specs.Grown.{is_full, is_full_there, IsTold}
 use Rattle.city_session.specs.Live.{SessionState, grown_at, IsStanding, IsLive}
 use Rattle.city_session.specs.Acting.{GrowsTo, told_after, IsAnswered, IsActed, HasEnded, IsForgotten}
 use Rattle.city_session.specs.declared.acted.Acted.{Acted}
@@ -197,22 +197,51 @@ grown_same : (stamp : ℕ) (growing after : List (ℕ × Grown))
     → (t : ℕ) → grown_at after t ≡ grown_at growing t
 grown_same stamp growing after grows t = grows t ∙ sym (grows_as_told stamp growing t)
 
+module _ (stamp : ℕ) (command : Command) (full : Bool) (core new : CoreState) where
+  -- only one that is full has no room
+  full_then : (answer : Acted) → IsAnsweredIn stamp command full answer core new → full ≡ true
+      → answer ≡ acts.TooMany
+  full_then (acts.Replied reply) k h = absurd (false≢true (sym k.0 ∙ h))
+  full_then acts.Waits k h = absurd (false≢true (sym k.0 ∙ h))
+  full_then acts.Dies k h = absurd (false≢true (sym k.0 ∙ h))
+  full_then acts.TooMany k h = refl
+  full_then acts.NoMemory k h = absurd (false≢true (sym k.0 ∙ h))
+
+  city_then : (answer : Acted) → IsAnsweredIn stamp command full answer core new → committed new ≡ committed core
+  city_then (acts.Replied reply) k = k.1.city
+  city_then acts.Waits k = k.1.city
+  city_then acts.Dies k = k.1.city
+  city_then acts.TooMany k = ap committed k.1
+  city_then acts.NoMemory k = k.1.city
+
+-- a transaction that is full is told nothing
+pub full_told : (stamp : ℕ) (command : Command) (g : Grown) {h : Grown} (core new : CoreState) (answer : Acted)
+    → IsAnsweredIn stamp command (is_full g) answer core new → h ≡ told_after command answer g → is_full g ≡ true
+    → h ≡ g
+full_told stamp command g core new answer k told full =
+    told ∙ ap (λ a. told_after command a g) (full_then stamp command (is_full g) core new answer k full)
+
 -- a command was answered
 pub act_answered : {start : CityValue} {closed : List Closed} {ended stamps : ℕ} {growing after : List (ℕ × Grown)}
-    {core new : CoreState} {stamp : ℕ} {command : Command} {full : Bool} (answer : Acted)
+    {core new : CoreState} (stamp : ℕ) (command : Command) (full : Bool) (answer : Acted)
     → IsRecorded start closed ended stamps growing core → IsAnsweredIn stamp command full answer core new
     → GrowsTo stamp (option_map (told_after command answer) (grown_at growing stamp)) growing after
     → IsRecorded start closed ended stamps after new
-act_answered {stamp = stamp} {command = command} (acts.Replied reply) r k grows =
+act_answered stamp command full (acts.Replied reply) r k grows =
     acted r stamp (with_reply command reply) (λ g. refl) k.1.keeps k.1.city k.1.opened grows (λ g. k.1.own g.told)
-act_answered {stamp = stamp} acts.Waits r k grows =
+act_answered stamp command full acts.Waits r k grows =
     acted r stamp (λ g. g) (λ g. refl) k.1.keeps k.1.city k.1.opened grows (λ g. k.1.own g.told)
-act_answered {stamp = stamp} acts.Dies r k grows =
+act_answered stamp command full acts.Dies r k grows =
     acted r stamp (λ g. g) (λ g. refl) k.1.keeps k.1.city k.1.opened grows (λ g. k.1.own g.told)
-act_answered {start} {closed} {ended} {stamps} {growing} {after} {core} {new} {stamp} acts.TooMany r k grows =
+act_answered {start} {closed} {ended} {stamps} {growing} {after} {core} {new} stamp command full acts.TooMany r k grows =
     subst (IsRecorded start closed ended stamps after) (sym k.1) (regrown r (grown_same stamp growing after grows))
-act_answered {stamp = stamp} acts.NoMemory r k grows =
+act_answered stamp command full acts.NoMemory r k grows =
     acted r stamp (λ g. g) (λ g. refl) k.1.keeps k.1.city k.1.opened grows (λ g. k.1.own g.told)
+
+-- the next stamp isn't open
+pub next_is_free : {start : CityValue} {closed : List Closed} {ended stamps : ℕ} {growing : List (ℕ × Grown)}
+    {core : CoreState} → IsRecorded start closed ended stamps growing core → is_open core stamps ≡ false
+next_is_free {stamps = stamps} r = grind (arith, r.given stamps)
 
 none_from : (o : Option Grown) → is_some o ≡ false → o ≡ None
 none_from None h = refl
@@ -350,25 +379,8 @@ abbrev pub state : CityValue → List Closed → List (ℕ × Grown) → ℕ →
 state start closed growing stamps core =
     record { start = start; closed = closed; growing = growing; stamps = stamps; core = core }
 
-module _ {stamp : ℕ} {command : Command} {full : Bool} {core new : CoreState} where
-  -- only one that is full has no room
-  full_then : (answer : Acted) → IsAnsweredIn stamp command full answer core new → full ≡ true
-      → answer ≡ acts.TooMany
-  full_then (acts.Replied reply) k h = absurd (false≢true (sym k.0 ∙ h))
-  full_then acts.Waits k h = absurd (false≢true (sym k.0 ∙ h))
-  full_then acts.Dies k h = absurd (false≢true (sym k.0 ∙ h))
-  full_then acts.TooMany k h = refl
-  full_then acts.NoMemory k h = absurd (false≢true (sym k.0 ∙ h))
-
-  city_then : (answer : Acted) → IsAnsweredIn stamp command full answer core new → committed new ≡ committed core
-  city_then (acts.Replied reply) k = k.1.city
-  city_then acts.Waits k = k.1.city
-  city_then acts.Dies k = k.1.city
-  city_then acts.TooMany k = ap committed k.1
-  city_then acts.NoMemory k = k.1.city
-
-module _ {start : CityValue} {closed : List Closed} {stamps stamp : ℕ} {growing after : List (ℕ × Grown)}
-    {command : Command} {core new : CoreState} where
+module _ (start : CityValue) (closed : List Closed) (stamps stamp : ℕ) (growing after : List (ℕ × Grown))
+    (command : Command) (core new : CoreState) where
   answered_then : (answer : Acted)
       → IsAnsweredIn stamp command (is_full_there (grown_at growing stamp)) answer core new
       → (is_full_there (grown_at growing stamp) ≡ true → after ≡ growing)
@@ -389,20 +401,20 @@ module _ {start : CityValue} {closed : List Closed} {growing : List (ℕ × Grow
   seen_open stamp h = ap (λ (v : SessionState). is_open v.core stamp) run ∙ h
 
   -- a command was answered
-  pub seen_acted : {stamp : ℕ} {command : Command} {after : List (ℕ × Grown)} {new : CoreState} (answer : Acted)
+  pub seen_acted : (stamp : ℕ) (command : Command) {after : List (ℕ × Grown)} (new : CoreState) (answer : Acted)
       → IsAnsweredIn stamp command (is_full_there (grown_at growing stamp)) answer core new
       → GrowsTo stamp (option_map (told_after command answer) (grown_at growing stamp)) growing after
       → (is_full_there (grown_at growing stamp) ≡ true → after ≡ growing)
       → IsActed stamp command answer seen (state start closed after stamps new)
-  seen_acted {stamp} {command} {after} {new} answer k grows same =
+  seen_acted stamp command {after} new answer k grows same =
       seen_as (λ v. IsActed stamp command answer v (state start closed after stamps new)) (record {
-        room = full_then answer k;
-        answered = answered_then answer k same;
+        room = full_then stamp command (is_full_there (grown_at growing stamp)) core new answer k;
+        answered = answered_then start closed stamps stamp growing after command core new answer k same;
         growing = grows;
         given = refl;
         start = refl;
         closed = refl;
-        city = city_then answer k;
+        city = city_then stamp command (is_full_there (grown_at growing stamp)) core new answer k;
       })
 
   pub seen_ended : {stamp : ℕ} {after : List (ℕ × Grown)} {new : CoreState} {more : List Closed} (g : Grown)

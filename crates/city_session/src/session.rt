@@ -115,6 +115,7 @@ impl Session {
 
     /// Begins a transaction under this stamp. `stamps` is how many are given by then.
     fn begin_as(&mut self, stamp: u64, stamps: u64) -> Result<u64, OutOfMemory>
+        requires fresh { is_open self.old.core stamp ≡ false }
         requires below { stamp < stamps }
         requires more { self.old.stamps ≤ stamps }
         ensures stamp { IfOk result (λ t. t ≡ stamp) }
@@ -122,9 +123,6 @@ impl Session {
         ensures err { OnErr result (IsUnchanged self.old self.new) }
     {
         if u64::MAX <= self.ended {
-            return Err(OutOfMemory);
-        }
-        if self.core.is_open(stamp) {
             return Err(OutOfMemory);
         }
         self.growing.add(stamp, Transaction::begun(self.ended))?;

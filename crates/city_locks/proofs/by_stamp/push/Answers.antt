@@ -1,5 +1,4 @@
-use Rattle.std.proofs.Common.{rules, ◌∙◌, sym, ap, Some}
-use Rattle.std.proofs.lemmas.Result.{on_err_weaker}
+use Rattle.std.proofs.Common.{rules}
 use Rattle.city_locks.proofs.Written.{stamp_written}
 use Rattle.city_locks.proofs.by_stamp.push.Goals as goal
 

@@ -1,40 +1,35 @@
-use Rattle.city_locks.proofs.Prelude.{Lawful, List, ℕ, ◌≡◌, Mode, answer_of, refl, Locks}
-use Rattle.std.proofs.Common.{subst}
-use Rattle.std.proofs.lemmas.Result.{IfOk-weaker, on_ok_weaker}
-use Rattle.city_locks.specs.Locks.{HoldOnce}
-use Rattle.city_locks.specs.internal.Asks.{Asks}
-use Rattle.city_locks.proofs.Tables.{mode_added, lawful_added, own_added, once_added}
-use Rattle.city_locks.proofs.Asking.{asked_keeps}
+use Rattle.city_locks.proofs.Prelude.{rules, ◌∙◌, sym}
+use Rattle.city_locks.proofs.Tables.{Adds, mode_added, lawful_added, own_added, once_added}
 use Rattle.city_locks.proofs.Once.{wait_die_seen}
 use Rattle.city_locks.proofs.lock_table.LockTable.ask.Goals as goal
 
 pub invariant_of-self : goal.invariant_of-self
 invariant_of-self c =
-    let asks = c.ask_at.ensures.asks in
-    let was = c.self.invariant in
+    let adds : Adds c.self.inside.holders.entries c.acquire.new.holders.entries c.args.stamp c.args.id.now c.args.mode =
+    record { holders = c.in_ok-acquire.ensures.ok } in
     record {
-      lawful = asked_keeps Lawful c.ask_at.result asks was.lawful (λ g adds. lawful_added adds was.lawful g);
-      listed = c.ask_at.ensures.listed;
-      once = asked_keeps HoldOnce c.ask_at.result asks was.once (λ g adds. once_added adds was.once);
+      lawful = lawful_added adds c.self.invariant.lawful (sym c.at-there.ensures.answer ∙ c.in-Granted.is);
+      listed = c.acquire.ensures.listed;
+      once = once_added adds c.self.invariant.once;
     }
 
-pub returns : goal.returns
-returns c =
-    let r = c.ask_at.result in
-    let was = c.self.invariant in
-    let inside = c.ask_at.ensures.asks in
-    let asks = subst (λ (v : Locks). Asks c.args.stamp c.args.id.now c.args.mode r v c.ask_at.new.holders.entries)
-    c.self.view_is inside in
+pub returns-in_ok-acquire : goal.returns-in_ok-acquire
+returns-in_ok-acquire c =
+    let adds : Adds c.self.inside.holders.entries c.acquire.new.holders.entries c.args.stamp c.args.id.now c.args.mode =
+    record { holders = c.in_ok-acquire.ensures.ok } in
     record {
-      answer = asks.answer;
-      wait_die = IfOk-weaker r _ _ (λ a. wait_die_seen c.self.view_is (was.once c.args.id.now)) inside.answer;
-      granted = on_ok_weaker r (λ f g. mode_added (f g)) asks.granted;
-      holders = on_ok_weaker r (λ f g. (f g).holders) asks.granted;
-      own = asked_keeps (λ w. (q : List ℕ) (n : Mode) → answer_of w c.args.stamp q n
-          ≡ answer_of c.args.self.now c.args.stamp q n) r asks (λ q n. refl) (λ g adds. own_added adds);
-      refused = asks.refused;
-      err = asks.err;
-      memory = asks.memory;
-      lawful = asked_keeps Lawful r inside was.lawful (λ g adds. lawful_added adds was.lawful g);
-      once = asked_keeps HoldOnce r inside was.once (λ g adds. once_added adds was.once);
+      answer = search rules;
+      wait_die = wait_die_seen c.self.view_is (c.self.invariant.once c.args.id.now) c.at-there.ensures.answer;
+      granted = λ h. rw (← c.self.view_is) (mode_added adds);
+      holders = λ h q. search rules;
+      own = rw (← c.self.view_is) (own_added adds);
+      refused = λ h. search rules;
+      err = tt;
+      memory = tt;
+      lawful = lawful_added adds c.self.invariant.lawful (sym c.at-there.ensures.answer ∙ c.in-Granted.is);
+      once = once_added adds c.self.invariant.once;
     }
+
+pub returns-in_default-clause-wait_die : goal.returns-in_default-clause-wait_die
+returns-in_default-clause-wait_die c =
+    wait_die_seen c.self.view_is (c.self.invariant.once c.args.id.now) c.at-there.ensures.answer

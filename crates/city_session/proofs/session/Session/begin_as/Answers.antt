@@ -1,4 +1,5 @@
-use Rattle.std.proofs.Common.{arith, ap, sym, subst, Some, ◌∙◌}
+use Rattle.std.proofs.Common.{arith, ap, subst, Some, ◌∙◌}
+use Rattle.city_txn.specs.CoreState.{is_open}
 use Rattle.city_session.specs.Grown.{Grown}
 use Rattle.city_session.specs.Live.{SessionState}
 use Rattle.city_session.specs.Acting.{GrowsTo}
@@ -11,7 +12,7 @@ invariant_of-self c = rw c.in_err-add.ensures.err c.self.invariant
 pub invariant_of-self-in_default : goal.invariant_of-self-in_default
 invariant_of-self-in_default c =
     rw c.in_default.ensures.err (regrown c.self.invariant (unadded c.self.invariant c.args.stamp _ _ _
-    (sym c.is_open.ensures.opened ∙ c.if-is_open.false) c.in_ok-add.ensures.added c.take-unbegun.ensures.left))
+    (ap (λ (v : SessionState). is_open v.core c.args.stamp) c.self.view_is ∙ c.requires.fresh) c.in_ok-add.ensures.added c.take-unbegun.ensures.left))
 
 pub invariant_of-self-2 : goal.invariant_of-self-2
 invariant_of-self-2 c =
