@@ -16,7 +16,8 @@ pub stamp_written : {X : Type 0} (m n : BTreeMap ℕ X) (stamp : ℕ) (x : X) �
     → get nat_cmp m stamp ≡ Some x
     → ((q : ℕ) → get nat_cmp n q ≡ cond (is_at (nat_cmp stamp) q) (Some x) (get nat_cmp m q))
     → n.entries ≡ m.entries
-stamp_written m n stamp x s t there u = btree_map_from_get nat_cmp_total n m t s (λ q. bool_cases (is_at (nat_cmp stamp) q)
+stamp_written m n stamp x s t there u =
+    btree_map_from_get nat_cmp_total n m t s (λ q. bool_cases (is_at (nat_cmp stamp) q)
     (λ e. u q ∙ (ap (λ b. cond b (Some x) (get nat_cmp m q)) e
     ∙ (sym there ∙ ap (get nat_cmp m) (nat_cmp-IsAntisymmetric stamp q (equal_if (nat_cmp stamp q) e)))))
     (λ e. u q ∙ ap (λ b. cond b (Some x) (get nat_cmp m q)) e)) nat_cmp-IsAntisymmetric

@@ -397,7 +397,7 @@ module _ {start : CityValue} {closed : List Closed} {growing : List (ℕ × Grow
   seen_as : (P : SessionState → Type 0) → P (state start closed growing stamps core) → P seen
   seen_as P h = subst P run h
 
-  pub seen_open : (stamp : ℕ) → is_open seen.core stamp ≡ true → is_open core stamp ≡ true
+  pub seen_open : (stamp : ℕ) {b : Bool} → is_open seen.core stamp ≡ b → is_open core stamp ≡ b
   seen_open stamp h = ap (λ (v : SessionState). is_open v.core stamp) run ∙ h
 
   -- a command was answered

@@ -11,7 +11,8 @@ act-requires-clause-opened c = seen_open c.self.view_is c.args.stamp c.requires.
 
 pub invariant_of-self : goal.invariant_of-self
 invariant_of-self c =
-    act_answered c.args.stamp c.args.command.now _ c.act.result c.self.invariant c.act.ensures.answered c.act.ensures.grows
+    act_answered c.args.stamp c.args.command.now _ c.act.result c.self.invariant c.act.ensures.answered
+    c.act.ensures.grows
 
 pub returns : goal.returns
 returns c =

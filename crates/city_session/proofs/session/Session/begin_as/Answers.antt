@@ -1,9 +1,8 @@
 use Rattle.std.proofs.Common.{arith, ap, subst, Some, ◌∙◌}
-use Rattle.city_txn.specs.CoreState.{is_open}
 use Rattle.city_session.specs.Grown.{Grown}
 use Rattle.city_session.specs.Live.{SessionState}
 use Rattle.city_session.specs.Acting.{GrowsTo}
-use Rattle.city_session.proofs.Recorded.{begun, regrown, unadded, same_committed}
+use Rattle.city_session.proofs.Recorded.{begun, regrown, unadded, same_committed, seen_open}
 use Rattle.city_session.proofs.session.Session.begin_as.Goals as goal
 
 pub invariant_of-self : goal.invariant_of-self
@@ -12,7 +11,7 @@ invariant_of-self c = rw c.in_err-add.ensures.err c.self.invariant
 pub invariant_of-self-in_default : goal.invariant_of-self-in_default
 invariant_of-self-in_default c =
     rw c.in_default.ensures.err (regrown c.self.invariant (unadded c.self.invariant c.args.stamp _ _ _
-    (ap (λ (v : SessionState). is_open v.core c.args.stamp) c.self.view_is ∙ c.requires.fresh) c.in_ok-add.ensures.added c.take-unbegun.ensures.left))
+    (seen_open c.self.view_is c.args.stamp c.requires.fresh) c.in_ok-add.ensures.added c.take-unbegun.ensures.left))
 
 pub invariant_of-self-2 : goal.invariant_of-self-2
 invariant_of-self-2 c =
