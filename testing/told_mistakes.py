@@ -195,8 +195,8 @@ CASES = [
         cure=["Decompress"], members={"fault": "NotJson", "form": "gzip"},
     ),
     of_model(
-        "CityJSONSeq", "2 NotJson", [], texts={NAMES[0]: ONE_LINE + FEATURE}, what=["CityJSONSeq"], cure=["cjseq collect"],
-        members={"fault": "NotJson", "form": "CityJSONSeq"},
+        "CityJSONSeq", "2 NotJson", [], texts={NAMES[0]: ONE_LINE + FEATURE}, what=["CityJSONSeq"],
+        cure=["cjseq collect"], members={"fault": "NotJson", "form": "CityJSONSeq"},
     ),
     of_model(
         "a line of CityJSONSeq", '4 NotCityJson "type"', [], texts={NAMES[0]: FEATURE}, where=["type"],
