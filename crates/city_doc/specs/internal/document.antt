@@ -1,6 +1,5 @@
 -- Words for how documents are read and judged.
-pub mod Forms
 pub mod IdSets
-pub mod LenientCities
-pub mod Searches
+pub mod LenientEntries
+pub mod ReadObjects
 pub mod Told
