@@ -88,9 +88,7 @@ pub use Rattle.city_doc.specs.document.Faults.{vertices_in}
 pub use Rattle.city_doc.specs.document.Least.{Has}
 pub use Rattle.city_doc.specs.document.Top.{all_objects, are_all_objects, are_objects, are_vertices, has_triple}
 pub use Rattle.city_doc.specs.document.Top.{is_transform, wrong_member}
-pub use Rattle.city_doc.specs.internal.document.Forms.{AreReadable, HasForm}
-pub use Rattle.city_doc.specs.internal.document.LenientCities.{IsReadOf, first_body, lenient_entries_of}
-pub use Rattle.city_doc.specs.internal.document.Searches.{first_with}
+pub use Rattle.city_doc.specs.internal.document.ReadObjects.{read_entries, read_of}
 pub use Rattle.city_doc.specs.object.Faults.{first_unsupported, has_bad_list, has_bad_vertex, is_bad_geometry}
 pub use Rattle.city_doc.specs.object.Faults.{is_unknown_type}
 pub use Rattle.city_doc.specs.shape.Forms.{all_items, are_geometries, is_geometry, is_list_of, is_nested, is_position}

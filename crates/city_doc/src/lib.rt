@@ -15,6 +15,7 @@ mod document;
 mod fault;
 mod object;
 mod pieces;
+mod probe;
 mod report;
 mod shape;
 mod tree;

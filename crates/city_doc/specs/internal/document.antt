@@ -1,5 +1,4 @@
 -- Words for how documents are read and judged.
 pub mod IdSets
-pub mod LenientEntries
 pub mod ReadObjects
 pub mod Told

@@ -1,5 +1,5 @@
 -- Searches for faults in one object after another.
-use Rattle.std.specs.Prelude.{◌≡◌, ◌&&◌, ◌||◌, not, ℕ, List, [], ◌∷◌, ◌++◌, Bool, true, false, Option, Some, None}
+use Rattle.std.specs.Prelude.{◌≡◌, ◌==◌, ◌&&◌, ◌||◌, not, length, ℕ, List, [], ◌∷◌, ◌++◌, Bool, Option, Some, None}
 use Rattle.std.specs.Prelude.{option_map, if◌then◌else◌}
 use Rattle.city_model.specs.declared.object.Body.{Body}
 use Rattle.city_model.specs.declared.object.Object.{Object}
@@ -28,15 +28,11 @@ abbrev pub told : (List ℕ → ReadObject → Option ReadFault) → ReadEntries
 told find [] = []
 told find (e ∷ es) = with_found (find e.0 e.1) (told find es)
 
-abbrev pub is_any : List ReadFault → Bool
-is_any [] = false
-is_any (f ∷ fs) = true
-
 -- faults, and these behind them, one after another; with `first_only` until there is one
 abbrev pub told_behind : Bool → List ReadFault → List ReadFault → List ReadFault
 told_behind first_only fs [] = fs
 told_behind first_only fs (g ∷ gs) =
-    if first_only && is_any fs then fs else told_behind first_only (fs ++ g ∷ []) gs
+    if first_only && not (length fs == 0) then fs else told_behind first_only (fs ++ g ∷ []) gs
 
 -- ---- the faults found at one object
 
