@@ -1,5 +1,6 @@
 -- Lemmas for several functions of src/document/.
 pub mod AllFaults
+mod Begun
 pub mod CanonicalCities
 mod CityNests
 pub mod EntriesRead

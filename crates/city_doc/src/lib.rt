@@ -15,7 +15,6 @@ mod document;
 mod fault;
 mod object;
 mod pieces;
-mod probe;
 mod report;
 mod shape;
 mod tree;

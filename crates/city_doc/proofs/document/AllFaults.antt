@@ -18,7 +18,6 @@ use Rattle.city_doc.specs.document.Faults.{DocumentFault, rank_of}
 use Rattle.city_doc.specs.object.Faults.{unsupported_name}
 use Rattle.std.proofs.lemmas.Cmp.{tied_itself}
 use Rattle.city_doc.proofs.document.LawfulTrees.{stands_for, none_at}
-use Rattle.city_doc.proofs.document.Order.{in_among}
 use Rattle.city_doc.proofs.document.Right.{some_of}
 use Rattle.city_doc.proofs.FaultLists.{those_alike, one_alone, none_there, before_rest, those_of_text}
 use Rattle.city_doc.proofs.FaultLists.{long_alone, unread_alone}
@@ -93,6 +92,12 @@ none_of_some text None h some = absurd (true≢false (sym some))
 none_of_some text (Some c) h some = none_of_lawful text c h
 
 -- ---- the first of them
+
+in_among : (d : Data) (f : ReadFault) → is_integral d ≡ true → wrong_member d ≡ None → StandsIn d f
+    → StandsAmong (vertices_in d) (objects_in d) f
+in_among d NotWhole integral right h = absurd (true≢false (sym integral ∙ h))
+in_among d (NotCityJson name) integral right h = grind arith
+in_among d f integral right h = h
 
 -- a fault of the objects at the least id is told, or one of a lower rank is
 told_by : (points : List Point) (ms : Members) (f : ReadFault) → StandsAmong points ms f

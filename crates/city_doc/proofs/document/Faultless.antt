@@ -1,4 +1,4 @@
--- If no fault of a tree stands, the tree has a city, and it is lawful.
+-- The faults told of the objects of a tree are those of the tree; if there are none, the tree has a lawful city.
 use Rattle.city_doc.proofs.Prelude.{◌≡◌, ℕ, List, true, Option, Some, None, refl, sym, ap, subst, ◌∙◌, arith, length, [], ◌∷◌}
 use Rattle.city_doc.proofs.Prelude.{Bool, false, option_and_then, codes, is_some, and_parts, Data, not, ◌&&◌, fun_ext}
 use Rattle.city_doc.proofs.Prelude.{object, Members, no_members, member, get_member, as_object, Frame, Point, Entries}
@@ -15,10 +15,15 @@ use Rattle.city_doc.proofs.Prelude.{BadGeometry, BadVertex, BadRing, Relations, 
 use Rattle.city_tokens.specs.document.FramesOfRest.{frame_with}
 use Rattle.city_model.specs.internal.RelationTests.{is_misrelated}
 use Rattle.city_model.proofs.Lawfulness.{misrelated_true, misrelated_false}
-use Rattle.city_doc.specs.document.AllFaults.{StandsAt, is_misplaced}
+use Rattle.std.specs.Prelude.{◌==◌}
+use Rattle.city_doc.specs.document.AllFaults.{StandsAt, is_misplaced, AreThose, IsFaultOfTree}
 use Rattle.city_doc.specs.document.CityFaults.{body_has}
 use Rattle.city_doc.specs.object.Faults.{unsupported_name}
 use Rattle.city_doc.specs.internal.document.ReadObjects.{all_built, city_from, objects_taken, objects_among}
+use Rattle.city_doc.specs.internal.document.Told.{all_told, told_behind, AreBegun}
+use Rattle.city_doc.proofs.document.AllFaults.{those_read}
+use Rattle.city_doc.proofs.document.Begun.{those_begun, none_begun}
+use Rattle.city_doc.proofs.document.Finders.{told_all}
 use Rattle.city_doc.proofs.document.KeptMembers.{kept_all, left_whole, top_admitted}
 use Rattle.city_doc.proofs.document.NoFault.{found-lenient, lenient}
 use Rattle.city_doc.proofs.document.Searches.{here, there}
@@ -221,3 +226,24 @@ has_city d ms rest integral right ordered t none =
           (points.1 ∙ ap Some (sym (ap or_empty points.1))) es.1 frame.1;
       lawful = lawful_of (vertices_in d) ms none es.0 es.1;
     }
+
+-- ---- what the searches tell of a tree with these points and objects
+
+module _ (d : Data) (points : List Point) (ms rest : Members) (integral : is_integral d ≡ true)
+    (right : wrong_member d ≡ None) (same : points ≡ vertices_in d) (taken : objects_taken d ≡ Some (ms, rest))
+    (ordered : AreOrdered ms) where
+  among : objects_in d ≡ ms
+  among = let t = has_top d ms rest taken in objects_at d t.top t.is_top ms t.are_objects
+
+  told_of_tree : AreThose (IsFaultOfTree d) (all_told (read_entries points ms))
+  told_of_tree = those_read d points ms _ integral right (sym same) among (told_all points ms ordered)
+
+  module _ (b : Bool) (found : List ReadFault)
+      (is : found ≡ told_behind b [] (all_told (read_entries points ms))) where
+    pub some_found : (length found == 0) ≡ false → AreBegun b (IsFaultOfTree d) found
+    some_found = those_begun (IsFaultOfTree d) b found _ told_of_tree is
+
+    pub none_found : (length found == 0) ≡ true → HasCity d ms rest
+    none_found none = has_city d ms rest integral right ordered (has_top d ms rest taken)
+        (subst (λ ps. (f : ReadFault) → StandsAt ps ms f → ⊥) same
+        (none_begun (StandsAt points ms) b found _ (told_all points ms ordered) is none))
