@@ -133,6 +133,17 @@ pub fn city_from(
     Ok(Some(City::from_parts(frame, objects)))
 }
 
+/// The object, if it can be built.
+fn built_object(read: ReadObject) -> Option<Object>
+    ensures { result ≡ read.object }
+{
+    let ReadObject { object, .. } = read;
+    match object {
+        None => None,
+        Some(object) => Some(object.into_object()),
+    }
+}
+
 /// The objects by their ids, if all can be built.
 fn built_objects(
     alloc: Global,
@@ -142,10 +153,10 @@ fn built_objects(
 {
     let mut listed = Vec::with_capacity(alloc, objects.len())?;
     for (id, read) in objects {
-        let Some(object) = read.object else {
+        let Some(object) = built_object(read) else {
             return Ok(None);
         };
-        listed.push((id, object.into_object()))?;
+        listed.push((id, object))?;
     }
     let objects = listed.into_iter().collect(alloc)?;
     Ok(Some(objects))

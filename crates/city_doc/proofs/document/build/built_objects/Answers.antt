@@ -11,13 +11,13 @@ loop-id-init c =
 pub loop-id-preserved : goal.loop-id-preserved
 loop-id-preserved c =
     let was = rw c.in-Some.ensures.steps at c.loop-id.invariant in
-    rw (c.in_ok-push.ensures.items, c.into_object.ensures) (building_goes_on _ _ c.in-Some.id c.in-Some.read _
-    c.in-Some-2.object c.in-Some-2.is was)
+    rw c.in_ok-push.ensures.items (building_goes_on _ _ c.in-Some.id c.in-Some.read _
+    c.in-Some-2.object (sym c.built_object.ensures ∙ c.in-Some-2.is) was)
 
 pub returns-in_default : goal.returns-in_default
 returns-in_default c =
     let was = rw c.in-Some.ensures.steps at c.loop-id.invariant in
-    building_stops _ _ c.in-Some.id c.in-Some.read _ c.in_default.is was
+    building_stops _ _ c.in-Some.id c.in-Some.read _ (sym c.built_object.ensures ∙ c.in_default.is) was
 
 pub returns : goal.returns
 returns c =
