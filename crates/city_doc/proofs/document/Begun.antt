@@ -25,6 +25,12 @@ behind_append b fs (x ∷ xs) ys = by (b && not (length fs == 0)) refl
     by true is = rw is (behind_done b fs ys is)
     by false is = rw is (behind_append b (fs ++ x ∷ []) xs ys)
 
+-- what seven searches tell, one behind another
+pub behind_seven : (b : Bool) (t u v w x y z : List ReadFault)
+    → told_behind b (told_behind b (told_behind b (told_behind b (told_behind b (told_behind b (told_behind b [] t) u) v)
+    w) x) y) z ≡ told_behind b [] ((((((t ++ u) ++ v) ++ w) ++ x) ++ y) ++ z)
+behind_seven b t u v w x y z = simp behind_append
+
 behind_all : (fs gs : List ReadFault) → told_behind false fs gs ≡ fs ++ gs
 behind_all fs [] = sym (append-nil fs)
 behind_all fs (g ∷ gs) = behind_all (fs ++ g ∷ []) gs ∙ append_assoc fs (g ∷ []) gs

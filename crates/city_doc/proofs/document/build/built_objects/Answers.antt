@@ -12,7 +12,7 @@ pub loop-id-preserved : goal.loop-id-preserved
 loop-id-preserved c =
     let was = rw c.in-Some.ensures.steps at c.loop-id.invariant in
     rw c.in_ok-push.ensures.items (building_goes_on _ _ c.in-Some.id c.in-Some.read _
-    c.in-Some-2.object (sym c.built_object.ensures ∙ c.in-Some-2.is) was)
+    c.in-Some-built_object.object (sym c.built_object.ensures ∙ c.in-Some-built_object.is) was)
 
 pub returns-in_default : goal.returns-in_default
 returns-in_default c =
