@@ -15,15 +15,18 @@ pub behind_done : (b : Bool) (fs gs : List ReadFault) → (b && not (length fs =
 behind_done b fs [] h = refl
 behind_done b fs (g ∷ gs) h = rw h refl
 
+behind_next : (b t : Bool) (fs : List ReadFault) (x : ReadFault) (xs ys : List ReadFault)
+    → (b && not (length fs == 0)) ≡ t
+    → told_behind b (told_behind b (fs ++ x ∷ []) xs) ys ≡ told_behind b (fs ++ x ∷ []) (xs ++ ys)
+    → told_behind b (told_behind b fs (x ∷ xs)) ys ≡ told_behind b fs (x ∷ (xs ++ ys))
+behind_next b true fs x xs ys is rest = rw is (behind_done b fs ys is)
+behind_next b false fs x xs ys is rest = rw is rest
+
 pub behind_append : (b : Bool) (fs xs ys : List ReadFault)
     → told_behind b (told_behind b fs xs) ys ≡ told_behind b fs (xs ++ ys)
 behind_append b fs [] ys = refl
-behind_append b fs (x ∷ xs) ys = by (b && not (length fs == 0)) refl
-  where
-    by : (t : Bool) → (b && not (length fs == 0)) ≡ t
-        → told_behind b (told_behind b fs (x ∷ xs)) ys ≡ told_behind b fs (x ∷ (xs ++ ys))
-    by true is = rw is (behind_done b fs ys is)
-    by false is = rw is (behind_append b (fs ++ x ∷ []) xs ys)
+behind_append b fs (x ∷ xs) ys =
+    behind_next b (b && not (length fs == 0)) fs x xs ys refl (behind_append b (fs ++ x ∷ []) xs ys)
 
 -- what seven searches tell, one behind another
 pub behind_seven : (b : Bool) (t u v w x y z : List ReadFault)
@@ -38,6 +41,22 @@ behind_all fs (g ∷ gs) = behind_all (fs ++ g ∷ []) gs ∙ append_assoc fs (g
 begun : (b : Bool) (f : ReadFault) (fs : List ReadFault) → told_behind b [] (f ∷ fs) ≡ f ∷ (if b then [] else fs)
 begun true f fs = behind_done true (f ∷ []) fs refl
 begun false f fs = behind_all (f ∷ []) fs
+
+some_there : (f : ReadFault) (fs : List ReadFault) → (length (f ∷ fs) == 0) ≡ false
+some_there f fs = grind arith
+
+-- whether a list is empty, by its length
+pub is_some_there : (e : Bool) (n : ℕ) (fs : List ReadFault) → e ≡ (n == 0) → n ≡ length fs → not e ≡ true
+    → (length fs == 0) ≡ false
+is_some_there e n fs is same some = grind (arith, is, same, some)
+
+pub is_none_there : (e : Bool) (n : ℕ) (fs : List ReadFault) → e ≡ (n == 0) → n ≡ length fs → not e ≡ false
+    → (length fs == 0) ≡ true
+is_none_there e n fs is same none = grind (arith, is, same, none)
+
+pub is_done : (b : Bool) (fs : List ReadFault) → b ≡ true → (length fs == 0) ≡ false
+    → (b && not (length fs == 0)) ≡ true
+is_done b fs h some = rw (h, some) refl
 
 module _ (P : ReadFault → Type 0) (b : Bool) where
   pub one_begun : (f : ReadFault) (fs : List ReadFault) → AreThose P (f ∷ []) → fs ≡ f ∷ [] → AreBegun b P fs
@@ -56,7 +75,7 @@ module _ (P : ReadFault → Type 0) (b : Bool) where
       → (length found == 0) ≡ true → (f : ReadFault) → P f → ⊥
   none_begun found [] h is none f p = h.all f p
   none_begun found (g ∷ fs) h is none f p =
-      true≢false (sym none ∙ ap (λ fs. length fs == 0) (is ∙ begun b g fs))
+      true≢false (sym none ∙ ap (λ fs. length fs == 0) (is ∙ begun b g fs) ∙ some_there g _)
 
 pub all_begun : (P : ReadFault → Type 0) (fs : List ReadFault) → AreBegun false P fs → AreThose P fs
 all_begun P fs h = subst (AreThose P) (sym h.3) h.2
@@ -71,4 +90,4 @@ first_begun text d fs f tree h is =
 -- there is one at least
 pub begun_some : (P : ReadFault → Type 0) (b : Bool) (fs : List ReadFault) → AreBegun b P fs
     → (length fs == 0) ≡ false
-begun_some P b fs h = ap (λ fs. length fs == 0) h.3
+begun_some P b fs h = ap (λ fs. length fs == 0) h.3 ∙ some_there h.0 _

@@ -11,15 +11,18 @@ use Rattle.city_doc.proofs.Prelude.{is_transform, all_objects, are_all_objects, 
 use Rattle.city_doc.proofs.Prelude.{is_unknown_type, is_bad_geometry, has_bad_vertex, has_bad_list, lenient_map_of}
 use Rattle.city_doc.proofs.Prelude.{as_object-integral, get_member-integral, object_with, object_is, triple_of, Body}
 use Rattle.city_doc.proofs.Prelude.{Object, body_of, and_then_some, map_some, read_entries, UnknownType, Unsupported}
-use Rattle.city_doc.proofs.Prelude.{BadGeometry, BadVertex, BadRing, Relations, OpenShell, inl, inr}
+use Rattle.city_doc.proofs.Prelude.{BadGeometry, BadVertex, BadRing, Relations, OpenShell, inl, inr, CityValue}
+use Rattle.city_doc.proofs.Prelude.{option_map, object_at, listed_again, at_entries}
 use Rattle.city_tokens.specs.document.FramesOfRest.{frame_with}
 use Rattle.city_model.specs.internal.RelationTests.{is_misrelated}
+use Rattle.city_model.specs.Relations.{IsInOrder, is_orphan}
 use Rattle.city_model.proofs.Lawfulness.{misrelated_true, misrelated_false}
 use Rattle.std.specs.Prelude.{◌==◌}
 use Rattle.city_doc.specs.document.AllFaults.{StandsAt, is_misplaced, AreThose, IsFaultOfTree}
 use Rattle.city_doc.specs.document.CityFaults.{body_has}
 use Rattle.city_doc.specs.object.Faults.{unsupported_name}
 use Rattle.city_doc.specs.internal.document.ReadObjects.{all_built, city_from, objects_taken, objects_among}
+use Rattle.city_doc.specs.internal.document.ReadObjects.{ReadEntries, listed}
 use Rattle.city_doc.specs.internal.document.Told.{all_told, told_behind, AreBegun}
 use Rattle.city_doc.proofs.document.AllFaults.{those_read}
 use Rattle.city_doc.proofs.document.Begun.{those_begun, none_begun}
@@ -134,7 +137,8 @@ module _ (points : List Point) (ms : Members) (none : (f : ReadFault) → Stands
   agree : IsRelated (lenient_map_of points ms)
   agree id o is = by (is_misrelated (lenient_map_of points ms) id o) refl
     where
-      by : (b : Bool) → is_misrelated (lenient_map_of points ms) id o ≡ b → _
+      by : (b : Bool) → is_misrelated (lenient_map_of points ms) id o ≡ b
+          → IsInOrder (lenient_map_of points ms) id o × (is_orphan o ≡ false)
       by true wrong = absurd (none (Relations id) (inr (o, is, misrelated_true (lenient_map_of points ms) id o wrong)))
       by false right = misrelated_false (lenient_map_of points ms) id o right
 
@@ -181,8 +185,8 @@ has_top d ms rest h =
     record {
       top = top.0;
       is_top = top.1;
-      are_objects = let is = os.1 in let both = os.2 in grind arith;
-      is_rest = ap (λ p. p.1) os.2;
+      are_objects = os.1 ∙ ap (λ p. Some p.0) (sym os.2);
+      is_rest = sym (ap (λ p. p.1) os.2);
     }
 
 -- a right top has objects
@@ -194,19 +198,23 @@ is_taken d right none =
     let is = r.objects_are in
     grind arith
 
--- a tree without faults has a lawful city
-pub record HasCity (d : Data) (ms rest : Members) : Type 0 where
+city_built : (es : ReadEntries) (rest : Members) (list : Entries) (frame : Frame) → all_built es ≡ Some list
+    → frame_of_rest rest ≡ Some frame → city_from es rest ≡ Some (frame, list)
+city_built es rest list frame built is = rw (built, is) refl
+
+-- a tree without faults, of these objects and other members of its top, has a lawful city
+pub record HasCity (d : Data) (es : ReadEntries) (rest : Members) : Type 0 where
   pub frame : Frame
   pub list : Entries
-  pub built : city_from (read_entries (vertices_in d) ms) rest ≡ Some (frame, list)
+  pub built : city_from es rest ≡ Some (frame, list)
   pub city : city_of d ≡ Some (frame, objects_of list)
   pub lawful : IsLawful (found_in list)
 
-pub has_city : (d : Data) (ms rest : Members) → is_integral d ≡ true → wrong_member d ≡ None → AreOrdered ms
-    → HasTop d ms rest → ((f : ReadFault) → StandsAt (vertices_in d) ms f → ⊥) → HasCity d ms rest
+has_city : (d : Data) (ms rest : Members) → is_integral d ≡ true → wrong_member d ≡ None → AreOrdered ms
+    → HasTop d ms rest → ((f : ReadFault) → StandsAt (vertices_in d) ms f → ⊥)
+    → HasCity d (read_entries (vertices_in d) ms) rest
 has_city d ms rest integral right ordered t none =
     let r = is_right d right in
-    let same = objects_at d t.top t.is_top ms t.are_objects in
     let whole : members_integral t.top ≡ true = as_object-integral d t.top integral t.is_top in
     let at = object_is d t.top t.is_top in
     let frame = some_of (frame_of_rest (without (codes "CityObjects") t.top))
@@ -221,29 +229,50 @@ has_city d ms rest integral right ordered t none =
     record {
       frame = frame.0;
       list = es.0;
-      built = rw (es.2, sym t.is_rest, frame.1) refl;
+      built = city_built (read_entries (vertices_in d) ms) rest es.0 frame.0 es.2
+          (ap frame_of_rest (sym t.is_rest) ∙ frame.1);
       city = city_joined d t.top t.is_top ms t.are_objects (vertices_in d) es.0 frame.0 r
           (points.1 ∙ ap Some (sym (ap or_empty points.1))) es.1 frame.1;
       lawful = lawful_of (vertices_in d) ms none es.0 es.1;
     }
 
+-- a city is built
+pub not_missing : (d : Data) (es : ReadEntries) (rest : Members) (o : Option CityValue) → HasCity d es rest
+    → option_map listed o ≡ city_from es rest → o ≡ None → ⊥
+not_missing d es rest o h is none = let built = h.built in grind (arith, is, none)
+
+listed_lawful : (d : Data) (c : CityValue) (frame : Frame) (list : Entries) → listed c ≡ (frame, list)
+    → city_of d ≡ Some (frame, objects_of list) → IsLawful (found_in list)
+    → (city_of d ≡ Some c) × IsLawful (object_at c.1)
+listed_lawful d c frame list is city lawful = (
+  city ∙ ap (λ l. Some (l.0, objects_of l.1)) (sym is) ∙ ap (λ objects. Some (c.0, objects)) (listed_again c.1),
+  subst IsLawful (ap (λ l. found_in l.1) (sym is) ∙ sym (at_entries c.1)) lawful,
+)
+
+-- the city built is the one of the tree
+pub city_is : (d : Data) (es : ReadEntries) (rest : Members) (c : CityValue) → HasCity d es rest
+    → Some (listed c) ≡ city_from es rest → (city_of d ≡ Some c) × IsLawful (object_at c.1)
+city_is d es rest c h is =
+    let same : listed c ≡ (h.frame, h.list) = let both : Some (listed c) ≡ Some (h.frame, h.list) = is ∙ h.built in cc in
+    listed_lawful d c h.frame h.list same h.city h.lawful
+
 -- ---- what the searches tell of a tree with these points and objects
 
-module _ (d : Data) (points : List Point) (ms rest : Members) (integral : is_integral d ≡ true)
+module _ (d : Data) (points : List Point) (ms rest : Members) (es : ReadEntries) (integral : is_integral d ≡ true)
     (right : wrong_member d ≡ None) (same : points ≡ vertices_in d) (taken : objects_taken d ≡ Some (ms, rest))
-    (ordered : AreOrdered ms) where
+    (ordered : AreOrdered ms) (read : es ≡ read_entries points ms) where
   among : objects_in d ≡ ms
   among = let t = has_top d ms rest taken in objects_at d t.top t.is_top ms t.are_objects
 
-  told_of_tree : AreThose (IsFaultOfTree d) (all_told (read_entries points ms))
-  told_of_tree = those_read d points ms _ integral right (sym same) among (told_all points ms ordered)
+  all_at : AreThose (StandsAt points ms) (all_told es)
+  all_at = rw read (told_all points ms ordered)
 
-  module _ (b : Bool) (found : List ReadFault)
-      (is : found ≡ told_behind b [] (all_told (read_entries points ms))) where
+  module _ (b : Bool) (found : List ReadFault) (is : found ≡ told_behind b [] (all_told es)) where
     pub some_found : (length found == 0) ≡ false → AreBegun b (IsFaultOfTree d) found
-    some_found = those_begun (IsFaultOfTree d) b found _ told_of_tree is
+    some_found = those_begun (IsFaultOfTree d) b found _ (those_read d points ms _ integral right (sym same) among all_at) is
 
-    pub none_found : (length found == 0) ≡ true → HasCity d ms rest
-    none_found none = has_city d ms rest integral right ordered (has_top d ms rest taken)
+    pub none_found : (length found == 0) ≡ true → HasCity d es rest
+    none_found none = subst (λ es. HasCity d es rest) (ap (λ ps. read_entries ps ms) (sym same) ∙ sym read)
+        (has_city d ms rest integral right ordered (has_top d ms rest taken)
         (subst (λ ps. (f : ReadFault) → StandsAt ps ms f → ⊥) same
-        (none_begun (StandsAt points ms) b found _ (told_all points ms ordered) is none))
+        (none_begun (StandsAt points ms) b found _ all_at is none)))

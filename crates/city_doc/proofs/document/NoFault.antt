@@ -1,7 +1,7 @@
 -- A tree of whole numbers of a lawful city has no fault.
 use Rattle.city_doc.proofs.Prelude.{◌≡◌, inl, inr, ℕ, List, Bool, false, true≢false, Some, None, true, Option, Ordering}
 use Rattle.city_doc.proofs.Prelude.{◌∷◌, sym, ap, subst, ◌∙◌, arith, is_eq, nat_cmp, cond, is_none, codes}
-use Rattle.city_doc.proofs.Prelude.{if◌then◌else◌, is_some, option_map, fun_ext, Data, Members, no_members, member}
+use Rattle.city_doc.proofs.Prelude.{if◌then◌else◌, is_some, option_map, option_and_then, fun_ext, Data, Members, no_members, member}
 use Rattle.city_doc.proofs.Prelude.{get_member, Body, Object, Point, Entries, found_in, IsRelated, IsLawful, body_fault}
 use Rattle.city_doc.proofs.Prelude.{some_shape, has_open_shell, body_of, object_of, entries_of, CityMap, IsMisrelatedAt}
 use Rattle.city_doc.proofs.Prelude.{has_bad_list, Has, and_then_some, map_some, match_ordering, slice_cmp}
@@ -50,11 +50,20 @@ pub lenient : (points : List Point) (d : Data) (o : Object) → object_of points
     → faults.lenient_object_of points d ≡ Some o
 lenient points d o h = grind arith
 
+found_here : (o : Ordering) (read : Data → Option Object) (first : Data) (further : Option Data) (here : Object)
+    (rest : Option Object) → read first ≡ Some here → rest ≡ option_and_then read further
+    → cond (is_eq o) (Some here) rest ≡ option_and_then read (match_ordering o further (Some first) further)
+found_here o read first further here rest is more = grind arith
+
 -- the entries are those of the map in which bad lists count as empty
 pub found-lenient : (points : List Point) (ms : Members) (es : Entries) → entries_of points ms ≡ Some es → (id : List ℕ)
     → found_in es id ≡ faults.lenient_map_of points ms id
 found-lenient points no_members es h id = grind arith
-found-lenient points (member k x ms) es h id = let rest = found-lenient points ms in grind (arith, lenient)
+found-lenient points (member k x ms) es h id =
+    let o = and_then_some (λ y. option_map (λ ys. (k, y) ∷ ys) (entries_of points ms)) (object_of points x) es h in
+    let r = map_some (λ ys. (k, o.0) ∷ ys) (entries_of points ms) es o.2 in
+    rw r.2 (found_here (slice_cmp nat_cmp id k) (faults.lenient_object_of points) x (get_member id ms) o.0
+    (found_in r.0 id) (lenient points x o.0 o.1) (found-lenient points ms r.0 r.1 id))
 
 -- if all relations agree, nothing is misrelated
 none_misrelated : (m : CityMap) → IsRelated m → (id : List ℕ) → IsMisrelatedAt m id → ⊥
