@@ -46,13 +46,9 @@ some_there : (f : ReadFault) (fs : List ReadFault) → (length (f ∷ fs) == 0) 
 some_there f fs = grind arith
 
 -- whether a list is empty, by its length
-pub is_some_there : (e : Bool) (n : ℕ) (fs : List ReadFault) → e ≡ (n == 0) → n ≡ length fs → not e ≡ true
-    → (length fs == 0) ≡ false
-is_some_there e n fs is same some = grind (arith, is, same, some)
-
-pub is_none_there : (e : Bool) (n : ℕ) (fs : List ReadFault) → e ≡ (n == 0) → n ≡ length fs → not e ≡ false
-    → (length fs == 0) ≡ true
-is_none_there e n fs is same none = grind (arith, is, same, none)
+pub emptiness : (e t : Bool) (n : ℕ) (fs : List ReadFault) → e ≡ (n == 0) → n ≡ length fs → e ≡ t
+    → (length fs == 0) ≡ t
+emptiness e t n fs is same h = ap (λ n. n == 0) (sym same) ∙ sym is ∙ h
 
 pub is_done : (b : Bool) (fs : List ReadFault) → b ≡ true → (length fs == 0) ≡ false
     → (b && not (length fs == 0)) ≡ true
@@ -77,17 +73,9 @@ module _ (P : ReadFault → Type 0) (b : Bool) where
   none_begun found (g ∷ fs) h is none f p =
       true≢false (sym none ∙ ap (λ fs. length fs == 0) (is ∙ begun b g fs) ∙ some_there g _)
 
-pub all_begun : (P : ReadFault → Type 0) (fs : List ReadFault) → AreBegun false P fs → AreThose P fs
-all_begun P fs h = subst (AreThose P) (sym h.3) h.2
-
 -- the first fault of a tree is the first of its text
 pub first_begun : (text : List ℕ) (d : Data) (fs : List ReadFault) (f : ReadFault) → HasTree text d
     → AreBegun true (IsFaultOfTree d) fs → f ≡ slice_index_or fs 0 f → DocumentFault text f
 first_begun text d fs f tree h is =
     let same : h.0 ≡ f = sym (is ∙ ap (λ fs. slice_index_or fs 0 f) h.3) in
     subst (DocumentFault text) same (first_of_all text h.0 h.1 (of_text text d (h.0 ∷ h.1) tree h.2))
-
--- there is one at least
-pub begun_some : (P : ReadFault → Type 0) (b : Bool) (fs : List ReadFault) → AreBegun b P fs
-    → (length fs == 0) ≡ false
-begun_some P b fs h = ap (λ fs. length fs == 0) h.3 ∙ some_there h.0 _

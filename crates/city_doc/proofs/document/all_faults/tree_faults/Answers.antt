@@ -1,6 +1,4 @@
 use Rattle.city_doc.proofs.Prelude.{view}
-use Rattle.city_doc.specs.document.AllFaults.{IsFaultOfTree}
-use Rattle.city_doc.proofs.document.Begun.{all_begun}
 use Rattle.city_doc.proofs.document.AllFaults.{none_of_city}
 use Rattle.city_doc.proofs.document.all_faults.tree_faults.Goals as goal
 
@@ -8,6 +6,3 @@ pub returns-in-Ok : goal.returns-in-Ok
 returns-in-Ok c =
     let city = rw c.in-Ok.is at c.in_ok-judge.ensures in
     rw c.new.ensures.items (none_of_city (view c.args.tree) _ c.requires city.0 city.1)
-
-pub returns-in-Err : goal.returns-in-Err
-returns-in-Err c = all_begun (IsFaultOfTree (view c.args.tree)) _ (rw c.in-Err.is at c.in_ok-judge.ensures)

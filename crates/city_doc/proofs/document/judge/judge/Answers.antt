@@ -1,7 +1,7 @@
 use Rattle.city_doc.proofs.Prelude.{sym, view, ◌∙◌, refl}
 use Rattle.city_doc.specs.document.AllFaults.{IsFaultOfTree}
 use Rattle.city_doc.proofs.document.AllFaults.{wrong_alone}
-use Rattle.city_doc.proofs.document.Begun.{one_begun, is_some_there, is_none_there}
+use Rattle.city_doc.proofs.document.Begun.{one_begun, emptiness}
 use Rattle.city_doc.proofs.document.Faultless.{is_taken, some_found, none_found, not_missing, city_is}
 use Rattle.city_doc.proofs.document.judge.judge.Goals as goal
 
@@ -24,7 +24,7 @@ returns-then-not-is_empty c =
     let faults = c.in_ok-faults-2.faults in
     some_found (view c.args.tree) _ _ _ _ c.requires right (c.as_slice.ensures ∙ c.in_ok-points.ensures) taken
     c.in_ok-objects.ensures.ordered c.in_ok-objects.ensures.read c.args.first_only faults.items
-    c.in_ok-faults-2.ensures (is_some_there _ _ faults.items c.is_empty.ensures faults.ok.0 c.if-not-is_empty.true)
+    c.in_ok-faults-2.ensures (emptiness _ _ _ faults.items c.is_empty.ensures faults.ok.0 c.if-not-is_empty.true)
 
 pub unreachable-requires-in_default-2 : goal.unreachable-requires-in_default-2
 unreachable-requires-in_default-2 c =
@@ -33,7 +33,7 @@ unreachable-requires-in_default-2 c =
     let faults = c.in_ok-faults-2.faults in
     let city = none_found (view c.args.tree) _ _ _ _ c.requires right (c.as_slice.ensures ∙ c.in_ok-points.ensures)
     taken c.in_ok-objects.ensures.ordered c.in_ok-objects.ensures.read c.args.first_only faults.items
-    c.in_ok-faults-2.ensures (is_none_there _ _ faults.items c.is_empty.ensures faults.ok.0 c.if-not-is_empty.false) in
+    c.in_ok-faults-2.ensures (emptiness _ _ _ faults.items c.is_empty.ensures faults.ok.0 c.if-not-is_empty.false) in
     not_missing (view c.args.tree) _ _ c.in_ok-city.field-0 city c.in_ok-city.ensures c.in_default-2.is
 
 pub returns : goal.returns
@@ -43,5 +43,5 @@ returns c =
     let faults = c.in_ok-faults-2.faults in
     let city = none_found (view c.args.tree) _ _ _ _ c.requires right (c.as_slice.ensures ∙ c.in_ok-points.ensures)
     taken c.in_ok-objects.ensures.ordered c.in_ok-objects.ensures.read c.args.first_only faults.items
-    c.in_ok-faults-2.ensures (is_none_there _ _ faults.items c.is_empty.ensures faults.ok.0 c.if-not-is_empty.false) in
+    c.in_ok-faults-2.ensures (emptiness _ _ _ faults.items c.is_empty.ensures faults.ok.0 c.if-not-is_empty.false) in
     city_is (view c.args.tree) _ _ c.in-Some-2.city city (rw c.in-Some-2.is at c.in_ok-city.ensures)
