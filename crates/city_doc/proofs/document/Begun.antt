@@ -1,11 +1,10 @@
 -- All faults found, or the first of them alone.
 use Rattle.city_doc.proofs.Prelude.{◌≡◌, ℕ, List, [], ◌∷◌, ◌++◌, Bool, true, false, true≢false, refl, sym, ap, subst}
 use Rattle.city_doc.proofs.Prelude.{◌∙◌, arith, length, not, ◌&&◌, append-nil, append_assoc, ReadFault, Data}
-use Rattle.city_doc.proofs.Prelude.{inl, if◌then◌else◌}
+use Rattle.city_doc.proofs.Prelude.{if◌then◌else◌}
 use Rattle.std.specs.Prelude.{◌==◌}
 use Rattle.std.specs.List.{slice_index_or}
 use Rattle.city_tokens.specs.tree.Texts.{HasTree}
-use Rattle.city_doc.specs.FaultLists.{IsListed}
 use Rattle.city_doc.specs.document.AllFaults.{AreThose, IsFaultOfTree}
 use Rattle.city_doc.specs.document.Faults.{DocumentFault}
 use Rattle.city_doc.specs.internal.document.Told.{told_behind, AreBegun}

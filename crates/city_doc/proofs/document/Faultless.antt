@@ -1,7 +1,7 @@
 -- The faults told of the objects of a tree are those of the tree; if there are none, the tree has a lawful city.
 use Rattle.city_doc.proofs.Prelude.{◌≡◌, ℕ, List, true, Option, Some, None, refl, sym, ap, subst, ◌∙◌, arith, length, [], ◌∷◌}
 use Rattle.city_doc.proofs.Prelude.{Bool, false, option_and_then, codes, is_some, and_parts, Data, not, ◌&&◌, fun_ext}
-use Rattle.city_doc.proofs.Prelude.{object, Members, no_members, member, get_member, as_object, Frame, Point, Entries}
+use Rattle.city_doc.proofs.Prelude.{Members, no_members, member, get_member, as_object, Frame, Point, Entries}
 use Rattle.city_doc.proofs.Prelude.{kept_at_top, transform_members, is_empty_object_or_absent, has_open_shell}
 use Rattle.city_doc.proofs.Prelude.{without, AreOrdered, IsLawful, IsRelated, is_integral, members_integral}
 use Rattle.city_doc.proofs.Prelude.{get_member-without, found_in, some_shape, body_fault, is_bad_ringed}
@@ -92,8 +92,7 @@ objects_read points (member id d ms) integral are o each =
       placed = s.placed;
     }) in
     let one = some_of (object_of points d) (object_made points d body.0 s.lists body.1) in
-    let rest = objects_read points ms w.1 a.1 o.1 (λ k e at. each k e (there id k d e ms o.0 at)) in
-    (
+    let rest = objects_read points ms w.1 a.1 o.1 (λ k e at. each k e (there id k d e ms o.0 at)) in (
       (id, one.0) ∷ rest.0,
       entry_read points id d ms one.0 rest.0 one.1 rest.1,
       entry_built points id d ms one.0 rest.0 (lenient points d one.0 one.1) rest.2,

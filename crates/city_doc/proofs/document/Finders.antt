@@ -1,5 +1,5 @@
 -- Each search finds the faults of one rank.
-use Rattle.city_doc.proofs.Prelude.{◌≡◌, ◌⊎◌, inl, inr, ℕ, ◌<◌, List, ◌++◌, ◌∷◌, [], Bool, true, false, true≢false}
+use Rattle.city_doc.proofs.Prelude.{◌≡◌, ◌⊎◌, inl, inr, ℕ, ◌<◌, List, [], Bool, true, false, true≢false}
 use Rattle.city_doc.proofs.Prelude.{Option, Some, None, refl, fun_ext}
 use Rattle.city_doc.proofs.Prelude.{sym, ap, subst, ◌∙◌, arith, option_and_then, option_map, Data, Members}
 use Rattle.city_doc.proofs.Prelude.{get_member, Body, Object, Point, CityMap, ReadFault, UnknownType, Unsupported}
@@ -13,7 +13,6 @@ use Rattle.city_doc.specs.declared.document.indexed.ReadObject.{ReadObject}
 use Rattle.city_doc.specs.document.AllFaults.{StandsAt, AreThose, id_of}
 use Rattle.city_doc.specs.document.CityFaults.{body_has}
 use Rattle.city_doc.specs.document.Faults.{rank_of}
-use Rattle.city_doc.specs.internal.document.ReadObjects.{built_in}
 use Rattle.city_doc.specs.internal.document.Told.{only_where, unknown_type, unsupported, bad_geometry}
 use Rattle.city_doc.specs.internal.document.Told.{bad_vertex, bad_ring, relations, open_shell, body_there}
 use Rattle.city_doc.specs.internal.document.Told.{misrelated_there, all_told}
@@ -149,9 +148,15 @@ module _ (points : List Point) (ms : Members) (o : AreOrdered ms) where
       → (id : List ℕ) × (f ≡ Relations id) × Passes is_badly_related id
   at_relations (Relations id) (inl h) e = (id, refl, (h.0, h.1, first_true _ _ h.2))
   at_relations (Relations id) (inr h) e =
-      let d = and_then_some (lenient_object_of points) (get_member id ms) h.0 h.1 in
-      (id, refl, (d.0, d.1,
-        last_true _ _ (sym (ap (misrelated_there built id) (built_at id d.0 d.1)) ∙ at_misrelated built id h)))
+      let d = and_then_some (lenient_object_of points) (get_member id ms) h.0 h.1 in (
+        id,
+        refl,
+        (
+          d.0,
+          d.1,
+          last_true _ _ (sym (ap (misrelated_there built id) (built_at id d.0 d.1)) ∙ at_misrelated built id h),
+        ),
+      )
   at_relations f h e = absurd (omega (arith, e))
 
   -- ---- all of them

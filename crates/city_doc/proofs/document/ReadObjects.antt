@@ -1,5 +1,5 @@
 -- What the trees of all objects show: the loop from the members of a map, and the objects built of it.
-use Rattle.city_doc.proofs.Prelude.{◌≡◌, ℕ, List, ◌∷◌, ◌++◌, map, Option, Some, None, Less, [], nat_cmp, refl, sym, arith}
+use Rattle.city_doc.proofs.Prelude.{◌≡◌, ℕ, List, ◌∷◌, ◌++◌, map, Some, None, Less, [], nat_cmp, refl, sym, arith}
 use Rattle.city_doc.proofs.Prelude.{subst, append-nil, append_assoc, ◌∙◌, AllByRecursion, keys_of, slice_cmp}
 use Rattle.city_doc.proofs.Prelude.{option_map_id, Members, no_members, member, view, members_view, Entries, Object}
 use Rattle.city_doc.proofs.Prelude.{Point, lenient_map_of, map_grown, read_entries, read_of}

@@ -1,5 +1,5 @@
 -- Members of ascending names, found by their names.
-use Rattle.city_doc.proofs.Prelude.{◌≡◌, ℕ, List, Some, Less, Equal, nat_cmp, is_eq, refl, ap, arith}
+use Rattle.city_doc.proofs.Prelude.{◌≡◌, ℕ, List, Some, Less, Equal, nat_cmp, is_eq, ap, arith}
 use Rattle.city_doc.proofs.Prelude.{slice_cmp, nat_list_cmp_total, Data, Members, no_members, member, get_member}
 use Rattle.city_doc.proofs.Prelude.{AllAbove, same_id_true}
 use Rattle.std.proofs.lemmas.Cmp.{tied_itself}

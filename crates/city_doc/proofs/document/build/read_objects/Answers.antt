@@ -1,4 +1,4 @@
-use Rattle.city_doc.proofs.Prelude.{sym, ◌∙◌, YieldsList-from_vec, collected, ordered_members}
+use Rattle.city_doc.proofs.Prelude.{◌∙◌, YieldsList-from_vec, collected, ordered_members}
 use Rattle.std.proofs.lemmas.List.{append-nil}
 use Rattle.city_doc.proofs.document.ReadObjects.{begins, goes_on, ends}
 use Rattle.city_doc.proofs.document.build.read_objects.Goals as goal
