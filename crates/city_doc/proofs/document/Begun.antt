@@ -29,8 +29,8 @@ behind_append b fs (x ∷ xs) ys =
 
 -- what seven searches tell, one behind another
 pub behind_seven : (b : Bool) (t u v w x y z : List ReadFault)
-    → told_behind b (told_behind b (told_behind b (told_behind b (told_behind b (told_behind b (told_behind b [] t) u) v)
-    w) x) y) z ≡ told_behind b [] ((((((t ++ u) ++ v) ++ w) ++ x) ++ y) ++ z)
+    → told_behind b (told_behind b (told_behind b (told_behind b (told_behind b (told_behind b (told_behind b [] t) u)
+    v) w) x) y) z ≡ told_behind b [] ((((((t ++ u) ++ v) ++ w) ++ x) ++ y) ++ z)
 behind_seven b t u v w x y z = simp behind_append
 
 behind_all : (fs gs : List ReadFault) → told_behind false fs gs ≡ fs ++ gs

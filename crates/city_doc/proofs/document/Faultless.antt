@@ -1,5 +1,5 @@
 -- The faults told of the objects of a tree are those of the tree; if there are none, the tree has a lawful city.
-use Rattle.city_doc.proofs.Prelude.{◌≡◌, ℕ, List, true, Option, Some, None, refl, sym, ap, subst, ◌∙◌, arith, length, [], ◌∷◌}
+use Rattle.city_doc.proofs.Prelude.{◌≡◌, ℕ, List, true, Option, Some, None, refl, sym, ap, subst, ◌∙◌, arith, []}
 use Rattle.city_doc.proofs.Prelude.{Bool, false, option_and_then, codes, is_some, and_parts, Data, not, ◌&&◌, fun_ext}
 use Rattle.city_doc.proofs.Prelude.{Members, no_members, member, get_member, as_object, Frame, Point, Entries}
 use Rattle.city_doc.proofs.Prelude.{kept_at_top, transform_members, is_empty_object_or_absent, has_open_shell}
@@ -7,8 +7,9 @@ use Rattle.city_doc.proofs.Prelude.{without, AreOrdered, IsLawful, IsRelated, is
 use Rattle.city_doc.proofs.Prelude.{get_member-without, found_in, some_shape, body_fault, is_bad_ringed}
 use Rattle.city_doc.proofs.Prelude.{ReadFault, or_empty, city_of, objects_of, members_of, objects_in, vertices_in}
 use Rattle.city_doc.proofs.Prelude.{is_unsupported, without_top_members, frame_of_rest, has_triple, wrong_member}
-use Rattle.city_doc.proofs.Prelude.{is_transform, all_objects, are_all_objects, entries_of, object_of, lenient_object_of}
+use Rattle.city_doc.proofs.Prelude.{◌∷◌, is_transform, all_objects, are_all_objects, entries_of, object_of}
 use Rattle.city_doc.proofs.Prelude.{is_unknown_type, is_bad_geometry, has_bad_vertex, has_bad_list, lenient_map_of}
+use Rattle.city_doc.proofs.Prelude.{lenient_object_of, length}
 use Rattle.city_doc.proofs.Prelude.{as_object-integral, get_member-integral, object_with, object_is, triple_of, Body}
 use Rattle.city_doc.proofs.Prelude.{Object, body_of, and_then_some, map_some, read_entries, UnknownType, Unsupported}
 use Rattle.city_doc.proofs.Prelude.{BadGeometry, BadVertex, BadRing, Relations, OpenShell, inl, inr, CityValue}
@@ -252,7 +253,8 @@ listed_lawful d c frame list is city lawful = (
 pub city_is : (d : Data) (es : ReadEntries) (rest : Members) (c : CityValue) → HasCity d es rest
     → Some (listed c) ≡ city_from es rest → (city_of d ≡ Some c) × IsLawful (object_at c.1)
 city_is d es rest c h is =
-    let same : listed c ≡ (h.frame, h.list) = let both : Some (listed c) ≡ Some (h.frame, h.list) = is ∙ h.built in cc in
+    let both : Some (listed c) ≡ Some (h.frame, h.list) = is ∙ h.built in
+    let same : listed c ≡ (h.frame, h.list) = cc in
     listed_lawful d c h.frame h.list same h.city h.lawful
 
 -- ---- what the searches tell of a tree with these points and objects
@@ -268,7 +270,8 @@ module _ (d : Data) (points : List Point) (ms rest : Members) (es : ReadEntries)
 
   module _ (b : Bool) (found : List ReadFault) (is : found ≡ told_behind b [] (all_told es)) where
     pub some_found : (length found == 0) ≡ false → AreBegun b (IsFaultOfTree d) found
-    some_found = those_begun (IsFaultOfTree d) b found _ (those_read d points ms _ integral right (sym same) among all_at) is
+    some_found =
+        those_begun (IsFaultOfTree d) b found _ (those_read d points ms _ integral right (sym same) among all_at) is
 
     pub none_found : (length found == 0) ≡ true → HasCity d es rest
     none_found none = subst (λ es. HasCity d es rest) (ap (λ ps. read_entries ps ms) (sym same) ∙ sym read)

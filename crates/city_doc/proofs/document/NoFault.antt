@@ -1,8 +1,9 @@
 -- A tree of whole numbers of a lawful city has no fault.
 use Rattle.city_doc.proofs.Prelude.{◌≡◌, inl, inr, ℕ, List, Bool, false, true≢false, Some, None, true, Option, Ordering}
 use Rattle.city_doc.proofs.Prelude.{◌∷◌, sym, ap, subst, ◌∙◌, arith, is_eq, nat_cmp, cond, is_none, codes}
-use Rattle.city_doc.proofs.Prelude.{if◌then◌else◌, is_some, option_map, option_and_then, fun_ext, Data, Members, no_members, member}
-use Rattle.city_doc.proofs.Prelude.{get_member, Body, Object, Point, Entries, found_in, IsRelated, IsLawful, body_fault}
+use Rattle.city_doc.proofs.Prelude.{if◌then◌else◌, is_some, option_map, option_and_then, fun_ext, Data}
+use Rattle.city_doc.proofs.Prelude.{Body, Object, Point, Entries, found_in, IsRelated, IsLawful, body_fault}
+use Rattle.city_doc.proofs.Prelude.{Members, no_members, member, get_member}
 use Rattle.city_doc.proofs.Prelude.{some_shape, has_open_shell, body_of, object_of, entries_of, CityMap, IsMisrelatedAt}
 use Rattle.city_doc.proofs.Prelude.{has_bad_list, Has, and_then_some, map_some, match_ordering, slice_cmp}
 use Rattle.std.specs.Prelude.{◌||◌}

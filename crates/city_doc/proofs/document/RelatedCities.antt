@@ -1,6 +1,6 @@
 -- Cities read from their tokens. Only their relations are still unjudged.
-use Rattle.city_doc.proofs.Prelude.{◌≡◌, true, true≢false, subst, sym, List, ℕ, Option, None, Some, Data, CityValue, object_at}
-use Rattle.city_doc.proofs.Prelude.{IsRelated, IsAdmitted, is_integral, city_of, false}
+use Rattle.city_doc.proofs.Prelude.{◌≡◌, true, true≢false, subst, sym, List, ℕ, Option, None, Some, Data}
+use Rattle.city_doc.proofs.Prelude.{IsRelated, IsAdmitted, is_integral, city_of, false, CityValue, object_at}
 use Rattle.std.specs.Prelude.{IfSome, IfNone, is_some}
 use Rattle.city_model.specs.internal.Faultless.{IsFaultless}
 use Rattle.city_tokens.specs.tree.Texts.{HasTree}

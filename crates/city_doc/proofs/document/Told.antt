@@ -105,9 +105,10 @@ module _ (points : List Point) (ms : Members) (o : AreOrdered ms) where
 
   pub told_too : (n : ℕ) (find : List ℕ → ReadObject → Option ReadFault) (fs : List ReadFault) → Finds n find
       → AreThose (StandsBelow n) fs → AreThose (StandsBelow (suc n)) (fs ++ told find (read_entries points ms))
-  told_too n find fs finds h = those_alike (λ f. StandsBelow n f ⊎ IsFound points find ms f) (StandsBelow (suc n)) _ to from
-      (those_or (StandsBelow n) (IsFound points find ms) fs (told find (read_entries points ms)) (λ f g s at. inl (omega (arith, s.1, rank g at)))
-      h (those_told points find n ms o finds.shape))
+  told_too n find fs finds h =
+      those_alike (λ f. StandsBelow n f ⊎ IsFound points find ms f) (StandsBelow (suc n)) _ to from
+      (those_or (StandsBelow n) (IsFound points find ms) fs (told find (read_entries points ms))
+      (λ f g s at. inl (omega (arith, s.1, rank g at))) h (those_told points find n ms o finds.shape))
     where
       rank : (f : ReadFault) → IsFound points find ms f → rank_of f ≡ n
       rank f at = (finds.shape at.0 (read_of points at.1) f at.3).0

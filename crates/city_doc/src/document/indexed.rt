@@ -76,6 +76,7 @@ pub struct ReadObject {
     pub has_unknown_type: bool,
     /// The first unsupported thing in it.
     pub unsupported: Option<Text>,
+    /// Whether a geometry is of a wrong form.
     pub has_bad_geometry: bool,
     /// Whether its geometries are of a right form, and a position in them has no vertex.
     pub is_misplaced: bool,
