@@ -15,19 +15,18 @@ pub use Rattle.std.specs.Char.{encode_utf8}
 pub use Rattle.std.specs.Cmp.Lexicographic.{slice_cmp}
 pub use Rattle.std.specs.FinMap.{entries}
 pub use Rattle.std.specs.List.{AllByRecursion, list_all, list_any}
-pub use Rattle.std.specs.List.Sorted.{IsPermutation}
 pub use Rattle.std.specs.Map.{keys_of}
-pub use Rattle.std.specs.Ordering.{is_lt, match_ordering}
-pub use Rattle.std.specs.Prelude.{IfNone, MatchOption, codes, flat_map, if◌then◌else◌, is_none, is_some}
+pub use Rattle.std.specs.Ordering.{match_ordering}
+pub use Rattle.std.specs.Prelude.{codes, flat_map, if◌then◌else◌, is_none, is_some}
 pub use Rattle.std.specs.Prelude.{option_and_then, option_map, slice_get, ◌&&◌, ◌^◌}
 pub use Rattle.std.specs.Vec.Iter.{into_iter_items}
 pub use mathlib.Core.Path.{fun_ext}
 pub use Rattle.json.specs.Print.{escape}
 pub use Rattle.serde_json.proofs.Views.{get_member-put, view-Array, view-Object}
 pub use Rattle.serde_json.specs.Data.{Data, Items, Members, array, depth, item, items_depth, member, members_depth}
-pub use Rattle.serde_json.specs.Data.{no_items, no_members, number, object, put, string}
+pub use Rattle.serde_json.specs.Data.{no_items, no_members, object, put, string}
 pub use Rattle.serde_json.specs.Find.{as_i64, as_number, as_object, as_str, at, get, get_member, of_integer}
-pub use Rattle.serde_json.specs.Read.{max_depth, of_items, of_json, of_members, read}
+pub use Rattle.serde_json.specs.Read.{max_depth}
 pub use Rattle.serde_json.specs.View.{items_of, items_view, members_view, view}
 pub use Rattle.city_members.proofs.Ids.{same_id_back, same_id_true}
 pub use Rattle.city_model.proofs.MapsMade.{collected}
@@ -43,7 +42,6 @@ pub use Rattle.city_model.specs.Least.{IsLeast}
 pub use Rattle.city_members.specs.Members.{AllAbove, AreOrdered, without, without_each}
 pub use Rattle.city_model.specs.Misrelated.{IsMisrelatedAt}
 pub use Rattle.city_model.specs.Relations.{IsLawful, IsRelated}
-pub use Rattle.city_model.specs.Runs.{Scripted}
 pub use Rattle.city_model.specs.Shells.{body_fault, has_open_shell, some_shape}
 pub use Rattle.city_model.specs.Types.{name_of}
 pub use Rattle.city_model.specs.declared.frame.Frame.{Frame}
@@ -52,7 +50,6 @@ pub use Rattle.city_model.specs.declared.object.Geometry.{Geometry}
 pub use Rattle.city_model.specs.declared.object.Object.{Object}
 pub use Rattle.city_model.specs.declared.object.Point.{Point}
 pub use Rattle.city_model.specs.declared.object.Shape.{Shape}
-pub use Rattle.city_members.proofs.Puts.{all_put, ordered_put}
 pub use Rattle.city_model.specs.Nesting.{Nested, nested, shape_name}
 pub use Rattle.city_tokens.proofs.Laws.{as_object-integral, get-integral, get_member-integral, get_member-put_apart}
 pub use Rattle.city_tokens.proofs.Laws.{get_member-without_each, listed_again, object_is, object_with}
@@ -88,9 +85,7 @@ pub use Rattle.city_doc.specs.document.Faults.{vertices_in}
 pub use Rattle.city_doc.specs.document.Least.{Has}
 pub use Rattle.city_doc.specs.document.Top.{all_objects, are_all_objects, are_objects, are_vertices, has_triple}
 pub use Rattle.city_doc.specs.document.Top.{is_transform, wrong_member}
-pub use Rattle.city_doc.specs.internal.document.Forms.{AreReadable, HasForm}
-pub use Rattle.city_doc.specs.internal.document.LenientCities.{IsReadOf, first_body, lenient_entries_of}
-pub use Rattle.city_doc.specs.internal.document.Searches.{first_with}
+pub use Rattle.city_doc.specs.internal.document.ReadObjects.{read_entries, read_of}
 pub use Rattle.city_doc.specs.object.Faults.{first_unsupported, has_bad_list, has_bad_vertex, is_bad_geometry}
 pub use Rattle.city_doc.specs.object.Faults.{is_unknown_type}
 pub use Rattle.city_doc.specs.shape.Forms.{all_items, are_geometries, is_geometry, is_list_of, is_nested, is_position}

@@ -2,11 +2,9 @@
 
 pub mod all_faults;
 pub mod build;
-pub mod city_faults;
 pub mod each_fault;
-pub mod faults;
 pub mod indexed;
-pub mod misrelated;
+pub mod judge;
 pub mod read;
 pub mod top;
 pub mod write;

@@ -6,7 +6,7 @@ use Rattle.city_doc.proofs.Prelude.{get_member, Point, is_integral, CityValue, I
 use Rattle.city_doc.proofs.Prelude.{NotCityJson, UnknownType, Unsupported, BadGeometry, BadVertex, BadRing, Relations}
 use Rattle.city_doc.proofs.Prelude.{OpenShell, StandsAmong, StandsIn, IsFirst, objects_in, vertices_in}
 use Rattle.city_doc.proofs.Prelude.{wrong_member, is_bad_geometry, has_bad_vertex, Has}
-use Rattle.city_doc.proofs.Prelude.{and_parts, and_then_some}
+use Rattle.city_doc.proofs.Prelude.{and_parts, and_then_some, city_of, IsLawful, object_at}
 use Rattle.std.specs.Prelude.{IfSome}
 use Rattle.city_tokens.specs.tree.Texts.{IsTooLong, IsNoJson, HasTree, HasOtherNumber}
 use Rattle.city_doc.specs.declared.fault.ReadFault.TheVariants.{OutOfMemory, TooLong, NotJson}
@@ -18,7 +18,6 @@ use Rattle.city_doc.specs.document.Faults.{DocumentFault, rank_of}
 use Rattle.city_doc.specs.object.Faults.{unsupported_name}
 use Rattle.std.proofs.lemmas.Cmp.{tied_itself}
 use Rattle.city_doc.proofs.document.LawfulTrees.{stands_for, none_at}
-use Rattle.city_doc.proofs.document.Order.{in_among}
 use Rattle.city_doc.proofs.document.Right.{some_of}
 use Rattle.city_doc.proofs.FaultLists.{those_alike, one_alone, none_there, before_rest, those_of_text}
 use Rattle.city_doc.proofs.FaultLists.{long_alone, unread_alone}
@@ -80,12 +79,14 @@ pub not_whole_alone : (text : List ℕ) → HasOtherNumber text → AreFaultsOf 
 not_whole_alone text h =
     of_text text h.0 _ h.1 (one_alone (IsFaultOfTree h.0) NotWhole h.2 (only_fraction h.0 h.2))
 
--- a text of a lawful city has none
+-- a tree of a lawful city has none
+pub none_of_city : (d : Data) (c : CityValue) → is_integral d ≡ true → city_of d ≡ Some c → IsLawful (object_at c.1)
+    → AreThose (IsFaultOfTree d) []
+none_of_city d c integral is lawful =
+    none_there (IsFaultOfTree d) (λ f k. none_at d c (stands_for d c is) lawful integral f k)
+
 none_of_lawful : (text : List ℕ) (c : CityValue) → IsAdmitted text c → AreFaultsOf text []
-none_of_lawful text c h = of_text text h.0 [] h.1 (none_there (IsFaultOfTree h.0) none)
-  where
-    none : (f : ReadFault) → IsFaultOfTree h.0 f → ⊥
-    none f k = none_at h.0 c (stands_for h.0 c h.3) h.4 h.2 f k
+none_of_lawful text c h = of_text text h.0 [] h.1 (none_of_city h.0 c h.2 h.3 h.4)
 
 pub none_of_some : (text : List ℕ) (o : Option CityValue) → IfSome o (λ c. IsAdmitted text c) → is_some o ≡ true
     → AreFaultsOf text []
@@ -93,6 +94,12 @@ none_of_some text None h some = absurd (true≢false (sym some))
 none_of_some text (Some c) h some = none_of_lawful text c h
 
 -- ---- the first of them
+
+in_among : (d : Data) (f : ReadFault) → is_integral d ≡ true → wrong_member d ≡ None → StandsIn d f
+    → StandsAmong (vertices_in d) (objects_in d) f
+in_among d NotWhole integral right h = absurd (true≢false (sym integral ∙ h))
+in_among d (NotCityJson name) integral right h = grind arith
+in_among d f integral right h = h
 
 -- a fault of the objects at the least id is told, or one of a lower rank is
 told_by : (points : List Point) (ms : Members) (f : ReadFault) → StandsAmong points ms f

@@ -1,7 +1,7 @@
 -- Two objects and all their faults: the worked case of the order of faults.
 use Rattle.city_doc.proofs.Prelude.{◌∷◌, [], refl, arith, inl, inr, codes, object, string, put, Data}
 use Rattle.city_doc.proofs.Prelude.{Members, no_members, member, AreOrdered, UnknownType, BadGeometry}
-use Rattle.city_doc.proofs.Prelude.{Relations, lenient_map_of}
+use Rattle.city_doc.proofs.Prelude.{Relations}
 use Rattle.city_model.specs.Types as types
 use Rattle.city_doc.specs.document.AllFaults.{StandsAt, IsBefore, AreThose}
 use Rattle.city_doc.proofs.document.Finders.{told_all}
@@ -26,7 +26,7 @@ ordered = ((refl, tt), (tt, tt))
 pub all_of_two : AreThose (StandsAt [] objects)
     (UnknownType (codes "a") ∷ UnknownType (codes "b") ∷ BadGeometry (codes "a") ∷ Relations (codes "a") ∷ [])
 unfolding types.type_named
-all_of_two = told_all [] objects ordered (lenient_map_of [] objects) refl
+all_of_two = told_all [] objects ordered
 
 -- the number comes first, and then the id
 pub number_first : IsBefore (UnknownType (codes "b")) (BadGeometry (codes "a"))

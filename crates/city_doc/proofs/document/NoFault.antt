@@ -1,17 +1,16 @@
 -- A tree of whole numbers of a lawful city has no fault.
 use Rattle.city_doc.proofs.Prelude.{◌≡◌, inl, inr, ℕ, List, Bool, false, true≢false, Some, None, true, Option, Ordering}
 use Rattle.city_doc.proofs.Prelude.{◌∷◌, sym, ap, subst, ◌∙◌, arith, is_eq, nat_cmp, cond, is_none, codes}
-use Rattle.city_doc.proofs.Prelude.{if◌then◌else◌, is_some, option_map, fun_ext, Data, Members, no_members, member}
-use Rattle.city_doc.proofs.Prelude.{get_member, Body, Object, Point, Entries, found_in, IsRelated, IsLawful, body_fault}
-use Rattle.city_doc.proofs.Prelude.{some_shape, has_open_shell, body_of, object_of, entries_of, lenient_entries_of}
+use Rattle.city_doc.proofs.Prelude.{if◌then◌else◌, is_some, option_map, option_and_then, fun_ext, Data}
+use Rattle.city_doc.proofs.Prelude.{Body, Object, Point, Entries, found_in, IsRelated, IsLawful, body_fault}
+use Rattle.city_doc.proofs.Prelude.{Members, no_members, member, get_member}
+use Rattle.city_doc.proofs.Prelude.{some_shape, has_open_shell, body_of, object_of, entries_of, CityMap, IsMisrelatedAt}
 use Rattle.city_doc.proofs.Prelude.{has_bad_list, Has, and_then_some, map_some, match_ordering, slice_cmp}
 use Rattle.std.specs.Prelude.{◌||◌}
 use Rattle.std.proofs.lemmas.Bool.{or_from}
 use Rattle.city_model.specs.declared.command.Cause.TheVariants.{ShortRing, SameTwice, OpenShell}
 use Rattle.city_model.specs.Shells.{has_short_ring, has_same_twice}
 use Rattle.city_tokens.specs.object.Bodies.{ids_at}
-use Rattle.city_doc.proofs.document.Least.{none_misrelated}
-use Rattle.city_doc.proofs.document.LenientEntries.{found-lenient}
 use Rattle.city_doc.proofs.document.Right.{some_of}
 use Rattle.city_doc.specs.document.CityFaults as faults
 
@@ -48,15 +47,28 @@ found points ms es id d read h =
     let o = some_of (found_in es id) f.1 in
     (o.0, f.0 ∙ o.1, o.1)
 
-lenient : (points : List Point) (d : Data) (o : Object) → object_of points d ≡ Some o
+pub lenient : (points : List Point) (d : Data) (o : Object) → object_of points d ≡ Some o
     → faults.lenient_object_of points d ≡ Some o
 lenient points d o h = grind arith
 
--- entries are read even if bad lists count as empty
-pub lenient_entries : (points : List Point) (ms : Members) (es : Entries) → entries_of points ms ≡ Some es
-    → lenient_entries_of points ms ≡ Some es
-lenient_entries points no_members es h = h
-lenient_entries points (member k x ms) es h = grind (arith, lenient, lenient_entries points ms)
+found_here : (o : Ordering) (read : Data → Option Object) (first : Data) (further : Option Data) (here : Object)
+    (rest : Option Object) → read first ≡ Some here → rest ≡ option_and_then read further
+    → cond (is_eq o) (Some here) rest ≡ option_and_then read (match_ordering o further (Some first) further)
+found_here o read first further here rest is more = grind arith
+
+-- the entries are those of the map in which bad lists count as empty
+pub found-lenient : (points : List Point) (ms : Members) (es : Entries) → entries_of points ms ≡ Some es → (id : List ℕ)
+    → found_in es id ≡ faults.lenient_map_of points ms id
+found-lenient points no_members es h id = grind arith
+found-lenient points (member k x ms) es h id =
+    let o = and_then_some (λ y. option_map (λ ys. (k, y) ∷ ys) (entries_of points ms)) (object_of points x) es h in
+    let r = map_some (λ ys. (k, o.0) ∷ ys) (entries_of points ms) es o.2 in
+    rw r.2 (found_here (slice_cmp nat_cmp id k) (faults.lenient_object_of points) x (get_member id ms) o.0
+    (found_in r.0 id) (lenient points x o.0 o.1) (found-lenient points ms r.0 r.1 id))
+
+-- if all relations agree, nothing is misrelated
+none_misrelated : (m : CityMap) → IsRelated m → (id : List ℕ) → IsMisrelatedAt m id → ⊥
+none_misrelated m related id h = let r = related id h.0 h.1 in grind arith
 
 all_sound : (short same unclosed : Bool)
     → (if short then Some ShortRing else (if same then Some SameTwice else (if unclosed then Some OpenShell else None)))
@@ -100,5 +112,5 @@ module _ (points : List Point) (ms : Members) (es : Entries) (read : entries_of 
   no_badly_related id (inl list) = no_bad_list id list
   no_badly_related id (inr wrong) =
       none_misrelated (faults.lenient_map_of points ms)
-      (subst IsRelated (fun_ext (found-lenient points ms es (lenient_entries points ms es read)))
+      (subst IsRelated (fun_ext (found-lenient points ms es read))
       (λ id o is. ((lawful.0 id o is).0, lawful.1 id o is))) id wrong

@@ -1,31 +1,19 @@
 //! Finds all faults of a document.
 ghost use Rattle.std.specs.Prelude.{◌≡◌, ◌⊎◌, [], true, List, ℕ, Some, IfOk, slice_get};
-ghost use Rattle.serde_json.specs.View.{view, members_view};
-ghost use Rattle.city_model.specs.CityMap.{found_in};
+ghost use Rattle.serde_json.specs.View.{view};
 ghost use Rattle.city_members.specs.Integral.{is_integral};
 ghost use Rattle.city_doc.specs.declared.fault.ReadFault as fault;
 ghost use Rattle.city_doc.specs.document.Accepted.{IsAccepted};
-ghost use Rattle.city_doc.specs.document.AllFaults.{AreFaultsOf, AreThose, IsFaultOfTree, StandsAt};
-ghost use Rattle.city_doc.specs.document.CityFaults.{lenient_map_of};
-ghost use Rattle.city_doc.specs.document.Faults.{DocumentFault, vertices_in, objects_in};
-ghost use Rattle.city_doc.specs.document.Top.{wrong_member};
+ghost use Rattle.city_doc.specs.document.AllFaults.{AreFaultsOf, AreThose, IsFaultOfTree};
+ghost use Rattle.city_doc.specs.document.Faults.{DocumentFault};
 ghost use Rattle.city_doc.specs.internal.tree.TextFaults.{IsRefused};
 
-use crate::document::build::lenient_object_of;
-use crate::document::each_fault::{
-    BadGeometry, BadRing, BadVertex, OpenShell, Relations, UnknownType, UnsupportedPart, tell_each,
-};
-use crate::document::faults::objects_in;
-use crate::document::indexed::{IndexedObject, IndexedObjects};
+use crate::document::judge::judge;
 use crate::document::read::lawful_city;
-use crate::document::top::wrong_member;
 use crate::fault::{ReadFault, alone};
-use crate::shape::vertices::vertices_in;
 use crate::tree::parse::{TextFault, parse};
-use crate::tree::values::to_text;
 use city_model::OutOfMemory;
-use city_model::object::Point;
-use serde_json::{Map, Value};
+use serde_json::Value;
 use std::alloc::Global;
 
 /// All faults of a document: each fault of `ReadFault`'s list at each of its objects, in the order of
@@ -56,7 +44,7 @@ fn all_faults(alloc: Global, bytes: &[u8]) -> Result<Vec<ReadFault>, OutOfMemory
         return Ok(Vec::new(alloc));
     }
     match parse(alloc, bytes) {
-        Ok(tree) => tree_faults(alloc, &tree),
+        Ok(tree) => tree_faults(alloc, tree),
         Err(fault) => text_faults(alloc, fault),
     }
 }
@@ -74,58 +62,12 @@ fn text_faults(alloc: Global, fault: TextFault) -> Result<Vec<ReadFault>, OutOfM
 }
 
 /// The faults of a tree of whole numbers.
-fn tree_faults(alloc: Global, tree: &Value) -> Result<Vec<ReadFault>, OutOfMemory>
-    requires { is_integral (view tree.now) ≡ true }
-    ensures { IfOk result (λ faults. AreThose (IsFaultOfTree (view tree.now)) faults.items) }
+fn tree_faults(alloc: Global, tree: Value) -> Result<Vec<ReadFault>, OutOfMemory>
+    requires { is_integral (view tree) ≡ true }
+    ensures { IfOk result (λ faults. AreThose (IsFaultOfTree (view tree)) faults.items) }
 {
-    if let Some(name) = wrong_member(tree) {
-        let name = to_text(alloc, name)?;
-        return alone(alloc, ReadFault::NotCityJson(name));
+    match judge(alloc, tree, false)? {
+        Ok(_) => Ok(Vec::new(alloc)),
+        Err(faults) => Ok(faults),
     }
-    let points = vertices_in(alloc, tree)?;
-    let Some(objects) = objects_in(tree) else {
-        return Ok(Vec::new(alloc));
-    };
-    let faults = object_faults(alloc, points.as_slice(), objects)?;
-    Ok(faults)
-}
-
-/// The faults of objects. Their positions index these points.
-fn object_faults(
-    alloc: Global,
-    points: &[Point],
-    objects: &Map<String, Value>,
-) -> Result<Vec<ReadFault>, OutOfMemory>
-    ensures { IfOk result (λ faults. AreThose (StandsAt points.now (members_view objects.now.entries)) faults.items) }
-{
-    let mut faults = Vec::new(alloc);
-    tell_each(alloc, &UnknownType, objects, &mut faults)?;
-    tell_each(alloc, &UnsupportedPart, objects, &mut faults)?;
-    tell_each(alloc, &BadGeometry, objects, &mut faults)?;
-    tell_each(alloc, &BadVertex(points.len()), objects, &mut faults)?;
-    let readable = readable_objects(alloc, points, objects)?;
-    tell_each(alloc, &BadRing(&readable), objects, &mut faults)?;
-    tell_each(alloc, &Relations(&readable), objects, &mut faults)?;
-    tell_each(alloc, &OpenShell(&readable), objects, &mut faults)?;
-    Ok(faults)
-}
-
-/// The objects, by their ids, but for those that can't be built. A list counts as empty unless it is an array of texts.
-fn readable_objects(
-    alloc: Global,
-    points: &[Point],
-    objects: &Map<String, Value>,
-) -> Result<IndexedObjects, OutOfMemory>
-    ensures { IfOk result (λ readable. (id : List ℕ) → found_in readable.entries id
-        ≡ lenient_map_of points.now (members_view objects.now.entries) id) }
-{
-    let mut listed = Vec::with_capacity(alloc, objects.len())?;
-    for (id, object) in objects.iter() {
-        if let Some(object) = lenient_object_of(alloc, points, object.clone()?)? {
-            let indexed = IndexedObject::new(alloc, object)?;
-            listed.push((to_text(alloc, id.as_str())?, indexed))?;
-        }
-    }
-    let readable = listed.into_iter().collect(alloc)?;
-    Ok(readable)
 }

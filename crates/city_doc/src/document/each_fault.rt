@@ -1,82 +1,94 @@
-//! Finds all faults of the objects of a document, one kind after another.
-ghost use Rattle.std.specs.Prelude.{◌≡◌, ◌++◌, ℕ, List, Option, IfOk, OnOk, option_map};
-ghost use Rattle.serde_json.specs.Data.{Data};
-ghost use Rattle.serde_json.specs.View.{view, members_view};
-ghost use Rattle.city_model.specs.CityMap.{found_in};
-ghost use Rattle.city_members.specs.Members.{AreOrdered};
+//! Finds the faults of the objects of a document, one kind after another.
+ghost use Rattle.std.specs.Prelude.{◌≡◌, [], ℕ, List, Option, IfOk, OnOk, option_map};
 ghost use Rattle.city_model.specs.Shells.{some_shape, has_open_shell};
+ghost use Rattle.city_doc.specs.declared.document.indexed.ReadObject as read;
 ghost use Rattle.city_doc.specs.declared.fault.ReadFault as fault;
-ghost use Rattle.city_doc.specs.document.AllFaults.{is_misplaced};
 ghost use Rattle.city_doc.specs.document.CityFaults.{is_bad_ringed};
-ghost use Rattle.city_doc.specs.internal.document.Told.{told, unknown_type, unsupported, bad_geometry, bad_vertex};
-ghost use Rattle.city_doc.specs.internal.document.Told.{bad_ring, relations, open_shell, body_there, misrelated_there};
+ghost use Rattle.city_doc.specs.internal.document.ReadObjects.{built_in};
+ghost use Rattle.city_doc.specs.internal.document.Told.{told, told_behind, all_told, unknown_type, unsupported};
+ghost use Rattle.city_doc.specs.internal.document.Told.{bad_geometry, bad_vertex, bad_ring, relations, open_shell};
+ghost use Rattle.city_doc.specs.internal.document.Told.{body_there, misrelated_there};
 
-use crate::document::city_faults::is_bad_ringed;
-use crate::document::indexed::{IndexedObject, IndexedObjects, is_misrelated};
+use crate::document::indexed::{IndexedObject, ReadObject, ReadObjects, is_misrelated};
 use crate::fault::ReadFault;
-use crate::object::faults::{has_bad_vertex, is_bad_geometry, type_of, unsupported_name};
-use crate::object::ids::has_bad_list;
-use crate::tree::values::to_text;
+use city_members::copied::Copied;
 use city_members::text::Id;
 use city_model::OutOfMemory;
-use city_model::body_fault::any_open_shell;
-use serde_json::{Map, Value};
+use city_model::body_fault::{any_open_shell, any_same_twice, any_short_ring};
+use city_model::object::Body;
 use std::alloc::Global;
 
+/// The faults of the objects: all, or the first alone.
+pub fn object_faults(
+    alloc: Global,
+    objects: &ReadObjects,
+    first_only: bool,
+) -> Result<Vec<ReadFault>, OutOfMemory>
+    ensures { IfOk result (λ faults. faults.items ≡ told_behind first_only [] (all_told objects.now.entries)) }
+{
+    let mut faults = Vec::new(alloc);
+    tell_each(alloc, &UnknownType, objects, first_only, &mut faults)?;
+    tell_each(alloc, &UnsupportedPart, objects, first_only, &mut faults)?;
+    tell_each(alloc, &BadGeometry, objects, first_only, &mut faults)?;
+    tell_each(alloc, &BadVertex, objects, first_only, &mut faults)?;
+    tell_each(alloc, &BadRing, objects, first_only, &mut faults)?;
+    tell_each(alloc, &Relations(objects), objects, first_only, &mut faults)?;
+    tell_each(alloc, &OpenShell, objects, first_only, &mut faults)?;
+    Ok(faults)
+}
+
 /// A kind of fault.
-pub trait Search {
-    ghost found: { Self → List ℕ → Data → Option fault.ReadFault };
+trait Search {
+    ghost found: { Self → List ℕ → read.ReadObject → Option fault.ReadFault };
 
     /// The fault, if the object of this id has it.
     fn look(
         &self,
         alloc: Global,
-        id: &str,
-        object: &Value,
+        id: &Id,
+        object: &ReadObject,
     ) -> Result<Option<ReadFault>, OutOfMemory>
-        ensures { IfOk result (λ o. o ≡ found self.now id.now (view object.now)) };
+        ensures { IfOk result (λ o. o ≡ found self.now id.now object.now) };
 }
 
-/// Adds the faults of this kind, in the order of the ids.
-pub fn tell_each<S: Search>(
+/// Adds the faults of this kind, in the order of the ids. With `first_only` it stops as soon as there is one.
+fn tell_each<S: Search>(
     alloc: Global,
     search: &S,
-    objects: &Map<String, Value>,
+    objects: &ReadObjects,
+    first_only: bool,
     faults: &mut Vec<ReadFault>,
 ) -> Result<(), OutOfMemory>
-    ensures told { OnOk result (faults.new.items
-        ≡ faults.old.items ++ told (S.found search.now) (members_view objects.now.entries)) }
-    ensures ordered { OnOk result (AreOrdered (members_view objects.now.entries)) }
+    ensures { OnOk result (faults.new.items
+        ≡ told_behind first_only faults.old.items (told (S.found search.now) objects.now.entries)) }
 {
     for (id, object) in objects.iter() {
-        if let Some(fault) = search.look(alloc, id.as_str(), object)? {
+        if first_only && !faults.is_empty() {
+            return Ok(());
+        }
+        if let Some(fault) = search.look(alloc, id, object)? {
             faults.push(fault)?;
         }
     }
     Ok(())
 }
 
-pub struct UnknownType;
+struct UnknownType;
 
-pub struct UnsupportedPart;
+struct UnsupportedPart;
 
-pub struct BadGeometry;
+struct BadGeometry;
 
-/// A position without a vertex, among so many.
-#[derive(Clone, Copy)]
-pub struct BadVertex(pub usize);
+/// A position without a vertex.
+struct BadVertex;
 
-/// A bad ring of one of these objects, by their bodies.
-#[derive(Clone, Copy)]
-pub struct BadRing<'o>(pub &'o IndexedObjects);
+struct BadRing;
 
 /// Relations of these objects that don't agree, or a list other than an array of texts.
 #[derive(Clone, Copy)]
-pub struct Relations<'o>(pub &'o IndexedObjects);
+struct Relations<'o>(&'o ReadObjects);
 
-/// An open shell of one of these objects, by their bodies.
-#[derive(Clone, Copy)]
-pub struct OpenShell<'o>(pub &'o IndexedObjects);
+struct OpenShell;
 
 impl Search for UnknownType {
     ghost found = { λ _. unknown_type };
@@ -84,14 +96,13 @@ impl Search for UnknownType {
     fn look(
         &self,
         alloc: Global,
-        id: &str,
-        object: &Value,
+        id: &Id,
+        object: &ReadObject,
     ) -> Result<Option<ReadFault>, OutOfMemory> {
-        if type_of(object).is_some() {
+        if !object.has_unknown_type {
             return Ok(None);
         }
-        let id = to_text(alloc, id)?;
-        Ok(Some(ReadFault::UnknownType(id)))
+        Ok(Some(ReadFault::UnknownType(id.copy(alloc)?)))
     }
 }
 
@@ -101,15 +112,14 @@ impl Search for UnsupportedPart {
     fn look(
         &self,
         alloc: Global,
-        id: &str,
-        object: &Value,
+        id: &Id,
+        object: &ReadObject,
     ) -> Result<Option<ReadFault>, OutOfMemory> {
-        let Some(name) = unsupported_name(object) else {
+        let Some(name) = &object.unsupported else {
             return Ok(None);
         };
-        let id = to_text(alloc, id)?;
-        let name = to_text(alloc, name)?;
-        Ok(Some(ReadFault::Unsupported(id, name)))
+        let name = name.copy(alloc)?;
+        Ok(Some(ReadFault::Unsupported(id.copy(alloc)?, name)))
     }
 }
 
@@ -119,39 +129,38 @@ impl Search for BadGeometry {
     fn look(
         &self,
         alloc: Global,
-        id: &str,
-        object: &Value,
+        id: &Id,
+        object: &ReadObject,
     ) -> Result<Option<ReadFault>, OutOfMemory> {
-        if !is_bad_geometry(object) {
+        if !object.has_bad_geometry {
             return Ok(None);
         }
-        let id = to_text(alloc, id)?;
-        Ok(Some(ReadFault::BadGeometry(id)))
+        Ok(Some(ReadFault::BadGeometry(id.copy(alloc)?)))
     }
 }
 
-/// Whether a position has no vertex, among so many; false if the geometry is bad.
-fn is_misplaced(count: usize, object: &Value) -> bool
-    ensures { result ≡ is_misplaced count (view object.now) }
-{
-    !is_bad_geometry(object) && has_bad_vertex(count, object)
-}
-
 impl Search for BadVertex {
-    ghost found = { λ s. bad_vertex s.0 };
+    ghost found = { λ _. bad_vertex };
 
     fn look(
         &self,
         alloc: Global,
-        id: &str,
-        object: &Value,
+        id: &Id,
+        object: &ReadObject,
     ) -> Result<Option<ReadFault>, OutOfMemory> {
-        if !is_misplaced(self.0, object) {
+        if !object.is_misplaced {
             return Ok(None);
         }
-        let id = to_text(alloc, id)?;
-        Ok(Some(ReadFault::BadVertex(id)))
+        Ok(Some(ReadFault::BadVertex(id.copy(alloc)?)))
     }
+}
+
+/// Whether some ring is short, or has equal neighbours.
+fn is_bad_ringed(body: &Body) -> bool
+    ensures { result ≡ is_bad_ringed body.now }
+{
+    let geometry = body.geometry.get().as_slice();
+    any_short_ring(geometry) || any_same_twice(geometry)
 }
 
 /// Whether the object is there and has a bad ring.
@@ -164,47 +173,46 @@ fn is_bad_ringed_there(object: Option<&IndexedObject>) -> bool
     }
 }
 
-impl<'o> Search for BadRing<'o> {
-    ghost found = { λ s. bad_ring (found_in s.0.now.entries) };
+impl Search for BadRing {
+    ghost found = { λ _. bad_ring };
 
     fn look(
         &self,
         alloc: Global,
-        id: &str,
-        _object: &Value,
+        id: &Id,
+        object: &ReadObject,
     ) -> Result<Option<ReadFault>, OutOfMemory> {
-        let id = to_text(alloc, id)?;
-        if !is_bad_ringed_there(self.0.get(&id)) {
+        if !is_bad_ringed_there(object.object.as_ref()) {
             return Ok(None);
         }
-        Ok(Some(ReadFault::BadRing(id)))
+        Ok(Some(ReadFault::BadRing(id.copy(alloc)?)))
     }
 }
 
 /// Whether the object is there, and its relations don't agree.
-fn is_misrelated_there(objects: &IndexedObjects, id: &Id) -> bool
-    ensures { result ≡ misrelated_there (found_in objects.now.entries) id.now (found_in objects.now.entries id.now) }
+fn is_misrelated_there(objects: &ReadObjects, id: &Id, object: Option<&IndexedObject>) -> bool
+    ensures { result ≡ misrelated_there (built_in objects.now.entries) id.now
+        (option_map (λ o. o.now) object.entry) }
 {
-    match objects.get(id) {
+    match object {
         None => false,
         Some(object) => is_misrelated(objects, id, object),
     }
 }
 
 impl<'o> Search for Relations<'o> {
-    ghost found = { λ s. relations (found_in s.0.now.entries) };
+    ghost found = { λ s. relations (built_in s.0.now.entries) };
 
     fn look(
         &self,
         alloc: Global,
-        id: &str,
-        object: &Value,
+        id: &Id,
+        object: &ReadObject,
     ) -> Result<Option<ReadFault>, OutOfMemory> {
-        let id = to_text(alloc, id)?;
-        if !has_bad_list(object) && !is_misrelated_there(self.0, &id) {
+        if !object.has_bad_list && !is_misrelated_there(self.0, id, object.object.as_ref()) {
             return Ok(None);
         }
-        Ok(Some(ReadFault::Relations(id)))
+        Ok(Some(ReadFault::Relations(id.copy(alloc)?)))
     }
 }
 
@@ -219,19 +227,18 @@ fn is_open_there(alloc: Global, object: Option<&IndexedObject>) -> Result<bool, 
     }
 }
 
-impl<'o> Search for OpenShell<'o> {
-    ghost found = { λ s. open_shell (found_in s.0.now.entries) };
+impl Search for OpenShell {
+    ghost found = { λ _. open_shell };
 
     fn look(
         &self,
         alloc: Global,
-        id: &str,
-        _object: &Value,
+        id: &Id,
+        object: &ReadObject,
     ) -> Result<Option<ReadFault>, OutOfMemory> {
-        let id = to_text(alloc, id)?;
-        if !is_open_there(alloc, self.0.get(&id))? {
+        if !is_open_there(alloc, object.object.as_ref())? {
             return Ok(None);
         }
-        Ok(Some(ReadFault::OpenShell(id)))
+        Ok(Some(ReadFault::OpenShell(id.copy(alloc)?)))
     }
 }

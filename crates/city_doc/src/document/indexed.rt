@@ -2,16 +2,17 @@
 //!
 //! City_model's own test of relations scans a whole list if an id is missing from it. It does so once in a city, since
 //! it ends at the first fault. Here each object is judged, so a set finds a missing id as quickly as any other.
-ghost use Rattle.std.specs.Prelude.{◌≡◌, IfOk};
+ghost use Rattle.std.specs.Prelude.{◌≡◌, IfOk, option_map};
 ghost use Rattle.city_model.specs.Chunks.{ids_left};
-ghost use Rattle.city_model.specs.CityMap.{found_in, has_id, parents_of};
+ghost use Rattle.city_model.specs.CityMap.{has_id, parents_of};
 ghost use Rattle.city_model.specs.Relations.{same_family};
 ghost use Rattle.city_model.specs.internal.RelationTests.{children_fit, is_misrelated, level_fits, parent_fits};
 ghost use Rattle.city_model.specs.internal.RelationTests.{parents_fit, relatives_once};
 ghost use Rattle.city_doc.specs.internal.document.IdSets.{IsSetOf};
+ghost use Rattle.city_doc.specs.internal.document.ReadObjects.{built_in};
 
 use city_members::copied::Copied;
-use city_members::text::Id;
+use city_members::text::{Id, Text};
 use city_model::OutOfMemory;
 use city_model::id_list::{Ids, is_same_id};
 use city_model::object::{Body, Object};
@@ -68,8 +69,32 @@ impl Model for IndexedObject {
         × IsSetOf c.object.children c.children.ids.keys c.children.once };
 }
 
-/// Objects by their ids.
-pub type IndexedObjects = BTreeMap<Id, IndexedObject>;
+/// What the tree of an object shows.
+#[derive(Drop)]
+pub struct ReadObject {
+    /// Whether its type is missing or unknown.
+    pub has_unknown_type: bool,
+    /// The first unsupported thing in it.
+    pub unsupported: Option<Text>,
+    /// Whether a geometry is of a wrong form.
+    pub has_bad_geometry: bool,
+    /// Whether its geometries are of a right form, and a position in them has no vertex.
+    pub is_misplaced: bool,
+    /// Whether a list of ids is no array of texts.
+    pub has_bad_list: bool,
+    /// The object, if it can be built. A bad list counts as empty.
+    pub object: Option<IndexedObject>,
+}
+
+/// What the trees of all objects show, by their ids.
+pub type ReadObjects = BTreeMap<Id, ReadObject>;
+
+/// The object of an id, if it is there and can be built.
+pub fn built<'o>(objects: &'o ReadObjects, id: &Id) -> Option<&'o IndexedObject>
+    ensures { option_map (λ o. o.now) result ≡ built_in objects.now.entries id.now }
+{
+    objects.get(id)?.object.as_ref()
+}
 
 impl IndexedObject {
     /// Puts the relatives of an object into sets.
@@ -90,6 +115,13 @@ impl IndexedObject {
         ensures { result.now ≡ self.now.body }
     {
         self.object.body.get()
+    }
+
+    /// The object, without the sets.
+    pub fn into_object(self) -> Object
+        ensures { result ≡ self }
+    {
+        self.object
     }
 
     fn kind(&self) -> ObjectType
@@ -126,8 +158,8 @@ impl IndexedObject {
 }
 
 /// Whether the object isn't in order, or is an orphan.
-pub fn is_misrelated(objects: &IndexedObjects, id: &Id, object: &IndexedObject) -> bool
-    ensures { result ≡ is_misrelated (found_in objects.now.entries) id.now object.now }
+pub fn is_misrelated(objects: &ReadObjects, id: &Id, object: &IndexedObject) -> bool
+    ensures { result ≡ is_misrelated (built_in objects.now.entries) id.now object.now }
 {
     is_orphan(&object.object)
         || !(object.has_relatives_once()
@@ -137,8 +169,8 @@ pub fn is_misrelated(objects: &IndexedObjects, id: &Id, object: &IndexedObject) 
 }
 
 /// Whether each parent is there, is another object, has this one as a child and is of its family.
-fn parents_fit(objects: &IndexedObjects, id: &Id, object: &IndexedObject) -> bool
-    ensures { result ≡ parents_fit (found_in objects.now.entries) id.now object.now }
+fn parents_fit(objects: &ReadObjects, id: &Id, object: &IndexedObject) -> bool
+    ensures { result ≡ parents_fit (built_in objects.now.entries) id.now object.now }
 {
     for parent in object.object.parents.iter() {
         if !parent_fits(objects, id, object, parent) {
@@ -148,10 +180,10 @@ fn parents_fit(objects: &IndexedObjects, id: &Id, object: &IndexedObject) -> boo
     true
 }
 
-fn parent_fits(objects: &IndexedObjects, id: &Id, object: &IndexedObject, parent: &Id) -> bool
-    ensures { result ≡ parent_fits id.now object.now parent.now (found_in objects.now.entries parent.now) }
+fn parent_fits(objects: &ReadObjects, id: &Id, object: &IndexedObject, parent: &Id) -> bool
+    ensures { result ≡ parent_fits id.now object.now parent.now (built_in objects.now.entries parent.now) }
 {
-    match objects.get(parent) {
+    match built(objects, parent) {
         None => false,
         Some(other) => {
             !is_same_id(parent, id)
@@ -162,8 +194,8 @@ fn parent_fits(objects: &IndexedObjects, id: &Id, object: &IndexedObject, parent
 }
 
 /// Whether each child has the object as a parent.
-fn children_fit(objects: &IndexedObjects, id: &Id, object: &IndexedObject) -> bool
-    ensures { result ≡ children_fit (found_in objects.now.entries) id.now object.now }
+fn children_fit(objects: &ReadObjects, id: &Id, object: &IndexedObject) -> bool
+    ensures { result ≡ children_fit (built_in objects.now.entries) id.now object.now }
 {
     for child in object.object.children.iter() {
         if !child_fits(objects, id, child) {
@@ -173,10 +205,10 @@ fn children_fit(objects: &IndexedObjects, id: &Id, object: &IndexedObject) -> bo
     true
 }
 
-fn child_fits(objects: &IndexedObjects, id: &Id, child: &Id) -> bool
-    ensures { result ≡ has_id (parents_of (found_in objects.now.entries child.now)) id.now }
+fn child_fits(objects: &ReadObjects, id: &Id, child: &Id) -> bool
+    ensures { result ≡ has_id (parents_of (built_in objects.now.entries child.now)) id.now }
 {
-    match objects.get(child) {
+    match built(objects, child) {
         None => false,
         Some(other) => other.has_parent(id),
     }

@@ -1,29 +1,17 @@
-//! Reads a document: its tree is taken apart, and the city is built at once.
-ghost use Rattle.std.specs.Prelude.{◌≡◌, ◌⊎◌, true, Some, None, IfOk, IfErr, IfSome, IfNone, OnOk};
-ghost use Rattle.std.specs.Prelude.{MatchResult};
-ghost use Rattle.serde_json.specs.Data.{Data};
-ghost use Rattle.serde_json.specs.View.{view};
+//! Reads a document: from its tokens, or else from its tree.
+ghost use Rattle.std.specs.Prelude.{◌≡◌, ◌⊎◌, IfOk, IfErr, IfSome, OnOk};
 ghost use Rattle.city_model.specs.CityMap.{object_at, CityValue};
 ghost use Rattle.city_model.specs.Relations.{IsLawful, IsRelated};
-ghost use Rattle.city_members.specs.Integral.{is_integral};
-ghost use Rattle.city_tokens.specs.document.Cities.{city_of, IsAdmitted};
-ghost use Rattle.city_doc.specs.document.Faults.{vertices_in, StandsIn, IsFirst, DocumentFault};
-ghost use Rattle.city_doc.specs.document.Top.{wrong_member};
-ghost use Rattle.city_doc.specs.internal.document.LenientCities.{lenient_city_of};
-ghost use Rattle.city_tokens.specs.tree.Texts.{IsReadable, HasTree};
+ghost use Rattle.city_tokens.specs.document.Cities.{IsAdmitted};
+ghost use Rattle.city_doc.specs.document.Faults.{DocumentFault};
+ghost use Rattle.city_tokens.specs.tree.Texts.{IsReadable};
 
-use crate::document::build::lenient_city_of;
-use crate::document::city_faults::city_fault;
-use crate::document::faults::{first_bad_list, objects_fault};
-use crate::document::misrelated::least_misrelated;
-use crate::document::top::wrong_member;
+use crate::document::judge::judge;
 use crate::fault::ReadFault;
-use crate::shape::vertices::vertices_in;
-use crate::tree::parse::{parse, tree_of};
-use crate::tree::values::to_text;
+use crate::tree::parse::parse;
 use city_model::city::City;
+use city_model::relations::relations_fault;
 use city_texts::{Pieces, streamed_city, streamed_city_by};
-use serde_json::Value;
 use std::alloc::Global;
 use std::thread::Threads;
 
@@ -69,7 +57,7 @@ pub fn lawful_city(alloc: Global, bytes: &[u8]) -> Option<City>
     ensures { IfSome result (λ c. IsAdmitted bytes.now c) }
 {
     let city = streamed_city(alloc, bytes)?;
-    related(alloc, city)
+    related(city)
 }
 
 /// The same, read in pieces.
@@ -82,17 +70,17 @@ fn lawful_city_by<R: Threads + Sync>(
     ensures { IfSome result (λ c. IsAdmitted bytes.now c) }
 {
     let city = streamed_city_by(rt, alloc, bytes, pieces)?;
-    related(alloc, city)
+    related(city)
 }
 
 /// The city, if the parents and children of all its objects agree.
-fn related(alloc: Global, city: City) -> Option<City>
+fn related(city: City) -> Option<City>
     ensures { IfSome result (λ c. (c ≡ city) × IsRelated (object_at c.1)) }
 {
-    match least_misrelated(alloc, &city).ok()? {
-        None => Some(city),
-        Some(_) => None,
+    if relations_fault(&city).is_some() {
+        return None;
     }
+    Some(city)
 }
 
 /// The city from the text's tokens, if there is one. Otherwise reads the text from its tree, and finds its fault.
@@ -118,56 +106,9 @@ fn read_tree(alloc: Global, bytes: &[u8]) -> Result<City, ReadFault>
     ensures refused { IfErr result (λ f. (f ≡ ReadFault.OutOfMemory)
         ⊎ ((c : CityValue) → IsAdmitted bytes.now c → ⊥)) }
 {
-    let tree = tree_of(alloc, bytes)?;
-    match city_of_tree(alloc, tree) {
-        Ok(Some(city)) => Ok(city),
-        Ok(None) => Err(objects_fault(alloc, bytes)),
-        Err(fault) => Err(fault_of(alloc, bytes, fault)),
-    }
-}
-
-/// The first fault of a text: this one of its tree, unless a number isn't whole.
-fn fault_of(alloc: Global, bytes: &[u8], fault: ReadFault) -> ReadFault
-    requires { (d : Data) → HasTree bytes.now d → is_integral d ≡ true
-        → (fault ≡ ReadFault.OutOfMemory) ⊎ IsFirst (StandsIn d) fault }
-    ensures { DocumentFault bytes.now result }
-{
-    match parse(alloc, bytes) {
-        Ok(_) => fault,
-        Err(earlier) => earlier.into(),
-    }
-}
-
-/// The lawful city of a tree; None if an object can't be built. A fault is the first of a tree of whole numbers.
-/// Whether they are whole isn't judged here: a city is built from nothing else.
-fn city_of_tree(alloc: Global, tree: Value) -> Result<Option<City>, ReadFault>
-    ensures built { IfOk result (λ o. IfSome o
-        (λ c. (city_of (view tree) ≡ Some c) × IsLawful (object_at c.1))) }
-    ensures right { IfOk result (λ _. wrong_member (view tree) ≡ None) }
-    ensures unbuilt { IfOk result (λ o. IfNone o
-        (lenient_city_of (vertices_in (view tree)) (view tree) ≡ None)) }
-    ensures fault { is_integral (view tree) ≡ true → IfErr result (λ f. (f ≡ ReadFault.OutOfMemory)
-        ⊎ IsFirst (StandsIn (view tree)) f) }
-{
-    if let Some(name) = wrong_member(&tree) {
-        let name = to_text(alloc, name)?;
-        return Err(ReadFault::NotCityJson(name));
-    }
-    let points = vertices_in(alloc, &tree)?;
-    let bad_list = first_bad_list(alloc, &tree)?;
-    let Some(city) = lenient_city_of(alloc, points.as_slice(), tree)? else {
-        return Ok(None);
-    };
-    let fault = city_fault(alloc, bad_list.as_ref(), &city)?;
-    built(city, fault)
-}
-
-/// The city, unless it has a fault.
-fn built(city: City, fault: Option<ReadFault>) -> Result<Option<City>, ReadFault>
-    ensures { MatchResult result (λ o. (o ≡ Some city) × (fault ≡ None)) (λ f. fault ≡ Some f) }
-{
-    match fault {
-        Some(fault) => Err(fault),
-        None => Ok(Some(city)),
+    let tree = parse(alloc, bytes)?;
+    match judge(alloc, tree, true)? {
+        Ok(city) => Ok(city),
+        Err(mut faults) => Err(faults.remove(0)),
     }
 }

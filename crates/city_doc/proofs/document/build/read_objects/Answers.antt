@@ -1,7 +1,7 @@
-use Rattle.city_doc.proofs.Prelude.{Some, sym, ap, ◌∙◌, YieldsList-from_vec, collected}
+use Rattle.city_doc.proofs.Prelude.{◌∙◌, YieldsList-from_vec, collected, ordered_members}
 use Rattle.std.proofs.lemmas.List.{append-nil}
-use Rattle.city_doc.proofs.document.Objects.{begins, goes_on, stops, ends}
-use Rattle.city_doc.proofs.document.build.lenient_objects_of.Goals as goal
+use Rattle.city_doc.proofs.document.ReadObjects.{begins, goes_on, ends}
+use Rattle.city_doc.proofs.document.build.read_objects.Goals as goal
 
 pub loop-name-init : goal.loop-name-init
 loop-name-init c =
@@ -12,17 +12,16 @@ pub loop-name-preserved : goal.loop-name-preserved
 loop-name-preserved c =
     let was = rw c.in-Some.ensures.steps at c.loop-name.invariant in
     rw (c.in_ok-push.ensures.items, c.new.ensures) (goes_on c.args.points.now _ _ (c.in-Some.name, c.in-Some.value) _
-    c.in-Some-2.object (sym c.in_ok-object.ensures ∙ c.in-Some-2.is) was)
+    c.in_ok-object.object c.in_ok-object.ensures was)
 
-pub returns-in_default : goal.returns-in_default
-returns-in_default c =
-    let was = rw c.in-Some.ensures.steps at c.loop-name.invariant in
-    stops c.args.points.now _ _ (c.in-Some.name, c.in-Some.value) _ (sym c.in_ok-object.ensures ∙ c.in_default.is) was
-
-pub returns : goal.returns
-returns c =
+pub returns-clause-read : goal.returns-clause-read
+returns-clause-read c =
     let done = c.loop-name.listed in
     let was = rw c.in-None.ensures.steps.0 at c.loop-name.invariant in
     let made = collected done.items _ _ c.in_ok-objects.was c.collect.ensures.ran (YieldsList-from_vec done.items
     c.into_iter.ensures.rest (c.into_iter.ensures.len ∙ done.ok.0)) (rw append-nil at was.sorted) in
-    ap Some made ∙ ends c.args.points.now _ done.items was
+    made ∙ ends c.args.points.now _ done.items was
+
+pub returns-clause-ordered : goal.returns-clause-ordered
+returns-clause-ordered c =
+    ordered_members c.args.members.entries c.into_iter-name-iterator.ensures.into_iter_gives.5
