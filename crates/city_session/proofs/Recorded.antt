@@ -1,19 +1,17 @@
 -- A session's record after each of its calls.
 use Rattle.std.specs.Prelude.{◌≡◌, ◌<◌, ◌≤◌, ◌==◌, ◌+◌, ◌-◌, ◌^◌, ◌++◌, ℕ, List, [], ◌∷◌, Bool, true, false, Option, None}
-use Rattle.std.specs.Prelude.{Some, is_some, option_map, length, take, if◌then◌else◌, refl, Result, Ok, Err}
+use Rattle.std.specs.Prelude.{Some, is_some, option_map, length, take, if◌then◌else◌, refl}
 use Rattle.std.specs.Prelude.{min}
 use Rattle.std.proofs.Common.{sym, ◌∙◌, ap, ap₂, subst, arith, inl, inr}
 use Rattle.std.proofs.lemmas.Bool.{cases_eq, ne_eqb, eq-eqb, false≢true}
 use Rattle.std.proofs.lemmas.List.{length-append}
 use Rattle.city_model.specs.declared.command.Command.{Command}
 use Rattle.city_model.specs.declared.command.Command.TheVariants.{Commit, Abort}
-use Rattle.city_model.specs.declared.command.Reply.{Reply}
 use Rattle.city_model.specs.declared.end.Outcome.{Outcome}
 use Rattle.city_model.specs.CityMap.{CityMap, CityValue, object_at}
 use Rattle.city_model.specs.Marks.{Snapshot, unmarked}
 use Rattle.city_model.specs.Relations.{IsLawful, HasNoOrphan}
 use Rattle.city_model.specs.Runs.{model_after}
-use Rattle.city_model.specs.Standing.{Answered}
 use Rattle.city_txn.specs.CoreState.{CoreState, committed, view, snapshot, is_open, held, StandsUnderLocks, KeepsOthers}
 use Rattle.city_txn.specs.CoreState.{IsTransactionEnd, IsRolledBack}
 use Rattle.city_session.specs.Grown.{Grown, Closed, max_commands, unrefused, with_reply, scripts_of, ends_from}

@@ -1,4 +1,4 @@
-use Rattle.std.proofs.Common.{arith, ap, subst, Some, ◌∙◌}
+use Rattle.std.proofs.Common.{arith, ap, subst, Some}
 use Rattle.city_session.specs.Grown.{Grown}
 use Rattle.city_session.specs.Live.{SessionState}
 use Rattle.city_session.specs.Acting.{GrowsTo}
