@@ -4,4 +4,3 @@ pub mod LocksAsked
 pub mod Once
 pub mod Prelude
 pub mod Tables
-mod Written
