@@ -11,7 +11,9 @@ mod IntegralScripts
 mod ItemParts
 mod Meanings
 pub mod OneList
+pub mod OnlyReading
 pub mod Prelude
+pub mod ReadsOnly
 mod Reshapes
 pub mod RoundTrip
 mod TextsRead
