@@ -10,6 +10,7 @@ pub mod Copies
 pub mod Depths
 pub mod Directions
 pub mod Edits
+pub mod EncodedAgain
 pub mod Forms
 pub mod Found
 pub mod FramedTexts
