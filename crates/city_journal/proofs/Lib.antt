@@ -1,5 +1,7 @@
+pub mod ArrayTexts
 pub mod Digits
 pub mod Followed
+pub mod InOrder
 pub mod JournalRead
 pub mod Kept
 pub mod LineParts

@@ -30,7 +30,7 @@ if_few : (many : Bool) (o : Option (List Scripted)) (ss read : List Scripted) �
     → (if many then None else o) ≡ Some read → read ≡ ss
 if_few many o ss read h e = grind arith
 
-tree_reads_only : (ss read : List Scripted) → AllByRecursion IsWritable ss → scripts_of (scripts_tree ss) ≡ Some read
+pub tree_reads_only : (ss read : List Scripted) → AllByRecursion IsWritable ss → scripts_of (scripts_tree ss) ≡ Some read
     → read ≡ ss
 tree_reads_only ss read h e =
     let ps = parts_in_order ss in
