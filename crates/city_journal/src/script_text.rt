@@ -4,6 +4,7 @@ ghost use Rattle.city_decimals.specs.Texts.{IsDecoded};
 ghost use Rattle.city_journal.specs.Entries.{IsScriptOf, script_by};
 ghost use Rattle.city_journal.specs.Steps.{commands_of_steps};
 ghost use Rattle.city_writer.specs.script.Canonical.{scripts_text};
+ghost use Rattle.city_writer.specs.script.Texts.{AreWritten};
 
 use crate::line_parts::{before, behind};
 use crate::steps::script_of_steps;
@@ -64,7 +65,8 @@ fn array_by(
     name: &Text,
     commands: &Commands<'_>,
 ) -> Result<Vec<u8>, Unwritten>
-    ensures { IfOk result (λ text. text.items ≡ scripts_text (script_by name.now commands.now ∷ [])) }
+    ensures text { IfOk result (λ text. text.items ≡ scripts_text (script_by name.now commands.now ∷ [])) }
+    ensures written { IfOk result (λ text. AreWritten text.items (script_by name.now commands.now ∷ [])) }
 {
     match commands {
         Commands::Script(script) => array_of(alloc, seed, script),
@@ -79,8 +81,10 @@ fn array_of_steps(
     name: &Text,
     steps: &[Script],
 ) -> Result<Vec<u8>, Unwritten>
-    ensures { IfOk result (λ text. text.items
+    ensures text { IfOk result (λ text. text.items
         ≡ scripts_text ((name.now, commands_of_steps steps.now) ∷ [])) }
+    ensures written { IfOk result (λ text. AreWritten text.items
+        ((name.now, commands_of_steps steps.now) ∷ [])) }
 {
     match script_of_steps(alloc, name, steps) {
         Ok(Some(script)) => array_of(alloc, seed, &script),
@@ -91,7 +95,8 @@ fn array_of_steps(
 
 /// The text of an array of a script, its numbers whole.
 fn array_of(alloc: Global, seed: u64, script: &Script) -> Result<Vec<u8>, Unwritten>
-    ensures { IfOk result (λ text. text.items ≡ scripts_text (script.now ∷ [])) }
+    ensures text { IfOk result (λ text. text.items ≡ scripts_text (script.now ∷ [])) }
+    ensures written { IfOk result (λ text. AreWritten text.items (script.now ∷ [])) }
 {
     match write_scripts(alloc, seed, slice::from_ref(script)) {
         Ok(text) => Ok(text),
