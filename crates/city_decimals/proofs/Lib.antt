@@ -10,7 +10,6 @@ pub mod Copies
 pub mod Depths
 pub mod Directions
 pub mod Edits
-pub mod EncodedAgain
 pub mod Forms
 pub mod Found
 pub mod FramedTexts

@@ -12,7 +12,7 @@ use Rattle.serde_json.specs.Read.{of_json}
 use Rattle.serde_json.specs.View.{items_of}
 use Rattle.serde_json.specs.Written.{compact_text, items_text, outline}
 use Rattle.city_decimals.proofs.CompactTexts.{text_printed}
-use Rattle.city_decimals.proofs.EncodedAgain.{IsRegained, decoded_each, encoded_together, regained}
+use Rattle.city_journal.proofs.EncodedAgain.{IsRegained, decoded_each, encoded_together, regained}
 use Rattle.city_decimals.proofs.Texts.{one_value}
 use Rattle.city_decimals.specs.Decoded.{decoded, decoded_top}
 use Rattle.city_decimals.specs.Encoded.{encoded}
@@ -20,10 +20,11 @@ use Rattle.city_decimals.specs.internal.Compact.{value_text}
 use Rattle.city_decimals.specs.internal.Compact as compact
 use Rattle.city_model.specs.Runs.{Scripted}
 use Rattle.city_model.specs.declared.object.Point.{Point}
-use Rattle.city_scripts.proofs.OnlyReading.{IsWrittenAlone, plain_alone, together_only, tree_reads_only}
+use Rattle.city_journal.proofs.OnlyReading.{AreWritable, IsWrittenAlone, plain_alone, together_only}
+use Rattle.city_journal.proofs.OnlyReading.{tree_reads_only}
 use Rattle.city_tokens.specs.script.Scripts.{IsReadAs, scripts_of}
 use Rattle.city_writer.specs.script.Canonical.{numbered_script, script_pool, script_tree, scripts_text}
-use Rattle.city_writer.specs.script.Texts.{IsWritable}
+use Rattle.city_scripts.specs.WrittenScripts.{IsShort}
 use Rattle.city_journal.specs.Encoded.{IsOfEncoded}
 use Rattle.city_journal.specs.Entries.{IsScriptOf, IsWhole}
 use Rattle.city_journal.specs.Replays.{IsArrayOf, array_text, others_text}
@@ -65,6 +66,11 @@ all_written : (ss : List Scripted) (ts : List (List ℕ)) → AreTexts false ss 
 all_written [] ts h = tt
 all_written (s ∷ ss) [] h = absurd h
 all_written (s ∷ ss) (t ∷ ts) h = (h.0.written, all_written ss ts h.2)
+
+all_short : (ss : List Scripted) (ts : List (List ℕ)) → AreTexts false ss ts → AllByRecursion IsShort ss
+all_short [] ts h = tt
+all_short (s ∷ ss) [] h = absurd h
+all_short (s ∷ ss) (t ∷ ts) h = (h.0.short, all_short ss ts h.2)
 
 -- ---- with their numbers as they were written first
 
@@ -112,17 +118,18 @@ all_regained [] ts h = tt
 all_regained (s ∷ ss) [] h = absurd h
 all_regained (s ∷ ss) (t ∷ ts) h = (script_regained s h.0.0 h.0.1 h.1, all_regained ss ts h.2)
 
-all_writable : (ss : List Scripted) (ts : List (List ℕ)) → AreTexts true ss ts → AllByRecursion IsWritable ss
-all_writable [] ts h = tt
+all_writable : (ss : List Scripted) (ts : List (List ℕ)) → AreTexts true ss ts → AreWritable ss
+all_writable [] ts h = (tt, tt)
 all_writable (s ∷ ss) [] h = absurd h
-all_writable (s ∷ ss) (t ∷ ts) h = (h.0.1.written.writable.0, all_writable ss ts h.2)
+all_writable (s ∷ ss) (t ∷ ts) h =
+    let more = all_writable ss ts h.2 in ((h.0.1.written.writable.0, more.0), (h.0.1.short, more.1))
 
 -- ---- either way
 
 pub read_of_array : (decimals : Bool) (ss : List Scripted) (ts : List (List ℕ)) → AreTexts decimals ss ts
     → (text : List ℕ) → IsArrayOf decimals ts text → (read : List Scripted) → IsReadAs text read → read ≡ ss
 read_of_array false ss ts h text is read r =
-    together_only ss (all_written ss ts h) read
+    together_only ss read (all_written ss ts h) (all_short ss ts h)
     (subst (λ x. IsReadAs x read) (is ∙ sym (array_is ss ts h)) r)
 read_of_array true ss ts h text is read r =
     let ds = map script_tree ss in

@@ -2,9 +2,9 @@
 use Rattle.std.proofs.Common.{◌≡◌, ◌+◌, ◌∙◌, ◌∷◌, ◌++◌, ℕ, zero, suc, List, [], Bool, Some, map, refl, sym, ap, ap₂, subst}
 use Rattle.std.proofs.Common.{append_assoc, arith, drop, length, take}
 use Rattle.std.proofs.lemmas.List.{length-append, take-append-drop}
-use Rattle.std.specs.Prelude.{slice_get}
+use Rattle.std.specs.Prelude.{IfOk, Result, Ok, Err, slice_get}
 use Rattle.std.specs.List.{AllByRecursion}
-use Rattle.city_model.specs.CityMap.{CityMap}
+use Rattle.city_model.specs.CityMap.{CityMap, CityValue, object_at}
 use Rattle.city_model.specs.Runs.{Scripted, left_by, left_by_found, map_left, model_after}
 use Rattle.city_model.specs.declared.end.End.{End}
 use Rattle.city_model.specs.declared.end.Outcome.{Outcome}
@@ -121,7 +121,7 @@ replay_leads decimals ks commits ns m after h numbers r =
 
 -- ---- the commits behind a place
 
-pub behind_place : (decimals : Bool) (k : ℕ) (commits : List Commit) (ns : List Noted)
+behind_place : (decimals : Bool) (k : ℕ) (commits : List Commit) (ns : List Noted)
     → AreScriptsOf decimals (map commit_read commits) ns
     → AreScriptsOf decimals (map commit_read (drop k commits)) (drop k ns)
 behind_place decimals zero commits ns h = h
@@ -130,7 +130,7 @@ behind_place decimals (suc k) (c ∷ cs) ns h =
     subst (λ l. AreScriptsOf decimals (map commit_read (drop k cs)) (drop (suc k) l)) (sym h.3)
     (behind_place decimals k cs h.1 h.6)
 
-pub encoded_behind : (decimals : Bool) (k : ℕ) (ns : List Noted) → AreOfEncoded decimals ns
+encoded_behind : (decimals : Bool) (k : ℕ) (ns : List Noted) → AreOfEncoded decimals ns
     → AreOfEncoded decimals (drop k ns)
 encoded_behind decimals zero ns h = h
 encoded_behind decimals (suc k) [] h = tt
@@ -141,8 +141,23 @@ replayed_both m [] ys = refl
 replayed_both m (x ∷ xs) ys = replayed_both (map_left m x.commands Outcome.Committed) xs ys
 
 -- the city of a place, and the commits behind it
-pub replayed_behind : (first m after : CityMap) (k : ℕ) (ns : List Noted) → m ≡ replayed first (take k ns)
+replayed_behind : (first m after : CityMap) (k : ℕ) (ns : List Noted) → m ≡ replayed first (take k ns)
     → after ≡ replayed m (drop k ns) → after ≡ replayed first ns
 replayed_behind first m after k ns at led =
     led ∙ ap (λ x. replayed x (drop k ns)) at ∙ sym (replayed_both first (take k ns) (drop k ns))
     ∙ ap (replayed first) (take-append-drop k ns)
+
+-- the commits behind a place, made again on its city, lead to the city of all of them
+pub restart_leads : {E : Type 0} (decimals : Bool) (k : ℕ) (all cs : List Commit) (ns : List Noted)
+    (first : CityMap) (city : CityValue) (result : Result CityValue E) → cs ≡ drop k all
+    → AreScriptsOf decimals (map commit_read all) ns → AreOfEncoded decimals ns
+    → object_at city.1 ≡ replayed first (take k ns)
+    → ((ns : List Noted) → AreScriptsOf decimals (map commit_read cs) ns → AreOfEncoded decimals ns
+    → IfOk result (λ c. object_at c.1 ≡ replayed (object_at city.1) ns))
+    → IfOk result (λ c. object_at c.1 ≡ replayed first ns)
+restart_leads decimals k all cs ns first city (Err e) are scripts numbers at leads = tt
+restart_leads decimals k all cs ns first city (Ok c) are scripts numbers at leads =
+    replayed_behind first (object_at city.1) (object_at c.1) k ns at
+    (leads (drop k ns)
+    (subst (λ l. AreScriptsOf decimals (map commit_read l) (drop k ns)) (sym are) (behind_place decimals k all ns scripts))
+    (encoded_behind decimals k ns numbers))

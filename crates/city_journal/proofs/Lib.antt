@@ -1,5 +1,6 @@
 pub mod ArrayTexts
 pub mod Digits
+pub mod EncodedAgain
 pub mod Followed
 pub mod InOrder
 pub mod JournalRead
@@ -8,7 +9,9 @@ pub mod LineParts
 pub mod LineRead
 pub mod Lines
 pub mod NameRead
+pub mod OnlyReading
 pub mod PlaceFound
+pub mod ReadsOnly
 pub mod Replays
 pub mod Restarts
 pub mod SaidRead

@@ -41,7 +41,7 @@ pub fn restart(
     journal: &ReadJournal<'_>,
 ) -> Result<City, JournalFault>
     requires { IsLawful (object_at city.1) }
-    ensures committed { {base : List ℕ} {version : ℕ} {told more : List Noted} {bytes : List ℕ}
+    ensures committed { (base : List ℕ) (version : ℕ) (told more : List Noted) (bytes : List ℕ)
         (l : IsLeftOver decimals base version told more bytes) (r : Restarts l journal.now) (first : CityMap)
         → AreOfEncoded decimals (told ++ take r.count more)
         → ((n : ℕ) → IsLastPlace sum.now.bytes (map place_read journal.now.places.items) n

@@ -11,9 +11,7 @@ mod IntegralScripts
 mod ItemParts
 mod Meanings
 pub mod OneList
-pub mod OnlyReading
 pub mod Prelude
-pub mod ReadsOnly
 mod Reshapes
 pub mod RoundTrip
 mod TextsRead

@@ -119,7 +119,7 @@ parts_with name d cs None array ends vertices = rw (array, ends) refl
 parts_with name d cs (Some v) array ends vertices = rw (vertices, array, ends) refl
 
 module _ (pool : List Point) (s : Scripted) where
-  abbrev pub script_parts : ScriptParts
+  abbrev script_parts : ScriptParts
   script_parts = record {
     name = s.0;
     commands = map (command_data pool) s.1;
@@ -144,17 +144,17 @@ vertices_again [] points = refl
 vertices_again (p ∷ pool) points = vertices_read (p ∷ pool) points
 
 module _ (s : Scripted) (h : IsWritable s) where
-  abbrev pub pool : List Point
+  abbrev pool : List Point
   pool = script_pool s
 
   commands_again : all_read (command_of pool) (map (command_data pool) s.1) ≡ Some s.1
   commands_again = commands_read pool h.fewer s.1 h.kept (points_in_pool (script_points s))
 
-  pub script_parts_read : parts_of (script_tree s) ≡ Some (script_parts pool s)
+  script_parts_read : parts_of (script_tree s) ≡ Some (script_parts pool s)
   script_parts_read =
       parts_read pool s h.points (sym (ends_once-read pool (map (command_data pool) s.1) s.1 commands_again) ∙ h.ends)
 
-  pub parts_again : script_of (script_parts pool s) ≡ Some s
+  parts_again : script_of (script_parts pool s) ≡ Some s
   parts_again = rw (vertices_again pool h.points, commands_again) refl
 
   -- the tree of a script stands for the script, if the script isn't too long
