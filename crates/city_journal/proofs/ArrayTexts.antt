@@ -20,13 +20,13 @@ use Rattle.city_decimals.specs.internal.Compact.{value_text}
 use Rattle.city_decimals.specs.internal.Compact as compact
 use Rattle.city_model.specs.Runs.{Scripted}
 use Rattle.city_model.specs.declared.object.Point.{Point}
-use Rattle.city_journal.proofs.OnlyReading.{AreWritable, IsWrittenAlone, plain_alone, together_only}
+use Rattle.city_journal.proofs.OnlyReading.{AreWritable, plain_alone, together_only}
 use Rattle.city_journal.proofs.OnlyReading.{tree_reads_only}
 use Rattle.city_tokens.specs.script.Scripts.{IsReadAs, scripts_of}
 use Rattle.city_writer.specs.script.Canonical.{numbered_script, script_pool, script_tree, scripts_text}
 use Rattle.city_scripts.specs.WrittenScripts.{IsShort}
 use Rattle.city_journal.specs.Encoded.{IsOfEncoded}
-use Rattle.city_journal.specs.Entries.{IsScriptOf, IsWhole}
+use Rattle.city_journal.specs.Entries.{IsScriptOf, IsWhole, IsWrittenAlone}
 use Rattle.city_journal.specs.Replays.{IsArrayOf, array_text, others_text}
 
 -- each text is that of its script, in a journal

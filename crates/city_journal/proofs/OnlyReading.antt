@@ -11,7 +11,8 @@ use Rattle.city_scripts.specs.WrittenScripts.{IsShort}
 use Rattle.city_tokens.proofs.Laws.{built_many, items_list-of}
 use Rattle.city_tokens.specs.script.Scripts.{IsReadAs, max_scripts, scripts_of}
 use Rattle.city_writer.specs.script.Canonical.{script_tree, scripts_text, scripts_tree}
-use Rattle.city_writer.specs.script.Texts.{AreWritten, IsWritable}
+use Rattle.city_writer.specs.script.Texts.{IsWritable}
+use Rattle.city_journal.specs.Entries.{IsWrittenAlone}
 use Rattle.city_journal.proofs.ReadsOnly.{IsPlain, array_back, array_tokens, numbers_of, reads_only}
 
 -- ---- the tree of scripts
@@ -32,10 +33,6 @@ pub tree_reads_only : (ss read : List Scripted) → AreWritable ss → scripts_o
 tree_reads_only ss read h e = counted_reads ss read h e (cases_lt max_scripts (length ss))
 
 -- ---- their text
-
--- the script is written as a text of its own
-abbrev pub IsWrittenAlone : Scripted → Type 0
-IsWrittenAlone s = AreWritten (scripts_text (s ∷ [])) (s ∷ [])
 
 pub plain_alone : (s : Scripted) → IsWrittenAlone s → IsPlain (script_tree s)
 plain_alone s h =

@@ -17,10 +17,14 @@ abbrev pub script_by : List ℕ → Commands → Scripted
 script_by name (commands.Script s) = s.now
 script_by name (commands.Each ss) = (name, commands_of_steps ss.now)
 
--- its text, as it stands in a text of this script alone, which was written; it has no more commands than are read
+-- the script is written as a text of its own
+abbrev pub IsWrittenAlone : Scripted → Type 0
+IsWrittenAlone s = AreWritten (scripts_text (s ∷ [])) (s ∷ [])
+
+-- its text, as it stands in a text of this script alone; it has no more commands than are read
 pub record IsWhole (s : Scripted) (text : List ℕ) : Type 0 where
   pub alone : scripts_text (s ∷ []) ≡ 91 ∷ (text ++ 93 ∷ [])
-  pub written : AreWritten (scripts_text (s ∷ [])) (s ∷ [])
+  pub written : IsWrittenAlone s
   pub short : IsShort s
 
 -- the text of a script in a journal; with decimals, its numbers are as they were written

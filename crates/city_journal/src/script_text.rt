@@ -1,11 +1,10 @@
 //! The script of a commit, as it stands in a line.
 ghost use Rattle.std.specs.Prelude.{◌≡◌, ◌++◌, ◌∷◌, [], ℕ, List, false, IfOk, IfSome};
 ghost use Rattle.city_decimals.specs.Texts.{IsDecoded};
-ghost use Rattle.city_journal.specs.Entries.{IsScriptOf, script_by};
+ghost use Rattle.city_journal.specs.Entries.{IsScriptOf, IsWrittenAlone, script_by};
 ghost use Rattle.city_journal.specs.Steps.{commands_of_steps};
 ghost use Rattle.city_scripts.specs.WrittenScripts.{IsShort};
 ghost use Rattle.city_writer.specs.script.Canonical.{scripts_text};
-ghost use Rattle.city_writer.specs.script.Texts.{AreWritten};
 
 use crate::line_parts::{before, behind};
 use crate::steps::script_of_steps;
@@ -67,7 +66,7 @@ fn array_by(
     commands: &Commands<'_>,
 ) -> Result<Vec<u8>, Unwritten>
     ensures text { IfOk result (λ text. text.items ≡ scripts_text (script_by name.now commands.now ∷ [])) }
-    ensures written { IfOk result (λ text. AreWritten text.items (script_by name.now commands.now ∷ [])) }
+    ensures written { IfOk result (λ _. IsWrittenAlone (script_by name.now commands.now)) }
 {
     match commands {
         Commands::Script(script) => array_of(alloc, seed, script),
@@ -84,8 +83,7 @@ fn array_of_steps(
 ) -> Result<Vec<u8>, Unwritten>
     ensures text { IfOk result (λ text. text.items
         ≡ scripts_text ((name.now, commands_of_steps steps.now) ∷ [])) }
-    ensures written { IfOk result (λ text. AreWritten text.items
-        ((name.now, commands_of_steps steps.now) ∷ [])) }
+    ensures written { IfOk result (λ _. IsWrittenAlone (name.now, commands_of_steps steps.now)) }
 {
     match script_of_steps(alloc, name, steps) {
         Ok(Some(script)) => array_of(alloc, seed, &script),
@@ -97,7 +95,7 @@ fn array_of_steps(
 /// The text of an array of a script, its numbers whole.
 fn array_of(alloc: Global, seed: u64, script: &Script) -> Result<Vec<u8>, Unwritten>
     ensures text { IfOk result (λ text. text.items ≡ scripts_text (script.now ∷ [])) }
-    ensures written { IfOk result (λ text. AreWritten text.items (script.now ∷ [])) }
+    ensures written { IfOk result (λ _. IsWrittenAlone script.now) }
 {
     match append_scripts(alloc, seed, Vec::new(alloc), slice::from_ref(script)) {
         Ok(text) => Ok(text),
