@@ -15,6 +15,7 @@ pub mod ReadsOnly
 pub mod Replays
 pub mod Restarts
 pub mod SaidRead
+pub mod Short
 pub mod Skipped
 pub mod SumFound
 pub mod Written
