@@ -1,17 +1,18 @@
 -- A journal's lines that a crash left, read again.
-use Rattle.std.proofs.Common.{◌≡◌, ◌∙◌, ◌+◌, inl, inr, ℕ, zero, suc, List, [], ◌∷◌, ◌++◌, Bool}
+use Rattle.std.proofs.Common.{◌≡◌, ◌∙◌, ◌+◌, ◌-◌, arith, Option, inl, inr, ℕ, zero, suc, List, [], ◌∷◌, ◌++◌, Bool}
 use Rattle.std.proofs.Common.{refl, sym, ap, subst, append_assoc, append-nil, length, map, take, MatchResult, Result, Ok, Err}
 use Rattle.std.proofs.lemmas.List.{map-append}
 use Rattle.city_live.specs.Noting.{Noted}
-use Rattle.city_journal.specs.Followed.{AreLinesOf, IsLineOf, IsSavedLine}
+use Rattle.city_journal.specs.Followed.{AreLinesOf, HoldsCommits, IsLineOf, IsSavedLine}
 use Rattle.city_journal.specs.LineTexts.{base_text}
 use Rattle.city_journal.specs.Lines.{AreLines, IsLine, lines_text, whole_lines}
 use Rattle.city_journal.specs.Reads.{AreNext, IsJournal, IsReadAs, SoFar, all_said, begun, with_commit, with_said}
-use Rattle.city_journal.specs.Restarts.{AreScriptsOf, CountUp, IsOpening, Restarts, opening_of}
+use Rattle.city_journal.specs.Restarts.{AreScriptsOf, CountUp, IsLeftOver, IsOpening, Restarts, opening_of}
 use Rattle.city_journal.specs.Said.{Said, said_text}
 use Rattle.city_journal.specs.Said.Said.{Committed, Saved}
 use Rattle.city_journal.specs.declared.fault.JournalFault.{JournalFault}
 use Rattle.city_journal.specs.declared.read.ReadJournal.{ReadJournal}
+use Rattle.city_journal.proofs.Followed.{lines_both}
 use Rattle.city_journal.proofs.JournalRead.{all_append, keys_leave, next_append}
 use Rattle.city_journal.proofs.Kept.{take_past}
 use Rattle.city_journal.proofs.Lines.{HasTorn, with_torn}
@@ -93,15 +94,16 @@ say_all decimals (l ∷ ls) ns r are (inr h) counts =
 
 -- ---- a journal that was left
 
-restart_by : (decimals : Bool) (lines : List (List ℕ)) (ns : List Noted) (k m : ℕ) (cs : List (List ℕ × ℕ)) (all : SoFar)
-    (torn bytes : List ℕ) (Q : JournalFault → Type 0) (r : Result ReadJournal JournalFault)
-    → MatchResult r (IsReadAs all torn bytes) Q → all.commits ≡ cs → AreScriptsOf decimals cs (take m ns)
-    → AreLinesOf decimals (take k lines) (take m ns) → MatchResult r (Restarts decimals lines ns k) Q
-restart_by decimals lines ns k m cs all torn bytes Q (Err f) h e scripts follow = h
-restart_by decimals lines ns k m cs all torn bytes Q (Ok j) h e scripts follow = record {
+restart_by : {decimals : Bool} {sum : List ℕ} {version : ℕ} {told more : List Noted} {bytes : List ℕ}
+    (l : IsLeftOver decimals sum version told more bytes) (m : ℕ) (cs : List (List ℕ × ℕ)) (all : SoFar)
+    (torn : List ℕ) (Q : JournalFault → Type 0) (r : Result ReadJournal JournalFault)
+    → MatchResult r (IsReadAs all torn bytes) Q → all.commits ≡ cs → AreScriptsOf decimals cs (told ++ take m more)
+    → AreLinesOf decimals (take l.kept l.more_lines) (take m more) → MatchResult r (Restarts l) Q
+restart_by l m cs all torn Q (Err f) h e scripts follow = h
+restart_by {decimals} {told = told} {more = more} l m cs all torn Q (Ok j) h e scripts follow = record {
   count = m;
   follow = follow;
-  commits = subst (λ x. AreScriptsOf decimals x (take m ns)) (sym (ap (λ s. s.commits) h.read ∙ e)) scripts;
+  commits = subst (λ x. AreScriptsOf decimals x (told ++ take m more)) (sym (ap (λ s. s.commits) h.read ∙ e)) scripts;
 }
 
 opening_more : (decimals : Bool) (sum : List ℕ) (version : ℕ) (keys ss : List Said) (ls : List (List ℕ))
@@ -110,41 +112,81 @@ opening_more decimals sum version keys ss ls e =
     ap (λ x. base_text sum decimals version ∷ x)
     (map-append said_text keys ss ∙ ap (λ x. map said_text keys ++ x) e)
 
-journal_left : (decimals : Bool) (sum : List ℕ) (version : ℕ) (keys : List Said) → IsOpening sum version keys
-    → (lines : List (List ℕ)) (ns : List Noted) (k : ℕ) (bytes : List ℕ)
-    → AreLines (opening_of decimals sum version keys ++ lines)
-    → whole_lines bytes ≡ take (length (opening_of decimals sum version keys) + k) (opening_of decimals sum version keys ++ lines)
-    → (said : SayCommits decimals (begun sum version) (take k lines) ns) → (t : HasTorn bytes)
-    → IsJournal decimals sum version (keys ++ said.ss) t.torn bytes
-journal_left decimals sum version keys is lines ns k bytes are left said t = record {
-  is_sum = is.is_sum;
-  fits = is.fits;
-  first = are.0;
-  next = next_append (begun sum version) keys said.ss is.next
-      (subst (λ x. AreNext x said.ss) (sym (keys_leave (begun sum version) keys is.are_keys)) said.next);
-  part = t.is;
-  text = t.text ∙ ap (λ (ls : List (List ℕ)). lines_text ls ++ t.torn)
-      (left ∙ take_past (opening_of decimals sum version keys) lines k
-      ∙ sym (opening_more decimals sum version keys said.ss (take k lines) said.texts));
-}
+-- the first lines behind those that were told
+first_lines_left : (opening front back : List (List ℕ)) (k : ℕ)
+    → take (length (opening ++ front) + k) (opening ++ (front ++ back)) ≡ opening ++ (front ++ take k back)
+first_lines_left opening front back k =
+    ap (take (length (opening ++ front) + k)) (sym (append_assoc opening front back))
+    ∙ take_past (opening ++ front) back k ∙ append_assoc opening front (take k back)
 
-pub restart_read : (decimals : Bool) (bytes : List ℕ) (Q : JournalFault → Type 0) (r : Result ReadJournal JournalFault)
-    → ((sum : List ℕ) (version : ℕ) (ss : List Said) (torn : List ℕ) → IsJournal decimals sum version ss torn bytes
-    → MatchResult r (IsReadAs (all_said (begun sum version) ss) torn bytes) Q)
-    → (sum : List ℕ) (version : ℕ) (keys : List Said) (lines : List (List ℕ)) (ns : List Noted) (k : ℕ)
-    → IsOpening sum version keys → AreLines (opening_of decimals sum version keys ++ lines)
-    → AreLinesOf decimals lines ns → CountUp version ns
-    → whole_lines bytes ≡ take (length (opening_of decimals sum version keys) + k) (opening_of decimals sum version keys ++ lines)
-    → MatchResult r (Restarts decimals lines ns k) Q
-restart_read decimals bytes Q r read sum version keys lines ns k is are follow counts left =
-    let first = first_lines decimals lines ns k follow in
-    let opening = opening_of decimals sum version keys in
-    let said = say_all decimals (take k lines) (take first.0 ns) (begun sum version)
-    (first_are lines k (behind_are opening lines are)) first.1 (first_count version ns first.0 counts) in
-    let t = with_torn bytes in
-    let all = all_said (begun sum version) (keys ++ said.ss) in
-    let commits : all.commits ≡ said.cs = ap (λ s. s.commits) (all_append (begun sum version) keys said.ss
-    ∙ ap (λ s. all_said s said.ss) (keys_leave (begun sum version) keys is.are_keys)) ∙ said.commits in
-    restart_by decimals lines ns k first.0 said.cs all t.torn bytes Q r
-    (read sum version (keys ++ said.ss) t.torn
-    (journal_left decimals sum version keys is lines (take first.0 ns) k bytes are left said t)) commits said.scripts first.1
+module _ {decimals : Bool} {sum : List ℕ} {version : ℕ} {told more : List Noted} {bytes : List ℕ}
+    (l : IsLeftOver decimals sum version told more bytes) where
+  abbrev opening : List (List ℕ)
+  opening = opening_of decimals sum version l.keys
+
+  abbrev lines : List (List ℕ)
+  lines = l.told_lines ++ take l.kept l.more_lines
+
+  journal_left : (ns : List Noted) (said : SayCommits decimals (begun sum version) lines ns) (t : HasTorn bytes)
+      → IsJournal decimals sum version (l.keys ++ said.ss) t.torn bytes
+  journal_left ns said t = record {
+    is_sum = l.opens.is_sum;
+    fits = l.opens.fits;
+    first = l.are_lines.0;
+    next = next_append (begun sum version) l.keys said.ss l.opens.next
+        (subst (λ x. AreNext x said.ss) (sym (keys_leave (begun sum version) l.keys l.opens.are_keys)) said.next);
+    part = t.is;
+    text = t.text ∙ ap (λ (ls : List (List ℕ)). lines_text ls ++ t.torn)
+        (l.left ∙ first_lines_left opening l.told_lines l.more_lines l.kept
+        ∙ sym (opening_more decimals sum version l.keys said.ss lines said.texts));
+  }
+
+  are_left : AreLines lines
+  are_left =
+      let behind = behind_are opening (l.told_lines ++ l.more_lines) l.are_lines in
+      subst AreLines (take_past l.told_lines l.more_lines l.kept)
+      (first_are (l.told_lines ++ l.more_lines) (length l.told_lines + l.kept) behind)
+
+  counts_left : (m : ℕ) → CountUp version (told ++ take m more)
+  counts_left m =
+      subst (CountUp version) (take_past told more m) (first_count version (told ++ more) (length told + m) l.count_up)
+
+  pub restart_read : (Q : JournalFault → Type 0) (r : Result ReadJournal JournalFault)
+      → ((sum : List ℕ) (version : ℕ) (ss : List Said) (torn : List ℕ) → IsJournal decimals sum version ss torn bytes
+      → MatchResult r (IsReadAs (all_said (begun sum version) ss) torn bytes) Q)
+      → MatchResult r (Restarts l) Q
+  restart_read Q r read =
+      let first = first_lines decimals l.more_lines more l.kept l.are_more in
+      let ns = told ++ take first.0 more in
+      let follow = lines_both decimals l.told_lines (take l.kept l.more_lines) told (take first.0 more) l.are_told first.1 in
+      let said = say_all decimals lines ns (begun sum version) are_left follow (counts_left first.0) in
+      let t = with_torn bytes in
+      let all = all_said (begun sum version) (l.keys ++ said.ss) in
+      let commits : all.commits ≡ said.cs = ap (λ s. s.commits) (all_append (begun sum version) l.keys said.ss
+      ∙ ap (λ s. all_said s said.ss) (keys_leave (begun sum version) l.keys l.opens.are_keys)) ∙ said.commits in
+      restart_by l first.0 said.cs all t.torn Q r
+      (read sum version (l.keys ++ said.ss) t.torn (journal_left ns said t)) commits said.scripts first.1
+
+-- ---- what a crash leaves
+
+pub left_over : {F : Type 0} (seen : F → Option (List ℕ)) (may_leave : F → List ℕ → Type 0) (decimals : Bool) (file : F)
+    (sum : List ℕ) (version : ℕ) (keys : List Said) (told more : List Noted) → IsOpening sum version keys
+    → CountUp version (told ++ more)
+    → HoldsCommits seen may_leave decimals file (opening_of decimals sum version keys) told more
+    → (c : List ℕ) → may_leave file c → IsLeftOver decimals sum version told more c
+left_over seen may_leave decimals file sum version keys told more opens count_up h c now =
+    let left = h.holds.left c now in
+    let least = length (opening_of decimals sum version keys ++ h.told_lines) in
+    let split : left.0 ≡ least + (left.0 - least) = omega (arith, left.1) in
+    record {
+      keys = keys;
+      opens = opens;
+      told_lines = h.told_lines;
+      more_lines = h.more_lines;
+      are_lines = h.holds.are_lines;
+      are_told = h.are_told;
+      are_more = h.are_more;
+      count_up = count_up;
+      kept = left.0 - least;
+      left = left.3 ∙ ap (λ n. take n (opening_of decimals sum version keys ++ (h.told_lines ++ h.more_lines))) split;
+    }

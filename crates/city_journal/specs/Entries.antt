@@ -2,6 +2,8 @@
 use Rattle.std.specs.Prelude.{◌≡◌, ◌<◌, ◌^◌, ℕ, List, [], ◌∷◌, ◌++◌, Bool, true, false, Option}
 use Rattle.city_model.specs.Runs.{Scripted}
 use Rattle.city_writer.specs.script.Canonical.{scripts_text}
+use Rattle.city_writer.specs.script.Texts.{AreWritten}
+use Rattle.city_scripts.specs.WrittenScripts.{IsShort}
 use Rattle.city_decimals.specs.Texts.{IsDecoded}
 use Rattle.city_live.specs.declared.journal.Commands.TheVariants as commands
 use Rattle.city_live.specs.declared.journal.Commands.{Commands}
@@ -15,9 +17,15 @@ abbrev pub script_by : List ℕ → Commands → Scripted
 script_by name (commands.Script s) = s.now
 script_by name (commands.Each ss) = (name, commands_of_steps ss.now)
 
--- its text, as it stands in a text of this script alone
-abbrev pub IsWhole : Scripted → List ℕ → Type 0
-IsWhole s text = scripts_text (s ∷ []) ≡ 91 ∷ (text ++ 93 ∷ [])
+-- the script is written as a text of its own
+abbrev pub IsWrittenAlone : Scripted → Type 0
+IsWrittenAlone s = AreWritten (scripts_text (s ∷ [])) (s ∷ [])
+
+-- its text, as it stands in a text of this script alone; it has no more commands than are read
+pub record IsWhole (s : Scripted) (text : List ℕ) : Type 0 where
+  pub alone : scripts_text (s ∷ []) ≡ 91 ∷ (text ++ 93 ∷ [])
+  pub written : IsWrittenAlone s
+  pub short : IsShort s
 
 -- the text of a script in a journal; with decimals, its numbers are as they were written
 abbrev pub IsScriptOf : Bool → Scripted → List ℕ → Type 0

@@ -1,3 +1,4 @@
+pub mod Encoded
 pub mod Entries
 pub mod Files
 pub mod Followed

@@ -8,6 +8,7 @@ use Rattle.city_model.specs.declared.end.End.{End}
 use Rattle.city_model.specs.declared.end.Outcome.{Outcome}
 use Rattle.city_decimals.specs.Texts.{IsEncoded}
 use Rattle.city_journal.specs.declared.read.Commit.{Commit}
+use Rattle.city_scheduler.specs.InTurn.{AreInTurn}
 use Rattle.city_tokens.specs.script.Scripts.{IsReadAs}
 
 -- the texts of the commits' scripts
@@ -35,7 +36,7 @@ IsArrayOf true scripts text = IsEncoded (array_text scripts) text
 abbrev pub IsCommitted : End → Type 0
 IsCommitted e = e.outcome ≡ Outcome.Committed
 
--- the array of these scripts' texts is read as as many scripts, which run one after the other in a serial history, each
+-- the array of these scripts' texts is read as as many scripts, which run one after the other in their order, each
 -- of them committed, and lead from the first map to the second
 pub record LeadsTo (decimals : Bool) (scripts : List (List ℕ)) (before after : CityMap) : Type 0 where
   pub text : List ℕ
@@ -44,6 +45,7 @@ pub record LeadsTo (decimals : Bool) (scripts : List (List ℕ)) (before after :
   pub is_read : IsReadAs text read
   pub each_read : length read ≡ length scripts
   pub ends : List End
+  pub in_turn : AreInTurn 0 ends
   pub serial : IsSerialHistory read before ends
   pub each_ended : length ends ≡ length read
   pub committed : AllByRecursion IsCommitted ends

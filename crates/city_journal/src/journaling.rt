@@ -3,7 +3,7 @@ ghost use Rattle.std.specs.Prelude.{◌≡◌, ◌++◌, ◌∷◌, [], true, is
 ghost use Rattle.city_live.specs.Entering.{noted_by};
 ghost use Rattle.city_journal.specs.Entries.{IsCommitLine};
 ghost use Rattle.city_journal.specs.Files.{IsKept};
-ghost use Rattle.city_journal.specs.Followed.{AddsCommits};
+ghost use Rattle.city_journal.specs.Followed.{AddsCommits, TellsCommits};
 ghost use Rattle.city_journal.specs.LineTexts.{saved_text};
 ghost use Rattle.city_journal.specs.Kept.{Gains, GoesBy, MayTell, Stays};
 
@@ -148,6 +148,8 @@ impl<F: JournalFile> Journaling<F> {
     /// Brings what was appended to the disk. If it can't, nobody may be told of it.
     pub fn sync(&mut self) -> Result<(), Unwritten>
         ensures ok { OnOk result (GoesBy (MayTell F.seen F.may_leave) self.old.file self.new.file) }
+        ensures told { OnOk result (GoesBy (TellsCommits self.old.decimals F.seen F.may_leave)
+            self.old.file self.new.file) }
         ensures err { OnErr result (GoesBy (Stays F.seen F.may_leave) self.old.file self.new.file) }
         ensures noted { self.new.noted ≡ self.old.noted }
         ensures decimals { self.new.decimals ≡ self.old.decimals }

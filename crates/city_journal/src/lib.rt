@@ -7,7 +7,7 @@
 //! - `replaying`: its commits, made again on a city
 //! - `file`: a file that grows; `memory_file`: one in memory; `runtime_file`: one of a runtime
 //! - `journaling`: what a live city notes its commits by; `noting`: lines in a file
-//! - `ghosts`: what contracts alone see
+//! - `ghosts`: what contracts alone see; `laws`: what holds of all journals
 #![tactic(auto)]
 
 mod fault;
@@ -15,6 +15,7 @@ mod file;
 mod ghosts;
 mod journaling;
 mod keys;
+mod laws;
 mod line;
 mod line_parts;
 mod line_sum;
@@ -36,6 +37,7 @@ pub use keys::{Keys, MAX_KEYS, Made};
 pub use memory_file::MemoryFile;
 pub use model_sum::ModelSum;
 pub use read::{Commit, ReadJournal, read_journal};
-pub use replaying::replay;
+pub use laws::what_a_crash_leaves;
+pub use replaying::{replay, restart};
 pub use runtime_file::RuntimeFile;
 pub use write_line::append_beginning;

@@ -1,15 +1,14 @@
 //! A whole journal, read.
-ghost use Rattle.std.specs.Prelude.{◌≡◌, ◌≢◌, ◌^◌, ◌<◌, ◌+◌, ◌++◌, ◌∷◌, [], ◌⊎◌, ℕ, List, Bool, map, drop};
-ghost use Rattle.std.specs.Prelude.{length, take, IfErr, IfOk, MatchOption, MatchResult, OnErr};
+ghost use Rattle.std.specs.Prelude.{◌≡◌, ◌≢◌, ◌^◌, ◌<◌, ◌++◌, ◌∷◌, [], ◌⊎◌, ℕ, List, Bool, map, drop};
+ghost use Rattle.std.specs.Prelude.{IfErr, IfOk, MatchOption, MatchResult, OnErr};
 ghost use Rattle.city_journal.specs.LineTexts.{base_text};
-ghost use Rattle.city_journal.specs.Lines.{AreLines, EndsLine, IsLine, lines_text, whole_lines};
+ghost use Rattle.city_journal.specs.Lines.{EndsLine, IsLine, lines_text};
 ghost use Rattle.std.specs.Bool.{Decides};
 ghost use Rattle.std.specs.List.{AllByRecursion};
 ghost use Rattle.city_live.specs.Noting.{Noted};
-ghost use Rattle.city_journal.specs.Followed.{AreLinesOf};
 ghost use Rattle.city_journal.specs.Places.{HasOther, IsLastPlace, place_read};
 ghost use Rattle.city_journal.specs.Reads.{AreNext, IsJournal, IsReadAs, all_said, begun, reading_so_far, so_far};
-ghost use Rattle.city_journal.specs.Restarts.{CountUp, IsOpening, Restarts, opening_of};
+ghost use Rattle.city_journal.specs.Restarts.{IsLeftOver, Restarts};
 ghost use Rattle.city_journal.specs.Said.{Said, said_text};
 ghost use Rattle.city_journal.specs.Skipped.{IsSkipped, TellsSkipped};
 ghost use Rattle.city_journal.specs.Sums.{IsSum};
@@ -158,12 +157,9 @@ pub fn read_journal(
         → bytes.now ≡ base_text sum other version ++ 10 ∷ rest
         → MatchResult result (λ _. ⊥)
         (λ f. (f ≡ JournalFault.OtherNumbers other) ⊎ (f ≡ JournalFault.OutOfMemory)) }
-    ensures left { (sum : List ℕ) (version : ℕ) (keys : List Said) (lines : List (List ℕ)) (ns : List Noted) (k : ℕ)
-        → IsOpening sum version keys → AreLines (opening_of decimals sum version keys ++ lines)
-        → AreLinesOf decimals lines ns → CountUp version ns
-        → whole_lines bytes.now ≡ take (length (opening_of decimals sum version keys) + k)
-        (opening_of decimals sum version keys ++ lines)
-        → MatchResult result (Restarts decimals lines ns k) (λ f. f ≡ JournalFault.OutOfMemory) }
+    ensures left { (sum : List ℕ) (version : ℕ) (told more : List Noted)
+        (l : IsLeftOver decimals sum version told more bytes.now)
+        → MatchResult result (Restarts l) (λ f. f ≡ JournalFault.OutOfMemory) }
 {
     read_whole(alloc, bytes, decimals)
 }

@@ -1,13 +1,20 @@
 //! The commits of a journal, made again on a city.
-ghost use Rattle.std.specs.Prelude.{◌≡◌, ◌≤◌, ◌<◌, ◌++◌, ◌∷◌, [], ℕ, List, length, IfOk, IfNone, OnOk};
+ghost use Rattle.std.specs.Prelude.{◌≡◌, ◌≤◌, ◌<◌, ◌++◌, ◌∷◌, [], ℕ, List, length, map, take, IfOk, IfNone, OnOk};
 ghost use Rattle.std.specs.List.{AllByRecursion};
-ghost use Rattle.city_model.specs.CityMap.{object_at};
+ghost use Rattle.city_live.specs.Noting.{Noted};
+ghost use Rattle.city_live.specs.Replaying.{replayed};
+ghost use Rattle.city_model.specs.CityMap.{CityMap, object_at};
 ghost use Rattle.city_model.specs.Relations.{IsLawful};
+ghost use Rattle.city_journal.specs.Encoded.{AreOfEncoded};
+ghost use Rattle.city_journal.specs.Places.{IsLastPlace, place_read};
+ghost use Rattle.city_journal.specs.Reads.{commit_read};
 ghost use Rattle.city_journal.specs.Replays.{IsArrayOf, IsCommitted, LeadsTo, Replays, array_text, others_text};
 ghost use Rattle.city_journal.specs.Replays.{scripts_of};
+ghost use Rattle.city_journal.specs.Restarts.{AreScriptsOf, IsLeftOver, Restarts};
 
 use crate::fault::JournalFault;
-use crate::read::Commit;
+use crate::model_sum::ModelSum;
+use crate::read::{Commit, ReadJournal};
 use city_decimals::{DecimalsFault, encode};
 use city_model::OutOfMemory;
 use city_model::city::City;
@@ -21,6 +28,32 @@ use std::alloc::Global;
 /// four times as many, which a text may have.
 const MOST_BYTES: usize = 16 * 1024 * 1024 - 64;
 
+/// The city of a restart: the commits of a journal behind the last place where the model has this sum, made again on
+/// that city.
+///
+/// If the city is that of the place, it is the one after all commits that were told, and the first of the others. With
+/// `decimals` this is known of scripts that were read of encoded texts.
+pub fn restart(
+    alloc: Global,
+    decimals: bool,
+    city: City,
+    sum: &ModelSum,
+    journal: &ReadJournal<'_>,
+) -> Result<City, JournalFault>
+    requires { IsLawful (object_at city.1) }
+    ensures committed { (base : List ℕ) (version : ℕ) (told more : List Noted) (bytes : List ℕ)
+        (l : IsLeftOver decimals base version told more bytes) (r : Restarts l journal.now) (first : CityMap)
+        → AreOfEncoded decimals (told ++ take r.count more)
+        → ((n : ℕ) → IsLastPlace sum.now.bytes (map place_read journal.now.places.items) n
+        → object_at city.1 ≡ replayed first (take n (told ++ take r.count more)))
+        → IfOk result (λ c. object_at c.1 ≡ replayed first (told ++ take r.count more)) }
+    ensures lawful { IfOk result (λ c. IsLawful (object_at c.1)) }
+    ensures frame { IfOk result (λ c. c.0 ≡ city.0) }
+{
+    let commits = journal.commits_behind(sum)?;
+    replay(alloc, decimals, city, commits)
+}
+
 /// Makes commits again, one after the other: in arrays of scripts, which the batch program would run to the same city.
 pub fn replay(
     alloc: Global,
@@ -31,6 +64,10 @@ pub fn replay(
     requires { IsLawful (object_at city.1) }
     ensures replayed { IfOk result (λ c. (ns : List ℕ) × Replays decimals ns (scripts_of commits.now)
         (object_at city.1) (object_at c.1)) }
+
+    // Texts of noted commits lead to where these commits led.
+    ensures noted { (ns : List Noted) → AreScriptsOf decimals (map commit_read commits.now) ns
+        → AreOfEncoded decimals ns → IfOk result (λ c. object_at c.1 ≡ replayed (object_at city.1) ns) }
     ensures lawful { IfOk result (λ c. IsLawful (object_at c.1)) }
     ensures frame { IfOk result (λ c. c.0 ≡ city.0) }
 {

@@ -1,8 +1,9 @@
 //! The script of a commit, as it stands in a line.
-ghost use Rattle.std.specs.Prelude.{◌≡◌, ◌++◌, ◌∷◌, [], IfOk, IfSome};
+ghost use Rattle.std.specs.Prelude.{◌≡◌, ◌++◌, ◌∷◌, [], ℕ, List, false, IfOk, IfSome};
 ghost use Rattle.city_decimals.specs.Texts.{IsDecoded};
-ghost use Rattle.city_journal.specs.Entries.{IsScriptOf, script_by};
+ghost use Rattle.city_journal.specs.Entries.{IsScriptOf, IsWrittenAlone, script_by};
 ghost use Rattle.city_journal.specs.Steps.{commands_of_steps};
+ghost use Rattle.city_scripts.specs.WrittenScripts.{IsShort};
 ghost use Rattle.city_writer.specs.script.Canonical.{scripts_text};
 
 use crate::line_parts::{before, behind};
@@ -12,8 +13,8 @@ use city_live::{Commands, Entry, Unwritten};
 use city_members::text::Text;
 use city_model::OutOfMemory;
 use city_model::script::Script;
-use city_scripts::write_scripts;
 use city_tokens::{MAX_COMMANDS, MAX_TEXT};
+use city_writer::append_scripts;
 use std::alloc::Global;
 use std::slice;
 
@@ -64,7 +65,8 @@ fn array_by(
     name: &Text,
     commands: &Commands<'_>,
 ) -> Result<Vec<u8>, Unwritten>
-    ensures { IfOk result (λ text. text.items ≡ scripts_text (script_by name.now commands.now ∷ [])) }
+    ensures text { IfOk result (λ text. text.items ≡ scripts_text (script_by name.now commands.now ∷ [])) }
+    ensures written { IfOk result (λ _. IsWrittenAlone (script_by name.now commands.now)) }
 {
     match commands {
         Commands::Script(script) => array_of(alloc, seed, script),
@@ -79,8 +81,9 @@ fn array_of_steps(
     name: &Text,
     steps: &[Script],
 ) -> Result<Vec<u8>, Unwritten>
-    ensures { IfOk result (λ text. text.items
+    ensures text { IfOk result (λ text. text.items
         ≡ scripts_text ((name.now, commands_of_steps steps.now) ∷ [])) }
+    ensures written { IfOk result (λ _. IsWrittenAlone (name.now, commands_of_steps steps.now)) }
 {
     match script_of_steps(alloc, name, steps) {
         Ok(Some(script)) => array_of(alloc, seed, &script),
@@ -91,9 +94,10 @@ fn array_of_steps(
 
 /// The text of an array of a script, its numbers whole.
 fn array_of(alloc: Global, seed: u64, script: &Script) -> Result<Vec<u8>, Unwritten>
-    ensures { IfOk result (λ text. text.items ≡ scripts_text (script.now ∷ [])) }
+    ensures text { IfOk result (λ text. text.items ≡ scripts_text (script.now ∷ [])) }
+    ensures written { IfOk result (λ _. IsWrittenAlone script.now) }
 {
-    match write_scripts(alloc, seed, slice::from_ref(script)) {
+    match append_scripts(alloc, seed, Vec::new(alloc), slice::from_ref(script)) {
         Ok(text) => Ok(text),
         Err(OutOfMemory) => Err(Unwritten::OutOfMemory),
     }
@@ -121,7 +125,9 @@ fn copied(alloc: Global, text: &[u8]) -> Result<Vec<u8>, Unwritten>
 }
 
 /// Whether there are more commands than a script may have. Doesn't allocate.
-fn has_many(commands: &Commands<'_>) -> bool {
+fn has_many(commands: &Commands<'_>) -> bool
+    ensures { (name : List ℕ) → result ≡ false → IsShort (script_by name commands.now) }
+{
     match commands {
         Commands::Script(script) => script.commands().len() > MAX_COMMANDS,
         Commands::Each(steps) => steps.len() >= MAX_COMMANDS,

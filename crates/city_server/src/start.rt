@@ -8,7 +8,7 @@ use crate::journal_store::JournalStore;
 use city_decimals::decode;
 use city_doc::{append_city, read_city};
 use city_journal::{
-    JournalFault, Journaling, Keys, ModelSum, ReadJournal, append_beginning, read_journal, replay,
+    JournalFault, Journaling, Keys, ModelSum, ReadJournal, append_beginning, read_journal, restart,
 };
 use city_model::OutOfMemory;
 use city_model::city::City;
@@ -123,7 +123,7 @@ fn resume<D: JournalStore + Drop>(
     } = opened;
     let commits = read.commits_behind(&sum)?;
     let is_saved = is_output && commits.is_empty();
-    let city = replay(alloc, decimals, city, commits)?;
+    let city = restart(alloc, decimals, city, &sum, &read)?;
     let mut journal = journal;
     if journal.open_behind(read.whole()).is_err() {
         return Err(LiveFault::JournalFile(ServeFault::Write));

@@ -5,4 +5,4 @@ use Rattle.city_journal.proofs.read.read_journal.Goals as goal
 
 pub returns-clause-left : goal.returns-clause-left
 returns-clause-left c =
-    restart_read c.args.decimals c.args.bytes.now (λ f. f ≡ OutOfMemory) c.read_whole.result c.read_whole.ensures.read
+    λ sum version told more l. restart_read l (λ f. f ≡ OutOfMemory) c.read_whole.result c.read_whole.ensures.read

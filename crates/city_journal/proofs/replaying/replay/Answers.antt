@@ -2,6 +2,7 @@ use Rattle.std.proofs.Common.{◌∷◌, [], refl, ap, arith, rules}
 use Rattle.std.proofs.lemmas.List.{drop_all, length-drop}
 use Rattle.city_model.specs.CityMap.{object_at}
 use Rattle.city_journal.specs.Replays.{scripts_of}
+use Rattle.city_journal.proofs.InOrder.{replay_leads}
 use Rattle.city_journal.proofs.Replays.{one_slice_more}
 use Rattle.city_journal.proofs.replaying.replay.Goals as goal
 
@@ -23,3 +24,12 @@ pub returns-clause-replayed : goal.returns-clause-replayed
 returns-clause-replayed c =
     let l = c.loop-at in
     l.invariant.3 [] (object_at l.city.1) (ap scripts_of (drop_all l.at c.args.commits.now c.loop-at-test.false), refl)
+
+pub returns-clause-noted : goal.returns-clause-noted
+returns-clause-noted c =
+    let l = c.loop-at in
+    let all = l.invariant.3 [] (object_at l.city.1)
+    (ap scripts_of (drop_all l.at c.args.commits.now c.loop-at-test.false), refl) in
+    λ ns scripts numbers.
+        replay_leads c.args.decimals all.0 c.args.commits.now ns (object_at c.args.city.1) (object_at l.city.1) scripts
+        numbers all.1

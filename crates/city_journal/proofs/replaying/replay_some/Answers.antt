@@ -13,6 +13,7 @@ returns-in-None-clause-leads c =
       is_read = rw c.as_slice.ensures.value at c.in-Ok.ensures.read;
       each_read = same ∙ sym (length-map c.args.commits.now _);
       ends = c.in_ok-finished.finished.ends;
+      in_turn = c.in_ok-finished.ensures.in_turn;
       serial = c.in_ok-finished.ensures.fits;
       each_ended = c.in_ok-finished.ensures.each_once;
       committed = rw c.as_slice-2.ensures at c.in-None.ensures;
