@@ -1,4 +1,4 @@
-//! What a live city notes its commits by.
+//! Notes the commits of a live city.
 ghost use Rattle.std.specs.Prelude.{◌≡◌, ◌++◌, ◌∷◌, [], true, is_some, IfOk, IfSome, None, OnOk, OnErr};
 ghost use Rattle.city_live.specs.Entering.{noted_by};
 ghost use Rattle.city_journal.specs.Entries.{IsCommitLine};
@@ -21,19 +21,19 @@ use std::alloc::Global;
 use std::collections::BTreeMap;
 use std::marker::Model;
 
-/// Notes commits in a file, if there is one, and the keys of those that have one.
+/// Notes commits in a file, if there is one, and their keys.
 ///
-/// A commit is told to nobody before `sync` has succeeded after it. Contracts see the file, and which commits are noted.
+/// A commit is told to nobody before `sync` has succeeded after it. Contracts see the file and the commits noted.
 #[derive(Drop)]
 pub struct Journaling<F: JournalFile> {
     alloc: Global,
-    /// By which points are hashed.
+    /// Points are hashed by it.
     seed: u64,
     /// Whether numbers are of any form.
     decimals: bool,
     file: Option<F>,
     noted: NotedCommits,
-    /// Whether all that the file has is synced.
+    /// Whether the whole file is synced.
     synced: bool,
     /// The time: so many seconds since 1970.
     time: u64,
@@ -58,7 +58,7 @@ impl<F: JournalFile> Model for Journaling<F> {
 }
 
 impl<F: JournalFile> Journaling<F> {
-    /// Notes commits in this file, if there is one, behind what it has; these keys are known. Doesn't allocate.
+    /// Notes commits at the end of this file, if there is one; these keys are known. Doesn't allocate.
     pub fn new(
         alloc: Global,
         seed: u64,
@@ -106,14 +106,14 @@ impl<F: JournalFile> Journaling<F> {
         self.file.take()
     }
 
-    /// Sets the time that the next lines have: so many seconds since 1970. Doesn't allocate.
+    /// Sets the time of the next lines: so many seconds since 1970. Doesn't allocate.
     pub fn set_time(&mut self, seconds: u64)
         ensures { self.new ≡ self.old }
     {
         self.time = seconds;
     }
 
-    /// Has the hand's next commit noted with this key. If it has a key already, that one stays.
+    /// Has the hand's next commit noted with this key. If it has a key already, the old one stays.
     pub fn ask(&mut self, hand: &Text, key: &Text) -> Result<(), OutOfMemory>
         ensures { self.new ≡ self.old }
     {
@@ -140,12 +140,12 @@ impl<F: JournalFile> Journaling<F> {
         self.asked.remove(hand);
     }
 
-    /// The commit that was made with this key, if it is known. Doesn't allocate.
+    /// The commit made with this key, if it is known. Doesn't allocate.
     pub fn made(&self, key: &Text) -> Option<&Made> {
         self.keys.get(key)
     }
 
-    /// Brings what was appended to the disk. If it can't, nobody may be told of it.
+    /// Brings all appended lines to the disk. If it can't, nobody may be told of them.
     pub fn sync(&mut self) -> Result<(), Unwritten>
         ensures ok { OnOk result (GoesBy (MayTell F.seen F.may_leave) self.old.file self.new.file) }
         ensures told { OnOk result (GoesBy (TellsCommits self.old.decimals F.seen F.may_leave)
@@ -162,7 +162,7 @@ impl<F: JournalFile> Journaling<F> {
         Ok(())
     }
 
-    /// Notes that the model with this sum is about to be put into place. It has to be synced before that is done.
+    /// Notes that the model with this sum is about to be put into place. It has to be synced before.
     pub fn begin_save(&mut self, sum: &ModelSum) -> Result<(), Unwritten>
         ensures ok { OnOk result (GoesBy (Gains (λ l. l ≡ saved_text sum.now.bytes) F.seen F.may_leave)
             self.old.file self.new.file) }
@@ -179,7 +179,7 @@ impl<F: JournalFile> Journaling<F> {
         }
     }
 
-    /// Begins the journal anew over the model with this sum, at this version, which was put into place.
+    /// Begins the journal anew over the model just put into place, with this sum and at this version.
     pub fn end_save(&mut self, sum: &ModelSum, version: u64) -> Result<(), Unwritten>
         ensures noted { self.new.noted ≡ self.old.noted }
         ensures decimals { self.new.decimals ≡ self.old.decimals }
@@ -199,7 +199,7 @@ impl<F: JournalFile> Journaling<F> {
         }
     }
 
-    /// Notes a commit that is about to be made, with the key that its hand asked for. If it can't, its key isn't known.
+    /// Notes a commit about to be made, with the key its hand asked for. If it can't, its key isn't known.
     pub fn note_commit(&mut self, entry: &Entry<'_>) -> Result<(), Unwritten>
         ensures ok { OnOk result (GoesBy (Gains (IsCommitLine self.old.decimals entry.now) F.seen F.may_leave)
             self.old.file self.new.file) }

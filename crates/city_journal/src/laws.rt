@@ -7,8 +7,8 @@ ghost use Rattle.city_journal.specs.Said.{Said};
 
 use crate::file::JournalFile;
 
-/// Whatever a crash leaves of a file with the lines of commits has all of those that may be told, and the first of the
-/// others. `read_journal` says what is read of it, and `restart` which city comes of that.
+/// Whatever a crash leaves of a file with the lines of commits has all that may be told, and the first of the others.
+/// `read_journal` gives the commits read of it, and `restart` the city they lead to.
 pub fn what_a_crash_leaves<F: JournalFile>(_file: &F)
     ensures { (decimals : Bool) (sum : List ℕ) (version : ℕ) (keys : List Said) (told more : List Noted)
         → IsOpening sum version keys → CountUp version (told ++ more)

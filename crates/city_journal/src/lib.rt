@@ -1,13 +1,13 @@
-//! The journal of a live model: what was committed, on the disk before anyone is told.
+//! The journal of a live model: its commits, on the disk before anyone is told.
 //!
-//! - `model_sum`: the SHA-256 of a model's text, which says what a journal is over
+//! - `model_sum`: the SHA-256 of a model's text; a journal names its model by it
 //! - `line_sum`, `line_parts`, `line`: the lines of a journal, read; `steps`, `script_text`, `write_line`: written
-//! - `keys`: the keys of the last commits, so that none is made twice
+//! - `keys`: the keys of the last commits, so none is made twice
 //! - `read`, `reading`: a whole journal read; `fault`: why one is refused
 //! - `replaying`: its commits, made again on a city
 //! - `file`: a file that grows; `memory_file`: one in memory; `runtime_file`: one of a runtime
-//! - `journaling`: what a live city notes its commits by; `noting`: lines in a file
-//! - `ghosts`: what contracts alone see; `laws`: what holds of all journals
+//! - `journaling`: notes the commits of a live city; `noting`: lines in a file
+//! - `ghosts`: seen by contracts alone; `laws`: true of all journals
 #![tactic(auto)]
 
 mod fault;

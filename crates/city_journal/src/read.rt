@@ -22,14 +22,14 @@ use crate::reading::{Place, Reading, Taken};
 use memchr::memchr;
 use std::alloc::Global;
 
-/// A commit of a journal: the text of its script, and the version that it made.
+/// A commit of a journal: the text of its script, and the version it made.
 #[derive(Clone, Copy, Drop)]
 pub struct Commit<'a> {
     pub script: &'a [u8],
     pub version: u64,
 }
 
-/// A journal that was read.
+/// A journal, as read.
 #[derive(Drop)]
 pub struct ReadJournal<'a> {
     commits: Vec<Commit<'a>>,
@@ -42,14 +42,14 @@ pub struct ReadJournal<'a> {
 }
 
 impl<'a> ReadJournal<'a> {
-    /// How many of its bytes stand: whole lines, without a last one that was cut. Doesn't allocate.
+    /// How many of its bytes stand: whole lines, without a cut last one. Doesn't allocate.
     pub fn whole(&self) -> usize
         ensures { result ≡ self.now.whole }
     {
         self.whole
     }
 
-    /// How many lines it has, one that was cut among them. Doesn't allocate.
+    /// How many lines it has, a cut one among them. Doesn't allocate.
     pub fn lines(&self) -> usize {
         self.lines
     }
@@ -68,7 +68,7 @@ impl<'a> ReadJournal<'a> {
         self.version
     }
 
-    /// The commits behind the last place where the model has this sum. Doesn't allocate.
+    /// The commits behind the last place with this sum of the model. Doesn't allocate.
     ///
     /// `OtherModel` if there is none.
     pub fn commits_behind(&self, model: &ModelSum) -> Result<&[Commit<'a>], JournalFault>
@@ -99,14 +99,13 @@ impl<'a> ReadJournal<'a> {
         }
     }
 
-    /// The keys of its last commits, and of those before it.
+    /// The keys of its last commits, and of commits before it.
     pub fn into_keys(self) -> Keys {
         self.keys
     }
 }
 
-/// How many commits stand before the last of these places where the model has this sum, if there is one. Doesn't
-/// allocate.
+/// How many commits stand before the last of these places with this sum, if there is one. Doesn't allocate.
 fn last_place(places: &[Place], model: &ModelSum) -> Option<usize>
     ensures { MatchOption result (AllByRecursion (HasOther model.now.bytes) (map place_read places.now))
         (λ n. IsLastPlace model.now.bytes (map place_read places.now) n) }
@@ -127,7 +126,7 @@ fn is_same(sum: &ModelSum, other: &ModelSum) -> bool
     *sum == *other
 }
 
-/// What is told where no place has this sum: the last place's, and this one. Doesn't allocate.
+/// The fault if no place has this sum: the last place's sum, and this one. Doesn't allocate.
 fn other_model(places: &[Place], model: &ModelSum) -> JournalFault
     ensures { (front : List Place) (p : Place) → places.now ≡ front ++ p ∷ []
         → result ≡ JournalFault.OtherModel p.sum model.now }
@@ -138,7 +137,7 @@ fn other_model(places: &[Place], model: &ModelSum) -> JournalFault
     }
 }
 
-/// Reads a journal. A last line that was cut, or is damaged, is dropped: what stands ends behind a newline.
+/// Reads a journal. A cut or damaged last line is dropped: the rest ends behind a newline.
 pub fn read_journal(
     alloc: Global,
     bytes: &[u8],
@@ -192,7 +191,7 @@ fn read_whole(alloc: Global, bytes: &[u8], decimals: bool) -> Result<ReadJournal
     read_rest(reading, bytes, end + 1)
 }
 
-/// Reads the lines of a journal from the second on, which begins at this byte.
+/// Reads the lines of a journal from the second on; it begins at this byte.
 fn read_rest<'a>(
     mut reading: Reading<'a>,
     bytes: &'a [u8],
@@ -228,7 +227,7 @@ fn read_rest<'a>(
     Ok(read_so_far(reading, whole, lines, false))
 }
 
-/// The journal of the lines so far, which have so many bytes; whether a last line is dropped.
+/// The journal of the lines so far, with so many bytes; whether a last line is dropped.
 fn read_so_far<'a>(
     reading: Reading<'a>,
     whole: usize,

@@ -25,14 +25,14 @@ use city_tokens::MAX_SCRIPTS;
 use std::alloc::Global;
 
 /// How many bytes the scripts of one array have at most, unless it is one script alone. Encoded they have less than
-/// four times as many, which a text may have.
+/// four times as many: few enough for a text.
 const MOST_BYTES: usize = 16 * 1024 * 1024 - 64;
 
-/// The city of a restart: the commits of a journal behind the last place where the model has this sum, made again on
-/// that city.
+/// The city of a restart: the commits of a journal behind the last place with this sum of the model, made again on
+/// this city.
 ///
-/// If the city is that of the place, it is the one after all commits that were told, and the first of the others. With
-/// `decimals` this is known of scripts that were read of encoded texts.
+/// If this city is the place's, the answer is the city after all commits told, and the first of the others. With
+/// `decimals` this is known of scripts read of encoded texts.
 pub fn restart(
     alloc: Global,
     decimals: bool,
@@ -54,7 +54,7 @@ pub fn restart(
     replay(alloc, decimals, city, commits)
 }
 
-/// Makes commits again, one after the other: in arrays of scripts, which the batch program would run to the same city.
+/// Makes commits again, one after the other: in arrays of scripts; the batch program would run them to the same city.
 pub fn replay(
     alloc: Global,
     decimals: bool,

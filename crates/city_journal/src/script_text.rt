@@ -50,7 +50,7 @@ pub(crate) fn script_text(
     }
 }
 
-/// What stands between the brackets of an array.
+/// The text between the brackets of an array.
 fn inside(array: &[u8]) -> Option<&[u8]>
     ensures { IfSome result (λ text. array.now ≡ 91 ∷ (text.now ++ 93 ∷ [])) }
 {
@@ -58,7 +58,7 @@ fn inside(array: &[u8]) -> Option<&[u8]>
     before(rest, b"]")
 }
 
-/// The text of an array of the script that these commands make, its numbers whole.
+/// The text of an array of the script of these commands, its numbers whole.
 fn array_by(
     alloc: Global,
     seed: u64,
@@ -74,7 +74,7 @@ fn array_by(
     }
 }
 
-/// The text of an array of the script that the first commands of these and a commit make.
+/// The text of an array of the script made of the first commands of these and a commit.
 fn array_of_steps(
     alloc: Global,
     seed: u64,
