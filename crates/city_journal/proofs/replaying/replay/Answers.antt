@@ -31,5 +31,5 @@ returns-clause-noted c =
     let all = l.invariant.3 [] (object_at l.city.1)
     (ap scripts_of (drop_all l.at c.args.commits.now c.loop-at-test.false), refl) in
     λ ns scripts numbers.
-        replay_leads c.args.decimals all.0 c.args.commits.now ns (object_at c.args.city.1) (object_at l.city.1) scripts
-        numbers all.1
+    replay_leads c.args.decimals all.0 c.args.commits.now ns (object_at c.args.city.1) (object_at l.city.1) scripts
+    numbers all.1
