@@ -1,7 +1,4 @@
 //! Explains the scripts that a run refused.
-ghost use Rattle.std.specs.Prelude.{◌≡◌, true};
-ghost use Rattle.city_txn.specs.CoreState.{is_open};
-
 use crate::explain::explain_refusal;
 use city_details::{Past, Refusal, RefusedAt, Sight};
 use city_members::text::Id;
