@@ -8,7 +8,7 @@ use city_details::{Refusal, RefusedAt, Sight, cause_name, geometries_of, refusal
 use city_members::text::Id;
 use city_model::OutOfMemory;
 use city_model::body_fault::geometry_fault;
-use city_model::command::Command;
+use city_model::command::{Cause, Command};
 use city_model::object::Object;
 use city_scripts::{ScriptFault, read_scripts};
 use std::alloc::Global;
@@ -52,14 +52,26 @@ fn warning_of(
     let Some(cause) = geometry_fault(alloc, geometries_of(command))? else {
         return Ok(None);
     };
+    let line = line_for(alloc, at, command, &cause)?;
+    Ok(Some(line))
+}
+
+/// The line of a command that is refused for a cause.
+fn line_for<'r>(
+    alloc: Global,
+    at: RefusedAt<'_>,
+    command: &'r Command,
+    cause: &'r Cause,
+) -> Result<String, OutOfMemory>
+    ensures { IfOk result (λ line. IsLineOf Warns (string_bytes line)) }
+{
     let refusal = Refusal {
         command,
-        cause: &cause,
+        cause,
         past: None,
     };
     let diagnostic = refusal_diagnostic(alloc, Some(at), refusal, &NoObjects)?;
-    let line = warning_line(alloc, at, cause_name(&cause), diagnostic)?;
-    Ok(Some(line))
+    warning_line(alloc, at, cause_name(cause), diagnostic)
 }
 
 /// The objects of a command that isn't run: none is known.

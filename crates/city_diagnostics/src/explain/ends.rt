@@ -87,12 +87,7 @@ fn explain_end(
                 name: end.name.as_str(),
                 command: place,
             };
-            let refusal = Refusal {
-                command,
-                cause,
-                past: Some(&past),
-            };
-            told = explain_refusal(alloc, at, refusal, &Sees { session, stamp })?;
+            told = explain_command(alloc, session, stamp, at, command, cause, &past)?;
             break;
         }
         do_again(session, stamp, command)?;
@@ -102,6 +97,25 @@ fn explain_end(
         session.abort(stamp);
     }
     Ok(told)
+}
+
+/// Explains a command that an open transaction is refused, behind these ones.
+fn explain_command(
+    alloc: Global,
+    session: &Session,
+    stamp: u64,
+    at: RefusedAt<'_>,
+    command: &Command,
+    cause: &Cause,
+    past: &Past<'_>,
+) -> Result<String, OutOfMemory> {
+    let sees = Sees { session, stamp };
+    let refusal = Refusal {
+        command,
+        cause,
+        past: Some(past),
+    };
+    explain_refusal(alloc, at, refusal, &sees)
 }
 
 /// Does a command of an open transaction again, unless it ends one. Alone on its city it neither waits nor dies.
