@@ -10,5 +10,6 @@ mod line;
 
 pub use check::{check_document, check_scripts, warn_scripts};
 pub use city_details::{Past, Refusal, RefusedAt, Sight, why};
-pub use explain::{explain_document, explain_ends, explain_refusal, explain_scripts};
-pub use explain::{is_refused, shown_name};
+pub use explain::{
+    explain_document, explain_ends, explain_refusal, explain_scripts, is_refused, shown_name,
+};

@@ -124,7 +124,9 @@ fn explanation<F: TextFiles, R, W>(
 /// before the run isn't kept.
 fn refusals(alloc: Global, texts: Texts, ends: &[End]) -> Result<String, OutOfMemory> {
     let Texts {
-        scripts, before, ..
+        scripts,
+        before,
+        ..
     } = texts;
     let Some(before) = before else {
         return Ok(String::new(alloc));

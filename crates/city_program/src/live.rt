@@ -1,7 +1,7 @@
 //! Answers the words of a live command line.
 
-use crate::tell::{MEMORY_LINE, refuse_line, tell};
 use crate::status::Status;
+use crate::tell::{MEMORY_LINE, refuse_line, tell};
 use city_model::OutOfMemory;
 use city_options::{AskedLive, LiveLine, live_by};
 use city_serve::serve::write_output;
