@@ -1,6 +1,10 @@
 -- The output of a check, by the texts read.
 use Rattle.city_program.proofs.Prelude.{◌≡◌, ◌++◌, ◌∷◌, ℕ, Bool, true, false, List, [], Option, None, Some, IfSome}
 use Rattle.city_program.proofs.Prelude.{refl, sym, inl, inr, subst, append-nil, Vec, Appends, Asked, ServeFault}
+use Rattle.city_program.proofs.Prelude.{ap, length, ◌∙◌}
+use Rattle.std.proofs.Common.{arith, not}
+use Rattle.std.proofs.lemmas.Bool.Decides.{nat_tests}
+use Rattle.std.specs.Prelude.{◌==◌}
 use Rattle.std.proofs.Common.{Bor}
 use Rattle.city_program.specs.Checks.{AreModelLines, AreScriptsLines, IsCheckOutput, AreFirstOf, HasLines, OfFiles}
 use Rattle.city_program.specs.Checks.{reading_of}
@@ -65,6 +69,14 @@ model_and_scripts texts decimals model scripts first behind lines warnings outpu
       of_warnings = warns;
       output_is = is;
     }
+
+-- there are lines unless their number is 0
+pub has_lines : (lines : List ℕ) (count : ℕ) (none : Bool) → count ≡ length lines → none ≡ (count == 0)
+    → HasLines (not none) lines
+has_lines [] count none is empty = subst (λ b. HasLines (not b) []) (sym (empty ∙ ap (λ n. n == 0) is)) refl
+has_lines (x ∷ xs) count none is empty =
+    let some : (count == 0) ≡ false = grind (arith, nat_tests) in
+    subst (λ b. HasLines (not b) (x ∷ xs)) (sym (empty ∙ some)) (λ e. absurd (cc))
 
 -- ---- steps
 

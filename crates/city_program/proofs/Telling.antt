@@ -112,7 +112,7 @@ module _ (terminal : Bool) (s : Streams) (told telling : Option (List ℕ)) (mut
   found (Asked.Files options destination model scripts) status seen behind none is steps lines = absurd is
   found (Asked.Text text) status seen behind none is steps lines = absurd is
 
-  module _ (asked : Asked) (behind : List ℕ) (none : tells_refused terminal asked ≡ false → behind ≡ []) where
+  module _ (asked : Asked) (behind : List ℕ) (plain : tells_refused terminal asked ≡ false → behind ≡ []) where
     ends_so : (ending : Status) (withheld : Bool) (status : Status) (seen : List (Vec ℕ))
         → IsAnswered s asked seen withheld → TakesLocked asked s (steps_inside asked withheld)
         → (IsTold told telling mute (seen_lines 0 seen ++ behind) → EndsAsked terminal asked ending s told telling mute)
@@ -139,7 +139,7 @@ module _ (terminal : Bool) (s : Streams) (told telling : Option (List ℕ)) (mut
           answered = answered;
           steps = steps;
           behind = behind;
-          unexplained = none;
+          unexplained = plain;
           is_told = subst (λ first. IsTold told telling mute (first ++ behind)) text are;
         }) lines
     ends_told Status.Withheld status seen none answered steps lines =
@@ -149,10 +149,10 @@ module _ (terminal : Bool) (s : Streams) (told telling : Option (List ℕ)) (mut
           answered = answered;
           steps = steps;
           behind = behind;
-          unexplained = none;
+          unexplained = plain;
           is_told = subst (λ first. IsTold told telling mute (first ++ behind)) text are;
         }) lines
-    ends_told Status.Faulty status seen none is steps lines = found asked status seen behind none is steps lines
+    ends_told Status.Faulty status seen none is steps lines = found asked status seen behind plain is steps lines
     ends_told Status.Failed status seen none answered steps lines = absurd answered
     ends_told Status.Refused status seen none answered steps lines = absurd answered
 

@@ -25,7 +25,7 @@ returns-else-tells_no_faults-clause-ended g c =
     answer.seen.items (sym c.tells_no_faults.ensures ∙ c.if-tells_no_faults.false) c.in-Ok.ensures.answered
     c.in-Ok.ensures.steps
     (subst (λ seen. IsSeenTold answer.status c.tell_seen.result told telling mute seen behind)
-    c.as_slice-2.ensures.value c.tell_seen.ensures)
+    c.as_slice-in-Ok.ensures.value c.tell_seen.ensures)
 
 pub returns-in-Err-clause-ended : goal.returns-in-Err-clause-ended
 returns-in-Err-clause-ended g c =
