@@ -1,5 +1,7 @@
 pub mod Continued
+pub mod ExampleCrowd
 pub mod ExampleRequests
+pub mod ExampleWatchers
 pub mod Finished
 pub mod Followed
 pub mod Handled
