@@ -103,10 +103,10 @@ module _ (anna ben : Hand) (start : CityValue) where
   a_begin_fits = (
     (tt, tt),
     (
-      (refl, record { hand = refl; request = refl; named = tt; fresh = refl; first = refl }),
+      (refl, record { hand = refl; request = refl; named = tt; fresh = refl; first = refl }, tt),
       (
-        (refl, record { by = refl; tagged = refl; follows = refl }),
-        ((record { hand = refl; tag = refl; what = (refl, refl) }, tt), tt),
+        (refl, record { by = refl; tagged = refl; follows = refl }, tt),
+        ((record { hand = refl; tag = refl; what = (refl, refl) }, tt, λ b e. absurd (cc)), tt),
       ),
     ),
   )

@@ -31,7 +31,7 @@ use Rattle.city_live.specs.Continuing.{Continues}
 use Rattle.city_live.specs.Ending.{EndsAs, told_replies}
 use Rattle.city_live.specs.Heard.{Talk, heard, begun_talk, script_told, script_in, since_so_far, answered_by}
 use Rattle.city_live.specs.Heard.{is_committed, closed_of, IsEndOf, IsFitWhat, after_what, closed_by_what, or_none}
-use Rattle.city_live.specs.Heard.{cause_of, IsOutcome, after_fault}
+use Rattle.city_live.specs.Heard.{cause_of, IsOutcome, after_fault, HasOlder}
 use Rattle.city_live.specs.SoFar.{talk_of, told_so_far, AreSoFar, IsSoFar, AreHeard, IsKept, ArePlain}
 use Rattle.city_live.specs.Running.{Begins, RunsTo}
 use Rattle.city_live.specs.Serving.{Logged, IsSaid}
@@ -65,6 +65,7 @@ heard_waits {s} {works} {others} {log} r stamp w there a b hand tag what same sa
     (Some k) (ap (option_map (talk_of og)) there)
     (events.Says (Some stamp) a said.is_told) refl
     (record { hand = hand; tag = tag; what = subst (λ x. IsFitWhat x k) (sym what) tt }) tt
+    (λ died e. absurd (cc))
     (sym (append-nil s.closed) ∙ ap (λ x. s.closed ++ closed_by_what x k) (sym what))
     (ap (λ x. after_what x k) what))
 
@@ -133,7 +134,7 @@ heard_begins {s} {u} {works} {others} {es} r stamp kept b free new fresh is_kept
       subst (λ ks. IsKept new.task ks (Some g)) (sym keeps) (fresh_kept new.task is_kept (length s.closed)),
     )
     None (ap (option_map (talk_of (grown_at s.growing stamp))) none)
-    (events.Begins stamp new) refl refl is_for (b.begun.closed ∙ sym (append-nil s.closed))
+    (events.Begins stamp new) refl refl is_for tt (b.begun.closed ∙ sym (append-nil s.closed))
     (ap Some (fresh_talk new.by new.name new.task new.tag new.kept (length s.closed) fresh)))
 
 -- ---- a script is tried again
@@ -293,24 +294,26 @@ module _ {s u : SessionState} {works others : List (ℕ × Working)} {log logged
     (tag : a.tag ≡ w.tag)
     (said : IsSaid (Some stamp) a log logged) where
   over : (what : What) → a.what ≡ what → IsFitWhat what (talk_of (Some h.ended) w)
+      → ((b : Blocked) → what ≡ told.Died b → HasOlder stamp (heard log.events))
       → closed_by_what what (talk_of (Some h.ended) w) ≡ (h.ended, is_kept) ∷ []
       → after_what what (talk_of (Some h.ended) w) ≡ None → AreHeard u others logged.events
-  over what is fit closed gone =
+  over what is fit aged closed gone =
       let og = grown_at s.growing stamp in
       let k = talk_of (Some h.ended) w in
       subst (λ es. AreHeard u others es) (sym said.events)
       (heard_event r u others stamp None None h.start (omega (arith, h.given)) (λ e. absurd (false≢true e)) left
-      h.growing tt
+      h.growing refl
       (Some k) (ap (option_map (talk_of og)) there ∙ ap (λ o. Some (talk_of o w)) h.is_there)
       (events.Says (Some stamp) a said.is_told) refl
       (record { hand = hand; tag = tag; what = subst (λ x. IsFitWhat x k) (sym is) fit }) tt
+      (λ b e. aged b (sym is ∙ e))
       (h.closed ∙ ap (λ l. s.closed ++ l) (sym closed) ∙ ap (λ x. s.closed ++ closed_by_what x k) (sym is))
       (ap (λ x. after_what x k) is ∙ gone))
 
-  pub heard_died : (b : Blocked) → a.what ≡ told.Died b → is_whole w.task ≡ false → is_kept ≡ false
-      → AreHeard u others logged.events
-  heard_died b what single undone =
-      over (told.Died b) what (none_whole w.task single)
+  pub heard_died : HasOlder stamp (heard log.events) → (b : Blocked) → a.what ≡ told.Died b → is_whole w.task ≡ false
+      → is_kept ≡ false → AreHeard u others logged.events
+  heard_died older b what single undone =
+      over (told.Died b) what (none_whole w.task single) (λ x e. older)
       (ap (λ g. (g, false) ∷ []) (died_as h.ended w.task single) ∙ ap (λ x. (h.ended, x) ∷ []) (sym undone)) refl
 
   pub heard_ended : (e : Ended) → a.what ≡ told.Ended e → e.name ≡ w.name
@@ -319,7 +322,7 @@ module _ {s u : SessionState} {works others : List (ℕ × Working)} {log logged
   heard_ended e what name since ends =
       let parts = ended_as h.ended w.by w.name w.task w.tag w.kept is_kept e
       (far_there r stamp w there h.ended h.is_there) name (since h.ended h.is_there) ends in
-      over (told.Ended e) what parts.0 (ap (λ c. c ∷ []) parts.1) refl
+      over (told.Ended e) what parts.0 (λ b d. absurd (cc)) (ap (λ c. c ∷ []) parts.1) refl
 
 -- a script whose commit can't be noted is undone, and told so
 pub heard_undone : {s u : SessionState} {works others : List (ℕ × Working)} {log logged : Logged}
@@ -332,10 +335,11 @@ heard_undone {s} {u} {works} {others} {log} r stamp w there left h a hand tag sa
     let k = talk_of og w in
     subst (λ es. AreHeard u others es) (sym said.events)
     (heard_event r u others stamp None None h.start (omega (arith, h.given)) (λ e. absurd (false≢true e)) left
-    h.growing tt
+    h.growing refl
     (Some k) (ap (option_map (talk_of og)) there)
     (events.Says (Some stamp) a said.is_told) refl
     (record { hand = hand; tag = tag; what = subst (λ x. IsFitWhat x k) (sym what) tt }) tt
+    (λ b e. absurd (cc))
     (h.closed ∙ (sym (append-nil s.closed) ∙ ap (λ x. s.closed ++ closed_by_what x k) (sym what)))
     (ap (λ x. after_what x k) what ∙ gone_whole w.task k (subst (λ o. is_whole_at o ≡ true) there whole)))
   where

@@ -2,17 +2,18 @@
 use Rattle.std.specs.Prelude.{◌≡◌, ◌==◌, ◌<◌, ◌≤◌, ◌++◌, ℕ, List, [], ◌∷◌, true, false, Option, None, Some}
 use Rattle.std.specs.Prelude.{length, option_map, is_some, refl, if◌then◌else◌}
 use Rattle.std.proofs.Common.{sym, ◌∙◌, ap, subst, arith, inl, inr}
-use Rattle.std.proofs.lemmas.Bool.{cases_eq, ne_eqb, eq-eqb}
+use Rattle.std.proofs.lemmas.Bool.{cases_eq, ne_eqb, eq-eqb, false≢true}
 use Rattle.city_model.specs.CityMap.{CityValue}
 use Rattle.city_session.specs.Acting.{GrowsTo}
 use Rattle.city_session.specs.Grown.{Grown, Closed}
-use Rattle.city_session.specs.Live.{SessionState, grown_at}
+use Rattle.city_session.specs.Live.{SessionState, grown_at, IsLive}
 use Rattle.city_session.proofs.Recorded.{at_own, at_other}
 use Rattle.city_live.specs.declared.ghosts.event.Event.{Event}
+use Rattle.city_live.specs.Ages.{HasOlderOpen}
 use Rattle.city_live.specs.Heard.{Talk, Heard, nothing, stamp_of, after_event, closed_by, IsFitAt, after_at, after}
 use Rattle.city_live.specs.Heard.{IsFitIn, heard_from, AreFitFrom, heard, AreFit, IsSeenIn}
 use Rattle.city_live.specs.SoFar.{talk_of, AreSoFar, AreHeard}
-use Rattle.city_live.specs.Heard.{what_said, came_after, IsFor}
+use Rattle.city_live.specs.Heard.{what_said, came_after, IsFor, IsByAge, HasOlder}
 use Rattle.city_live.specs.Works.{Working, work_at, WorksTo, SameWorks}
 
 -- ---- one event more
@@ -105,17 +106,17 @@ module _ {s : SessionState} {works : List (ℕ × Working)} {es : List Event} (r
   -- An event of the stamp, whose talk was so before.
   pub heard_event : (before : Option Talk)
       → option_map (talk_of (grown_at s.growing stamp)) (work_at works stamp) ≡ before
-      → (e : Event) → stamp_of e ≡ Some stamp → IsFitAt e before → IsFor e (heard es).came
+      → (e : Event) → stamp_of e ≡ Some stamp → IsFitAt e before → IsFor e (heard es).came → IsByAge e (heard es)
       → u.closed ≡ s.closed ++ closed_by e before
       → after_event e before (length s.closed) ≡ option_map (talk_of og) ow → AreHeard u others (es ++ e ∷ [])
-  heard_event before is e label fit is_for closed talk =
+  heard_event before is e label fit is_for aged closed talk =
       let now : heard (es ++ e ∷ []) ≡ after_at (Some stamp) e (heard es) =
       heard_more nothing es e ∙ ap (λ o. after_at o e (heard es)) label in
       let was : (heard es).talks stamp ≡ before = r.talks stamp ∙ is in
       record {
         fit = subst (λ st. AreFit st (es ++ e ∷ [])) (sym start)
             (fit_more s.start nothing es e r.fit
-            (subst (λ o. IsFitIn s.start o e (heard es)) (sym label) (subst (IsFitAt e) (sym was) fit, is_for)));
+            (subst (λ o. IsFitIn s.start o e (heard es)) (sym label) (subst (IsFitAt e) (sym was) fit, is_for, aged)));
         ended = ap (λ (h : Heard). h.ended) now
             ∙ (ap (λ o. (heard es).ended ++ closed_by e o) was
             ∙ (ap (λ cs. cs ++ closed_by e before) r.ended ∙ sym closed));
@@ -163,4 +164,21 @@ heard_same {s} {works} {others} r w = record {
   talks = λ t. r.talks t ∙ ap (option_map (talk_of (grown_at s.growing t))) (sym (w t));
   so_far = λ t. subst (λ o. AreSoFar o (grown_at s.growing t)) (sym (w t)) (r.so_far t);
   given = λ t h. r.given t (ap is_some (sym (w t)) ∙ h);
+}
+
+-- ---- an older one that is open
+
+has_work : (o : Option Working) (og : Option Grown) → AreSoFar o og → is_some og ≡ true
+    → is_some (option_map (talk_of og) o) ≡ true
+has_work None og none h = absurd (false≢true (sym (ap is_some none) ∙ h))
+has_work (Some w) og far h = refl
+
+pub older_heard : {s : SessionState} {works : List (ℕ × Working)} {es : List Event} → AreHeard s works es → IsLive s
+    → {stamp : ℕ} → HasOlderOpen stamp s → HasOlder stamp (heard es)
+older_heard {s} {works} r l h = record {
+  older = h.older;
+  first = h.first;
+  there = ap is_some (r.talks h.older)
+      ∙ has_work (work_at works h.older) (grown_at s.growing h.older) (r.so_far h.older)
+      (sym (l.opened h.older) ∙ h.opened);
 }

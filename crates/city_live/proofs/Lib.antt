@@ -1,3 +1,4 @@
+pub mod Aged
 pub mod Continued
 pub mod ExampleCrowd
 pub mod ExampleRequests

@@ -23,6 +23,7 @@ use Rattle.city_session.specs.Live.{SessionState, grown_at}
 use Rattle.city_session.proofs.AsScripts.{one_more_refused}
 use Rattle.city_session.proofs.Recorded.{grows_same, at_own}
 use Rattle.city_live.specs.declared.answer.Answer.{Answer}
+use Rattle.city_live.specs.declared.answer.Blocked.{Blocked}
 use Rattle.city_live.specs.declared.answer.Fault.{Fault}
 use Rattle.city_live.specs.declared.answer.Fault.TheVariants as faults
 use Rattle.city_live.specs.declared.answer.What.{What}
@@ -85,6 +86,14 @@ kept_task (task.Single before) asked (Some l) (Some g) h = h
 so_far_answered : (w : Working) (og : Option Grown) → AreSoFar (Some w) og → AreSoFar (Some (answered w)) og
 so_far_answered w og h = (so_far_task w.task og h.0, kept_task w.task None w.kept og h.1)
 
+-- only a death ends so
+pub no_death : {P : Type 0} (what : What) (k : Talk) → closed_by_what what k ≡ [] → (b : Blocked) → what ≡ told.Died b
+    → P
+no_death what k none b e =
+    let ends : (record { since = k.since; told = k.told }, false) ∷ [] ≡ [] =
+    sym (ap (λ x. closed_by_what x k) e) ∙ none in
+    absurd (cc)
+
 -- ---- an answer that leaves the session as it is
 
 module _ {s : SessionState} {works others : List (ℕ × Working)} {es : List Event} (r : AreHeard s works es) (stamp : ℕ)
@@ -105,6 +114,7 @@ module _ {s : SessionState} {works others : List (ℕ × Working)} {es : List Ev
       (Some (talk_of og w)) (ap (option_map (talk_of og)) there)
       (events.Says (Some stamp) a is_told) refl
       (record { hand = hand; tag = tag ∙ ap tag_of there; what = fit }) tt
+      (no_death a.what (talk_of og w) none)
       (sym (append-nil s.closed) ∙ ap (λ l. s.closed ++ l) (sym none)) effect
 
 -- ---- a reply to a command
@@ -288,7 +298,7 @@ heard_replied {s} {u} {works} {others} {log} {logged} r stamp by command asked p
           (asked_some w.task command asked.single asked.next)
           (at g grown.1 ∙ ap (λ l. length (unrefused l)) (sym (told_single w.task g.told asked.single)));
     })
-    tt
+    tt (no_death a.what k (none_is k place reply a.what what))
     (acted.closed ∙ (sym (append-nil s.closed) ∙ ap (λ l. s.closed ++ l) (sym (none_is k place reply a.what what))))
     (what_is k place reply a.what what ∙ ap Some (replied_so g w command reply is_done asked.single asked.next)))
 
@@ -379,7 +389,7 @@ module _ {s : SessionState} {works others : List (ℕ × Working)} {es next : Li
       (grows_same stamp og s.growing refl)
       (subst (λ x. AreSoFar x og) o.there (r.so_far stamp))
       (Some (talk_of og w)) (ap (option_map (talk_of og)) o.there)
-      (events.Requests stamp by tag) refl o.hand is_for (sym (append-nil s.closed)) refl)
+      (events.Requests stamp by tag) refl o.hand is_for tt (sym (append-nil s.closed)) refl)
 
   pub heard_ask : (script : Scripted) → IsWorkOf works stamp (arc_value by) (λ t. t ≡ task.Single None)
       → ((c : Command) → first_of (Some script) ≡ Some c → is_end c ≡ false)
@@ -409,7 +419,7 @@ module _ {s : SessionState} {works others : List (ℕ × Working)} {es next : Li
         idle = subst (λ t. asked_in t ≡ None) (sym o.so) refl;
         first = goes;
       })
-      is_for
+      is_for tt
       (sym (append-nil s.closed))
       (subst (λ t. Some (asked_talk tag script (talk_of og
       (record { by = w.by; name = w.name; task = t; tag = w.tag; kept = w.kept })))

@@ -1,3 +1,4 @@
+pub mod Ages
 pub mod Coming
 pub mod Continuing
 pub mod Ending

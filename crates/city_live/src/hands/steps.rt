@@ -1,4 +1,5 @@
 //! How a work goes on.
+ghost use Rattle.city_live.specs.Ages.{HasOlderOpen};
 ghost use Rattle.city_live.specs.Serving.{Follows};
 
 use super::Hands;
@@ -190,6 +191,7 @@ impl<J: Journal> Hands<J> {
     /// An older one holds a lock: a transaction is undone, and its hand told so; a script waits to begin again.
     #[tactic(auto, using(crate::proofs::Followed::then, crate::proofs::Followed::same))]
     fn dies(&mut self, stamp: u64, way: InTheWay)
+        requires { HasOlderOpen stamp self.old.session }
         ensures { Follows self.old self.new }
     {
         if self.talks.is_script(stamp) {
@@ -212,6 +214,7 @@ impl<J: Journal> Hands<J> {
     /// A transaction dies.
     #[tactic(auto, using(crate::proofs::Followed::then, crate::proofs::Followed::same))]
     fn single_dies(&mut self, stamp: u64, way: InTheWay)
+        requires { HasOlderOpen stamp self.old.session }
         ensures { Follows self.old self.new }
     {
         if self.end_dead(stamp, way).is_err() {
@@ -238,6 +241,7 @@ impl<J: Journal> Hands<J> {
     /// Undoes a transaction, keeps its age for its hand, and tells it so. If memory runs out, nothing changes.
     #[tactic(auto, using(crate::proofs::Followed::then, crate::proofs::Followed::same))]
     fn end_dead(&mut self, stamp: u64, way: InTheWay) -> Result<(), OutOfMemory>
+        requires { HasOlderOpen stamp self.old.session }
         ensures { Follows self.old self.new }
     {
         let blocked = self.blocked(&way)?;
