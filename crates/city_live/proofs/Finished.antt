@@ -227,6 +227,9 @@ heard_ran {s} {u} {works} {others} r l mid stamp script before replies cause at 
 
 -- ---- it dies
 
+some_died : (b x : Blocked) → told.Died b ≡ told.Died x → b ≡ x
+some_died b x e = cc
+
 died_as : (g : Grown) (t : Task) → is_whole t ≡ false
     → record { since = since_so_far t g.since; told = told_so_far t g.told } ≡ g
 died_as g (task.Script s rs cause) h = absurd (false≢true (sym h))
@@ -294,7 +297,7 @@ module _ {s u : SessionState} {works others : List (ℕ × Working)} {log logged
     (tag : a.tag ≡ w.tag)
     (said : IsSaid (Some stamp) a log logged) where
   over : (what : What) → a.what ≡ what → IsFitWhat what (talk_of (Some h.ended) w)
-      → ((b : Blocked) → what ≡ told.Died b → HasOlder stamp (heard log.events))
+      → ((b : Blocked) → what ≡ told.Died b → HasOlder stamp b (heard log.events))
       → closed_by_what what (talk_of (Some h.ended) w) ≡ (h.ended, is_kept) ∷ []
       → after_what what (talk_of (Some h.ended) w) ≡ None → AreHeard u others logged.events
   over what is fit aged closed gone =
@@ -310,10 +313,11 @@ module _ {s u : SessionState} {works others : List (ℕ × Working)} {log logged
       (h.closed ∙ ap (λ l. s.closed ++ l) (sym closed) ∙ ap (λ x. s.closed ++ closed_by_what x k) (sym is))
       (ap (λ x. after_what x k) is ∙ gone))
 
-  pub heard_died : HasOlder stamp (heard log.events) → (b : Blocked) → a.what ≡ told.Died b → is_whole w.task ≡ false
-      → is_kept ≡ false → AreHeard u others logged.events
-  heard_died older b what single undone =
-      over (told.Died b) what (none_whole w.task single) (λ x e. older)
+  pub heard_died : (b : Blocked) → HasOlder stamp b (heard log.events) → a.what ≡ told.Died b
+      → is_whole w.task ≡ false → is_kept ≡ false → AreHeard u others logged.events
+  heard_died b older what single undone =
+      over (told.Died b) what (none_whole w.task single)
+      (λ x e. subst (λ y. HasOlder stamp y (heard log.events)) (some_died b x e) older)
       (ap (λ g. (g, false) ∷ []) (died_as h.ended w.task single) ∙ ap (λ x. (h.ended, x) ∷ []) (sym undone)) refl
 
   pub heard_ended : (e : Ended) → a.what ≡ told.Ended e → e.name ≡ w.name

@@ -2,18 +2,17 @@
 use Rattle.std.specs.Prelude.{◌≡◌, ◌==◌, ◌<◌, ◌≤◌, ◌++◌, ℕ, List, [], ◌∷◌, true, false, Option, None, Some}
 use Rattle.std.specs.Prelude.{length, option_map, is_some, refl, if◌then◌else◌}
 use Rattle.std.proofs.Common.{sym, ◌∙◌, ap, subst, arith, inl, inr}
-use Rattle.std.proofs.lemmas.Bool.{cases_eq, ne_eqb, eq-eqb, false≢true}
+use Rattle.std.proofs.lemmas.Bool.{cases_eq, ne_eqb, eq-eqb}
 use Rattle.city_model.specs.CityMap.{CityValue}
 use Rattle.city_session.specs.Acting.{GrowsTo}
 use Rattle.city_session.specs.Grown.{Grown, Closed}
-use Rattle.city_session.specs.Live.{SessionState, grown_at, IsLive}
+use Rattle.city_session.specs.Live.{SessionState, grown_at}
 use Rattle.city_session.proofs.Recorded.{at_own, at_other}
 use Rattle.city_live.specs.declared.ghosts.event.Event.{Event}
-use Rattle.city_live.specs.Ages.{HasOlderOpen}
 use Rattle.city_live.specs.Heard.{Talk, Heard, nothing, stamp_of, after_event, closed_by, IsFitAt, after_at, after}
 use Rattle.city_live.specs.Heard.{IsFitIn, heard_from, AreFitFrom, heard, AreFit, IsSeenIn}
 use Rattle.city_live.specs.SoFar.{talk_of, AreSoFar, AreHeard}
-use Rattle.city_live.specs.Heard.{what_said, came_after, IsFor, IsByAge, HasOlder}
+use Rattle.city_live.specs.Heard.{what_said, came_after, IsFor, IsByAge, IsNamed}
 use Rattle.city_live.specs.Works.{Working, work_at, WorksTo, SameWorks}
 
 -- ---- one event more
@@ -166,19 +165,21 @@ heard_same {s} {works} {others} r w = record {
   given = λ t h. r.given t (ap is_some (sym (w t)) ∙ h);
 }
 
--- ---- an older one that is open
+-- ---- the hand of an open one
 
-has_work : (o : Option Working) (og : Option Grown) → AreSoFar o og → is_some og ≡ true
-    → is_some (option_map (talk_of og) o) ≡ true
-has_work None og none h = absurd (false≢true (sym (ap is_some none) ∙ h))
-has_work (Some w) og far h = refl
+open_work : (o : Option Working) (og : Option Grown) → AreSoFar o og → o ≡ None → og ≡ None
+open_work None og none e = none
+open_work (Some w) og far e = absurd (cc)
 
-pub older_heard : {s : SessionState} {works : List (ℕ × Working)} {es : List Event} → AreHeard s works es → IsLive s
-    → {stamp : ℕ} → HasOlderOpen stamp s → HasOlder stamp (heard es)
-older_heard {s} {works} r l h = record {
-  older = h.older;
-  first = h.first;
-  there = ap is_some (r.talks h.older)
-      ∙ has_work (work_at works h.older) (grown_at s.growing h.older) (r.so_far h.older)
-      (sym (l.opened h.older) ∙ h.opened);
-}
+module _ {s : SessionState} {works : List (ℕ × Working)} {es : List Event} (r : AreHeard s works es) (stamp : ℕ) where
+  -- an open transaction has a work
+  pub none_open : work_at works stamp ≡ None → grown_at s.growing stamp ≡ None
+  none_open = open_work (work_at works stamp) (grown_at s.growing stamp) (r.so_far stamp)
+
+  pub named_hand : (w : Working) → work_at works stamp ≡ Some w → (by : List ℕ) → by ≡ w.by
+      → IsNamed (by ∷ []) (heard es) stamp
+  named_hand w there by e = record {
+    talk = talk_of (grown_at s.growing stamp) w;
+    there = r.talks stamp ∙ ap (option_map (talk_of (grown_at s.growing stamp))) there;
+    named = (0, omega arith, e);
+  }

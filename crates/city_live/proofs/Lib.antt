@@ -1,4 +1,4 @@
-pub mod Aged
+pub mod Ages
 pub mod Continued
 pub mod ExampleCrowd
 pub mod ExampleRequests

@@ -1,6 +1,6 @@
 -- What was said of scripts and transactions, as their hands heard it.
 use Rattle.std.specs.Prelude.{◌≡◌, ◌==◌, ◌<◌, ◌++◌, ℕ, List, [], ◌∷◌, Bool, true, false, Option, None, Some, All}
-use Rattle.std.specs.Prelude.{length, option_map, if◌then◌else◌, slice_get, is_some}
+use Rattle.std.specs.Prelude.{length, option_map, if◌then◌else◌, slice_get, is_some, map, Contains}
 use Rattle.std.specs.Arc.{arc_value}
 use Rattle.city_model.specs.declared.command.Cause.{Cause}
 use Rattle.city_model.specs.declared.command.Command.{Command}
@@ -303,15 +303,21 @@ IsFor (events.Says (Some t) a is_told) o = Unit {0}
 
 -- ---- ages
 
--- an older script or transaction goes on
-pub record HasOlder (stamp : ℕ) (h : Heard) : Type 0 where
+-- The script or transaction of the stamp goes on, and its hand is among these.
+pub record IsNamed (names : List (List ℕ)) (h : Heard) (stamp : ℕ) : Type 0 where
+  pub talk : Talk
+  pub there : h.talks stamp ≡ Some talk
+  pub named : Contains names talk.by
+
+-- An older script or transaction goes on, and its hand is named.
+pub record HasOlder (stamp : ℕ) (b : Blocked) (h : Heard) : Type 0 where
   pub older : ℕ
   pub first : older < stamp
-  pub there : is_some (h.talks older) ≡ true
+  pub named : IsNamed (map arc_value b.by) h older
 
--- the oldest is never told that it died
+-- who is told that it died is told of an older one, so the oldest never dies
 abbrev pub IsByAge : Event → Heard → Type 0
-IsByAge (events.Says (Some t) a is_told) h = (b : Blocked) → a.what ≡ told.Died b → HasOlder t h
+IsByAge (events.Says (Some t) a is_told) h = (b : Blocked) → a.what ≡ told.Died b → HasOlder t b h
 IsByAge e h = Unit {0}
 
 -- ---- all events

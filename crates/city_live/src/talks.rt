@@ -1,5 +1,6 @@
 //! The works of hands on a session, and what is said of each.
-ghost use Rattle.std.specs.Prelude.{◌≡◌, List, ℕ, Option, [], None, Some, false, IfOk, IfErr, OnErr, IsTrue};
+ghost use Rattle.std.specs.Prelude.{◌≡◌, ◌∷◌, List, ℕ, Option, [], None, Some, false, IfOk, IfErr, IfSome, IfNone};
+ghost use Rattle.std.specs.Prelude.{OnErr, IsTrue};
 ghost use Rattle.std.specs.Arc.{arc_value};
 ghost use Rattle.std.specs.Borrow.{Lends, sem};
 ghost use Rattle.city_model.specs.CityMap.{object_at};
@@ -8,6 +9,8 @@ ghost use Rattle.city_txn.specs.CoreState.{committed};
 ghost use Rattle.city_model.specs.declared.command.Command.{Command};
 ghost use Rattle.city_model.specs.Scripts.{is_end};
 ghost use Rattle.city_session.specs.Acting.{IsUnchanged};
+ghost use Rattle.city_session.specs.Live.{grown_at};
+ghost use Rattle.city_live.specs.Heard.{heard, IsNamed};
 ghost use Rattle.city_live.specs.Works.{first_of};
 ghost use Rattle.city_live.specs.Works.{IsFresh};
 ghost use Rattle.city_live.specs.Running.{Begins};
@@ -155,6 +158,18 @@ impl<J: Journal> Talks<J> {
     /// The work of the stamp, if there is one. Doesn't allocate.
     pub fn work(&self, stamp: u64) -> Option<&Work> {
         self.table.get(stamp)
+    }
+
+    /// The hand of the work of the stamp, if there is one. An open transaction has one.
+    pub fn hand(&self, stamp: u64) -> Result<Option<Name>, OutOfMemory>
+        ensures none { IfOk result (λ o. IfNone o (grown_at self.now.session.growing stamp ≡ None)) }
+        ensures hand { IfOk result (λ o. IfSome o (λ name. IsNamed (arc_value name ∷ []) (heard self.now.events) stamp)) }
+    {
+        let Some(work) = self.table.get(stamp) else {
+            return Ok(None);
+        };
+        let hand = Arc::try_clone(work.hand())?;
+        Ok(Some(hand))
     }
 
     /// The works, by their stamps. Doesn't allocate.

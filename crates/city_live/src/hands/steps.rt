@@ -1,5 +1,7 @@
 //! How a work goes on.
-ghost use Rattle.city_live.specs.Ages.{HasOlderOpen};
+ghost use Rattle.std.specs.Prelude.{map, IfOk};
+ghost use Rattle.std.specs.Arc.{arc_value};
+ghost use Rattle.city_live.specs.Ages.{HasOlderIn, AreNamedIn};
 ghost use Rattle.city_live.specs.Serving.{Follows};
 
 use super::Hands;
@@ -13,7 +15,6 @@ use crate::work::Place;
 use city_members::copied::Copied;
 use city_members::sequence::Sequence;
 use city_model::OutOfMemory;
-use std::sync::Arc;
 
 /// Who holds a first command back, if anyone does.
 #[derive(Drop)]
@@ -175,12 +176,15 @@ impl<J: Journal> Hands<J> {
     }
 
     /// A lock, and the hands still in its way.
-    fn blocked(&self, way: &InTheWay) -> Result<Blocked, OutOfMemory> {
+    fn blocked(&self, way: &InTheWay) -> Result<Blocked, OutOfMemory>
+        ensures { IfOk result (λ b. AreNamedIn way.now.stamps way.now.ended (map arc_value b.by) self.now.session
+            self.now.events) }
+    {
         let mut by = Sequence::new(self.alloc);
         for stamp in way.stamps.as_slice() {
             if way.is_open(self.talks.session(), *stamp) {
-                if let Some(work) = self.talks.work(*stamp) {
-                    by.push(Arc::try_clone(work.hand())?)?;
+                if let Some(hand) = self.talks.hand(*stamp)? {
+                    by.push(hand)?;
                 }
             }
         }
@@ -191,7 +195,7 @@ impl<J: Journal> Hands<J> {
     /// An older one holds a lock: a transaction is undone, and its hand told so; a script waits to begin again.
     #[tactic(auto, using(crate::proofs::Followed::then, crate::proofs::Followed::same))]
     fn dies(&mut self, stamp: u64, way: InTheWay)
-        requires { HasOlderOpen stamp self.old.session }
+        requires { HasOlderIn stamp way self.old.session }
         ensures { Follows self.old self.new }
     {
         if self.talks.is_script(stamp) {
@@ -214,7 +218,7 @@ impl<J: Journal> Hands<J> {
     /// A transaction dies.
     #[tactic(auto, using(crate::proofs::Followed::then, crate::proofs::Followed::same))]
     fn single_dies(&mut self, stamp: u64, way: InTheWay)
-        requires { HasOlderOpen stamp self.old.session }
+        requires { HasOlderIn stamp way self.old.session }
         ensures { Follows self.old self.new }
     {
         if self.end_dead(stamp, way).is_err() {
@@ -241,7 +245,7 @@ impl<J: Journal> Hands<J> {
     /// Undoes a transaction, keeps its age for its hand, and tells it so. If memory runs out, nothing changes.
     #[tactic(auto, using(crate::proofs::Followed::then, crate::proofs::Followed::same))]
     fn end_dead(&mut self, stamp: u64, way: InTheWay) -> Result<(), OutOfMemory>
-        requires { HasOlderOpen stamp self.old.session }
+        requires { HasOlderIn stamp way self.old.session }
         ensures { Follows self.old self.new }
     {
         let blocked = self.blocked(&way)?;

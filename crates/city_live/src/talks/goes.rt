@@ -5,7 +5,7 @@ ghost use Rattle.city_model.specs.Meaning.{is_refusal};
 ghost use Rattle.city_txn.specs.CoreState.{is_open};
 ghost use Rattle.city_session.specs.Grown.{Grown, unrefused};
 ghost use Rattle.city_session.specs.Live.{grown_at};
-ghost use Rattle.city_live.specs.Ages.{IsHeldUp, IsGoneBy};
+ghost use Rattle.city_live.specs.Ages.{IsGoneBy};
 ghost use Rattle.city_live.specs.Heard.{script_told};
 ghost use Rattle.city_live.specs.SoFar.{ArePlain};
 ghost use Rattle.city_live.specs.Running.{RunsTo, IsWhatBehind};
@@ -78,8 +78,7 @@ impl<J: Journal> Talks<J> {
                 self.log.says(Some(stamp), Answer { hand, tag, what });
                 Some(Gone::Replied)
             }
-            Acted::Waits => Some(held_up(self.alloc, &self.session, stamp, command, true)),
-            Acted::Dies => Some(held_up(self.alloc, &self.session, stamp, command, false)),
+            Acted::Waits | Acted::Dies => Some(held_up(self.alloc, &self.session, stamp, command)),
             Acted::TooMany => Some(Gone::TooMany),
             Acted::NoMemory => Some(Gone::NoMemory),
         }
@@ -157,8 +156,7 @@ fn run(
                 Ok(reply) => replies.push_reserved(reply),
                 Err(cause) => return (Gone::Refused, Some(cause)),
             },
-            Acted::Waits => return (held_up(alloc, session, stamp, command, true), None),
-            Acted::Dies => return (held_up(alloc, session, stamp, command, false), None),
+            Acted::Waits | Acted::Dies => return (held_up(alloc, session, stamp, command), None),
             Acted::TooMany => return (Gone::TooMany, None),
             Acted::NoMemory => return (Gone::NoMemory, None),
         }
@@ -166,20 +164,21 @@ fn run(
     (Gone::Nothing, None)
 }
 
-/// The lock in the way of a command.
-fn held_up(alloc: Global, session: &Session, stamp: u64, command: &Command, waits: bool) -> Gone
-    requires { IsHeldUp waits stamp session.now }
+/// The lock in the way of a command: who is older than all that hold it waits, and dies otherwise.
+fn held_up(alloc: Global, session: &Session, stamp: u64, command: &Command) -> Gone
     ensures { IsGoneBy stamp result session.now }
 {
     let Some(conflict) = session.conflict(stamp, command) else {
         return Gone::NoMemory;
     };
-    match InTheWay::of(alloc, session.ended(), stamp, conflict) {
-        Ok(way) => if waits {
-            Gone::Waits(way)
-        } else {
-            Gone::Dies(way)
-        },
-        Err(_) => Gone::NoMemory,
+    let Ok(way) = InTheWay::of(alloc, session, stamp, conflict) else {
+        return Gone::NoMemory;
+    };
+    if way.has_older(stamp) {
+        return Gone::Dies(way);
     }
+    if way.stamps.len() == 0 {
+        return Gone::NoMemory;
+    }
+    Gone::Waits(way)
 }
