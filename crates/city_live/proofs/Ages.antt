@@ -1,14 +1,18 @@
 -- Who is in whose way, one by one.
 use Rattle.std.specs.Prelude.{◌≡◌, ◌≢◌, ◌<◌, ◌≤◌, ◌++◌, ◌∷◌, ℕ, List, [], Bool, true, None, Some, All, Contains, map}
-use Rattle.std.specs.Prelude.{take, length, get_or}
+use Rattle.std.specs.Prelude.{false, Option, is_some, length, get_or, refl}
+use Rattle.std.proofs.lemmas.Bool.{false≢true}
 use Rattle.std.proofs.Common.{sym, ◌∙◌, ap, subst, arith}
 use Rattle.std.proofs.lemmas.List.Elements.{All-contains, All-weaker, All-more, Contains-append_left, Contains-append_right}
 use Rattle.std.specs.Arc.{arc_value}
-use Rattle.city_session.specs.Live.{SessionState, grown_at}
+use Rattle.city_model.specs.CityMap.{has_id}
+use Rattle.city_model.specs.declared.mode.Mode.{Mode}
+use Rattle.city_locks.specs.Locks.{mode_of}
+use Rattle.city_session.specs.Live.{SessionState}
 use Rattle.city_live.specs.declared.answer.Blocked.{Blocked}
 use Rattle.city_live.specs.declared.ghosts.event.Event.{Event}
 use Rattle.city_live.specs.declared.in_the_way.InTheWay.{InTheWay}
-use Rattle.city_live.specs.Ages.{IsInWay, StandsBefore, AreInWay, HasOlderIn, AreYoungerIn, AreNamedIn}
+use Rattle.city_live.specs.Ages.{IsInWay, StandsBefore, AreInWay, HasOlderIn, AreYoungerIn, AreNamedIn, HoldsNothing}
 use Rattle.city_live.specs.Heard.{Talk, Heard, heard, IsNamed, HasOlder}
 
 -- ---- by the stamps in the way
@@ -54,3 +58,14 @@ named_older stamp way b s es h all = record {
   named = All-contains (λ t. IsInWay way.ended s t → IsNamed (map arc_value b.by) (heard es) t) way.stamps h.older all
       h.inside h.open_there;
 }
+
+-- ---- what holds no lock
+
+no_mode : (o : Option Mode) → (is_some o ≡ true → false ≡ true) → o ≡ None
+no_mode None h = refl
+no_mode (Some m) h = absurd (false≢true (h refl))
+
+pub holds_nothing : (stamp : ℕ) (s : SessionState) (ids : List (List ℕ)) → ids ≡ []
+    → ((q : List ℕ) → is_some (mode_of s.core.locks stamp q) ≡ true → has_id ids q ≡ true) → HoldsNothing stamp s
+holds_nothing stamp s ids none all q =
+    no_mode (mode_of s.core.locks stamp q) (λ h. ap (λ l. has_id l q) (sym none) ∙ all q h)

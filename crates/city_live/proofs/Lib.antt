@@ -5,6 +5,7 @@ pub mod ExampleRequests
 pub mod ExampleWatchers
 pub mod Finished
 pub mod Followed
+pub mod GoingOn
 pub mod Handled
 pub mod Hearing
 pub mod Names

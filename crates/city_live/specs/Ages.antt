@@ -1,12 +1,15 @@
 -- Who waits and who dies, by the stamps: a smaller one is older.
-use Rattle.std.specs.Prelude.{◌≡◌, ◌≢◌, ◌<◌, ◌≤◌, ℕ, List, Some, All, Contains}
+use Rattle.std.specs.Prelude.{◌≡◌, ◌≢◌, ◌<◌, ◌≤◌, ℕ, List, None, Some, All, Contains}
 use Rattle.std.specs.Arc.{arc_value}
+use Rattle.city_locks.specs.Locks.{mode_of}
 use Rattle.city_session.specs.Grown.{Grown}
 use Rattle.city_session.specs.Live.{SessionState, grown_at}
 use Rattle.city_live.specs.declared.answer.Blocked.{Blocked}
 use Rattle.city_live.specs.declared.gone.Gone.{Gone}
 use Rattle.city_live.specs.declared.gone.Gone.TheVariants as gone
 use Rattle.city_live.specs.declared.ghosts.event.Event.{Event}
+use Rattle.city_live.specs.declared.hands.steps.Held.{Held}
+use Rattle.city_live.specs.declared.hands.steps.Held.TheVariants as held
 use Rattle.city_live.specs.declared.in_the_way.InTheWay.{InTheWay}
 use Rattle.city_live.specs.Heard.{Talk, heard, IsNamed}
 
@@ -36,6 +39,15 @@ pub record AreYoungerIn (stamp : ℕ) (way : InTheWay) (s : SessionState) : Type
   pub open_there : All (IsInWay way.ended s) way.stamps
   pub other : ℕ
   pub inside : Contains way.stamps other
+
+-- it holds no lock
+abbrev pub HoldsNothing : ℕ → SessionState → Type 0
+HoldsNothing stamp s = (id : List ℕ) → mode_of s.core.locks stamp id ≡ None
+
+-- only what holds nothing is held back behind another
+abbrev pub IsHeldFor : ℕ → Held → SessionState → Type 0
+IsHeldFor stamp (held.Behind other way) s = HoldsNothing stamp s
+IsHeldFor stamp h s = Unit {0}
 
 -- who waits is older than all in its way, and who dies is younger than one
 abbrev pub IsGoneBy : ℕ → Gone → SessionState → Type 0

@@ -3,6 +3,7 @@ pub mod Coming
 pub mod Continuing
 pub mod Ending
 pub mod Entering
+pub mod GoingOn
 pub mod Heard
 pub mod Naming
 pub mod Noting

@@ -118,7 +118,9 @@ impl<J: Journal> Talks<J> {
     }
 
     /// The ended transactions are a serial history, and what was said of each is what it was told there; what was said
-    /// of an open one is what it was told. Each watcher was told of each change once.
+    /// of an open one is what it was told. Each watcher was told of each change once. Where one is to wait, another goes
+    /// on.
+    #[tactic(auto, using(crate::proofs::GoingOn::no_deadlock))]
     pub fn are_served(&self)
         ensures { IsServed self.now }
     {

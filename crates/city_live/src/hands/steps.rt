@@ -1,7 +1,7 @@
 //! How a work goes on.
 ghost use Rattle.std.specs.Prelude.{map, IfOk};
 ghost use Rattle.std.specs.Arc.{arc_value};
-ghost use Rattle.city_live.specs.Ages.{HasOlderIn, AreNamedIn};
+ghost use Rattle.city_live.specs.Ages.{HasOlderIn, AreNamedIn, HoldsNothing, IsHeldFor};
 ghost use Rattle.city_live.specs.Serving.{Follows};
 
 use super::Hands;
@@ -44,7 +44,10 @@ impl<J: Journal> Hands<J> {
     }
 
     /// Who holds the first command of a work back, if anyone does.
-    fn held(&self, stamp: u64) -> Held {
+    #[tactic(auto, using(crate::proofs::Ages::holds_nothing))]
+    fn held(&self, stamp: u64) -> Held
+        ensures { IsHeldFor stamp result self.now.session }
+    {
         let session = self.talks.session();
         if !session.locked(stamp).is_empty() {
             return Held::No;
@@ -117,6 +120,7 @@ impl<J: Journal> Hands<J> {
     /// A first command is held back behind another.
     #[tactic(auto, using(crate::proofs::Followed::then, crate::proofs::Followed::same))]
     fn held_back(&mut self, stamp: u64, other: u64, way: Option<InTheWay>)
+        requires { HoldsNothing stamp self.old.session }
         ensures { Follows self.old self.new }
     {
         if self.wait_behind(stamp, other, way.as_ref()).is_err() {
