@@ -1,5 +1,5 @@
 -- Twenty hands that want one id: each waits or dies by its age, and they end one after another.
-use Rattle.std.specs.Prelude.{◌≡◌, ◌+◌, ◌++◌, ◌∷◌, ℕ, suc, List, [], true, false, map, refl}
+use Rattle.std.specs.Prelude.{◌≡◌, ◌+◌, ◌++◌, ◌∷◌, ℕ, zero, suc, List, [], true, false, map, refl}
 use Rattle.city_model.specs.declared.command.Command.{Command}
 use Rattle.city_model.specs.declared.command.Command.TheVariants.{Commit}
 use Rattle.city_model.specs.declared.command.Reply.TheVariants as replies
@@ -24,11 +24,11 @@ writer stamp = record { stamp = stamp; mode = Exclusive } ∷ []
 
 -- so many stamps, from this one on
 abbrev stamps : ℕ → ℕ → List ℕ
-stamps 0 first = []
+stamps zero first = []
 stamps (suc n) first = first ∷ stamps n (first + 1)
 
 abbrev each : ℕ → Answer → List Answer
-each 0 a = []
+each zero a = []
 each (suc n) a = a ∷ each n a
 
 younger_ones_die : map (λ t. answer_among (writer 0) t Exclusive) (stamps 19 1) ≡ each 19 Die

@@ -12,7 +12,7 @@ use Rattle.city_live.specs.declared.ghosts.event.Event.{Event}
 use Rattle.city_live.specs.Heard.{Talk, Heard, nothing, stamp_of, after_event, closed_by, IsFitAt, after_at, after}
 use Rattle.city_live.specs.Heard.{IsFitIn, heard_from, AreFitFrom, heard, AreFit, IsSeenIn}
 use Rattle.city_live.specs.SoFar.{talk_of, AreSoFar, AreHeard}
-use Rattle.city_live.specs.Heard.{what_said, came_after, IsFor, IsByAge, IsNamed}
+use Rattle.city_live.specs.Heard.{what_said, came_after, IsFor, IsByAge, NamesHand}
 use Rattle.city_live.specs.Works.{Working, work_at, WorksTo, SameWorks}
 
 -- ---- one event more
@@ -177,7 +177,7 @@ module _ {s : SessionState} {works : List (ℕ × Working)} {es : List Event} (r
   none_open = open_work (work_at works stamp) (grown_at s.growing stamp) (r.so_far stamp)
 
   pub named_hand : (w : Working) → work_at works stamp ≡ Some w → (by : List ℕ) → by ≡ w.by
-      → IsNamed (by ∷ []) (heard es) stamp
+      → NamesHand (by ∷ []) (heard es) stamp
   named_hand w there by e = record {
     talk = talk_of (grown_at s.growing stamp) w;
     there = r.talks stamp ∙ ap (option_map (talk_of (grown_at s.growing stamp))) there;

@@ -1,5 +1,5 @@
 -- Who waits and who dies, by the stamps: a smaller one is older.
-use Rattle.std.specs.Prelude.{◌≡◌, ◌≢◌, ◌<◌, ◌≤◌, ℕ, List, None, Some, All, Contains}
+use Rattle.std.specs.Prelude.{◌≡◌, ◌≢◌, ◌<◌, ◌≤◌, ◌++◌, ℕ, List, None, Some, All, Contains}
 use Rattle.std.specs.Arc.{arc_value}
 use Rattle.city_locks.specs.Locks.{mode_of}
 use Rattle.city_session.specs.Grown.{Grown}
@@ -11,7 +11,7 @@ use Rattle.city_live.specs.declared.ghosts.event.Event.{Event}
 use Rattle.city_live.specs.declared.hands.steps.Held.{Held}
 use Rattle.city_live.specs.declared.hands.steps.Held.TheVariants as held
 use Rattle.city_live.specs.declared.in_the_way.InTheWay.{InTheWay}
-use Rattle.city_live.specs.Heard.{Talk, heard, IsNamed}
+use Rattle.city_live.specs.Heard.{Talk, heard, NamesHand}
 
 -- A transaction of the stamp is open, and began when no more had ended.
 pub record IsInWay (ended : ℕ) (s : SessionState) (stamp : ℕ) : Type 0 where
@@ -55,6 +55,13 @@ IsGoneBy stamp (gone.Waits way) s = AreYoungerIn stamp way s
 IsGoneBy stamp (gone.Dies way) s = HasOlderIn stamp way s
 IsGoneBy stamp g s = Unit {0}
 
+-- The names are as before, with the hand of the stamp if it still stands in the way.
+pub record NamesOneMore (stamp ended : ℕ) (names others : List (List ℕ)) (s : SessionState) (es : List Event) : Type 0
+  where
+  pub more : List (List ℕ)
+  pub gained : others ≡ names ++ more
+  pub named : IsInWay ended s stamp → NamesHand others (heard es) stamp
+
 -- the hands of all that still stand in the way are named
 abbrev pub AreNamedIn : List ℕ → ℕ → List (List ℕ) → SessionState → List Event → Type 0
-AreNamedIn stamps ended names s es = All (λ t. IsInWay ended s t → IsNamed names (heard es) t) stamps
+AreNamedIn stamps ended names s es = All (λ t. IsInWay ended s t → NamesHand names (heard es) t) stamps

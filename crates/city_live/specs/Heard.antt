@@ -304,7 +304,7 @@ IsFor (events.Says (Some t) a is_told) o = Unit {0}
 -- ---- ages
 
 -- The script or transaction of the stamp goes on, and its hand is among these.
-pub record IsNamed (names : List (List ℕ)) (h : Heard) (stamp : ℕ) : Type 0 where
+pub record NamesHand (names : List (List ℕ)) (h : Heard) (stamp : ℕ) : Type 0 where
   pub talk : Talk
   pub there : h.talks stamp ≡ Some talk
   pub named : Contains names talk.by
@@ -313,7 +313,7 @@ pub record IsNamed (names : List (List ℕ)) (h : Heard) (stamp : ℕ) : Type 0 
 pub record HasOlder (stamp : ℕ) (b : Blocked) (h : Heard) : Type 0 where
   pub older : ℕ
   pub first : older < stamp
-  pub named : IsNamed (map arc_value b.by) h older
+  pub named : NamesHand (map arc_value b.by) h older
 
 -- who is told that it died is told of an older one, so the oldest never dies
 abbrev pub IsByAge : Event → Heard → Type 0

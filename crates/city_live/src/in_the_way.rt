@@ -1,8 +1,9 @@
 //! A lock in the way of a command.
-ghost use Rattle.std.specs.Prelude.{◌≡◌, ◌<◌, ◌≤◌, ◌↔◌, ℕ, true, false, All, Contains, IfOk, IfSome, IsTrue};
-ghost use Rattle.city_live.specs.Ages.{AreInWay, IsInWay};
+ghost use Rattle.std.specs.Prelude.{◌≡◌, ◌↔◌, nat_lt, IfOk, IsTrue};
+ghost use Rattle.std.specs.List.{list_any};
+ghost use Rattle.city_live.specs.Ages.{AreInWay, IsInWay, StandsBefore};
 
-use city_locks::Mode;
+use city_locks::{Holder, Mode};
 use city_members::copied::Copied;
 use city_members::sequence::Sequence;
 use city_members::text::Id;
@@ -34,7 +35,7 @@ impl InTheWay {
         let ended = session.ended();
         let mut stamps = Sequence::new(alloc);
         for holder in conflict.holders {
-            if holder.conflicts(stamp, conflict.mode) && is_in_way(session, ended, holder.stamp) {
+            if stands_before(session, ended, stamp, conflict.mode, holder) {
                 stamps.push(holder.stamp)?;
             }
         }
@@ -73,8 +74,7 @@ impl InTheWay {
 
     /// Whether one of these stamps is older than this one. Doesn't allocate.
     pub fn has_older(&self, stamp: u64) -> bool
-        ensures older { IsTrue result → (t : ℕ) × (t < stamp) × Contains self.now.stamps t }
-        ensures none { result ≡ false → All (λ t. stamp ≤ t) self.now.stamps }
+        ensures { result ≡ list_any (λ t. nat_lt t stamp) self.now.stamps }
     {
         for other in self.stamps.as_slice() {
             if *other < stamp {
@@ -93,6 +93,13 @@ impl InTheWay {
         }
         None
     }
+}
+
+/// Whether a holder is in conflict with this stamp, and open. Doesn't allocate.
+fn stands_before(session: &Session, ended: u64, stamp: u64, mode: Mode, holder: &Holder) -> bool
+    ensures { IsTrue result → StandsBefore stamp ended session.now holder.now.stamp }
+{
+    holder.conflicts(stamp, mode) && is_in_way(session, ended, holder.stamp)
 }
 
 /// Whether a transaction of the stamp is open that began when no more had ended. Doesn't allocate.

@@ -10,7 +10,7 @@ ghost use Rattle.city_model.specs.declared.command.Command.{Command};
 ghost use Rattle.city_model.specs.Scripts.{is_end};
 ghost use Rattle.city_session.specs.Acting.{IsUnchanged};
 ghost use Rattle.city_session.specs.Live.{grown_at};
-ghost use Rattle.city_live.specs.Heard.{heard, IsNamed};
+ghost use Rattle.city_live.specs.Heard.{heard, NamesHand};
 ghost use Rattle.city_live.specs.Works.{first_of};
 ghost use Rattle.city_live.specs.Works.{IsFresh};
 ghost use Rattle.city_live.specs.Running.{Begins};
@@ -35,6 +35,7 @@ use city_model::script::{Script, is_end};
 use city_session::Session;
 use std::alloc::Global;
 use std::marker::Model;
+use std::sync::Arc;
 
 mod ends;
 mod goes;
@@ -163,9 +164,10 @@ impl<J: Journal> Talks<J> {
     }
 
     /// The hand of the work of the stamp, if there is one. An open transaction has one.
+    #[tactic(auto, using(crate::proofs::Hearing::none_open, crate::proofs::Hearing::named_hand))]
     pub fn hand(&self, stamp: u64) -> Result<Option<Name>, OutOfMemory>
         ensures none { IfOk result (λ o. IfNone o (grown_at self.now.session.growing stamp ≡ None)) }
-        ensures hand { IfOk result (λ o. IfSome o (λ name. IsNamed (arc_value name ∷ []) (heard self.now.events) stamp)) }
+        ensures hand { IfOk result (λ o. IfSome o (λ name. NamesHand (arc_value name ∷ []) (heard self.now.events) stamp)) }
     {
         let Some(work) = self.table.get(stamp) else {
             return Ok(None);

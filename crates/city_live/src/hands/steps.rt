@@ -1,11 +1,11 @@
 //! How a work goes on.
-ghost use Rattle.std.specs.Prelude.{map, IfOk};
+ghost use Rattle.std.specs.Prelude.{map, IfOk, OnOk};
 ghost use Rattle.std.specs.Arc.{arc_value};
-ghost use Rattle.city_live.specs.Ages.{HasOlderIn, AreNamedIn, HoldsNothing, IsHeldFor};
+ghost use Rattle.city_live.specs.Ages.{HasOlderIn, AreNamedIn, NamesOneMore, HoldsNothing, IsHeldFor};
 ghost use Rattle.city_live.specs.Serving.{Follows};
 
 use super::Hands;
-use crate::answer::{Blocked, Fault};
+use crate::answer::{Blocked, Fault, Name};
 use crate::going::held_back;
 use crate::gone::Gone;
 use crate::in_the_way::InTheWay;
@@ -186,14 +186,31 @@ impl<J: Journal> Hands<J> {
     {
         let mut by = Sequence::new(self.alloc);
         for stamp in way.stamps.as_slice() {
-            if way.is_open(self.talks.session(), *stamp) {
-                if let Some(hand) = self.talks.hand(*stamp)? {
-                    by.push(hand)?;
-                }
-            }
+            self.add_hand(way, *stamp, &mut by)?;
         }
         let on = way.id.copy(self.alloc)?;
         Ok(Blocked { on, by })
+    }
+
+    /// Adds the hand of a stamp, if it is still in the way.
+    #[tactic(auto, using(crate::proofs::Ages::naming))]
+    fn add_hand(
+        &self,
+        way: &InTheWay,
+        stamp: u64,
+        by: &mut Sequence<Name>,
+    ) -> Result<(), OutOfMemory>
+        ensures { OnOk result (NamesOneMore stamp way.now.ended (map arc_value by.old) (map arc_value by.new)
+            self.now.session self.now.events) }
+    {
+        if !way.is_open(self.talks.session(), stamp) {
+            return Ok(());
+        }
+        let Some(hand) = self.talks.hand(stamp)? else {
+            return Ok(());
+        };
+        by.push(hand)?;
+        Ok(())
     }
 
     /// An older one holds a lock: a transaction is undone, and its hand told so; a script waits to begin again.
@@ -247,7 +264,7 @@ impl<J: Journal> Hands<J> {
     }
 
     /// Undoes a transaction, keeps its age for its hand, and tells it so. If memory runs out, nothing changes.
-    #[tactic(auto, using(crate::proofs::Followed::then, crate::proofs::Followed::same))]
+    #[tactic(auto, using(crate::proofs::Followed::then, crate::proofs::Followed::same, crate::proofs::Ages::named_older))]
     fn end_dead(&mut self, stamp: u64, way: InTheWay) -> Result<(), OutOfMemory>
         requires { HasOlderIn stamp way self.old.session }
         ensures { Follows self.old self.new }

@@ -165,6 +165,7 @@ fn run(
 }
 
 /// The lock in the way of a command: who is older than all that hold it waits, and dies otherwise.
+#[tactic(auto, using(crate::proofs::Ages::older_in, crate::proofs::Ages::younger_in))]
 fn held_up(alloc: Global, session: &Session, stamp: u64, command: &Command) -> Gone
     ensures { IsGoneBy stamp result session.now }
 {
