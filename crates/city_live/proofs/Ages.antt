@@ -119,7 +119,7 @@ pub named_all : (stamps items : List ℕ) (i ended : ℕ) (names : List (List �
     → items ≡ stamps → length items ≤ i → AreNamedIn (take i items) ended names s es
     → AreNamedIn stamps ended names s es
 named_all stamps items i ended names s es same over all =
-    subst (λ l. AreNamedIn l ended names s es) (take_all items i over ∙ same) all
+    subst (λ l. AreNamedIn l ended names s es) (take_all i items over ∙ same) all
 
 -- a death is told with an older one's hand
 pub named_older : (stamp : ℕ) (way : InTheWay) (b : Blocked) (s : SessionState) (es : List Event)
