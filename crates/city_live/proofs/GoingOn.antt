@@ -91,9 +91,11 @@ youngest_in all (e ∷ es) h =
     by : (b : Bool) → nat_le (youngest all es) (youngest_among (holders_of all e.0)) ≡ b
         → (0 < youngest all es → HoldsLock all (youngest all es)) → HoldsLock all (youngest all (e ∷ es))
     by true is rest =
-        let top : youngest_among (holders_of all e.0) ≡ youngest all (e ∷ es) = grind arith in
-        (e.0, subst (λ u. is_some (mode_of all u e.0) ≡ true) top
-        (youngest_there (holders_of all e.0) (omega (arith, top, h))))
+        let top : youngest_among (holders_of all e.0) ≡ youngest all (e ∷ es) = grind arith in (
+          e.0,
+          subst (λ u. is_some (mode_of all u e.0) ≡ true) top
+              (youngest_there (holders_of all e.0) (omega (arith, top, h))),
+        )
     by false is rest =
         let top : youngest all es ≡ youngest all (e ∷ es) = grind arith in
         subst (HoldsLock all) top (rest (omega (arith, top, h)))

@@ -58,9 +58,9 @@ IsGoneBy stamp g s = Unit {0}
 -- The names are as before, with the hand of the stamp if it still stands in the way.
 pub record NamesOneMore (stamp ended : ℕ) (names others : List (List ℕ)) (s : SessionState) (es : List Event) : Type 0
   where
-  pub more : List (List ℕ)
-  pub gained : others ≡ names ++ more
-  pub named : IsInWay ended s stamp → NamesHand others (heard es) stamp
+    pub more : List (List ℕ)
+    pub gained : others ≡ names ++ more
+    pub named : IsInWay ended s stamp → NamesHand others (heard es) stamp
 
 -- the hands of all that still stand in the way are named
 abbrev pub AreNamedIn : List ℕ → ℕ → List (List ℕ) → SessionState → List Event → Type 0

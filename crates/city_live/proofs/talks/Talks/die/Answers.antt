@@ -1,5 +1,3 @@
-use Rattle.city_live.proofs.ExampleCrowd as one
-use Rattle.city_live.proofs.ExampleWatchers as two
 use Rattle.city_live.proofs.Followed as followed
 use Rattle.std.proofs.Common.{refl, ◌∙◌, sym, ap, subst}
 use Rattle.city_live.specs.Heard.{heard, HasOlder}
