@@ -19,6 +19,7 @@ use Rattle.city_live.specs.declared.answer.Blocked.{Blocked}
 use Rattle.city_live.specs.declared.ghosts.event.Event.{Event}
 use Rattle.city_live.specs.declared.in_the_way.InTheWay.{InTheWay}
 use Rattle.city_live.specs.Ages.{IsInWay, StandsBefore, AreInWay, HasOlderIn, AreYoungerIn, AreNamedIn, HoldsNothing, NamesOneMore}
+use Rattle.city_live.proofs.Followed.{then, same}
 use Rattle.city_live.specs.Heard.{Talk, Heard, heard, NamesHand, HasOlder}
 
 -- ---- by the stamps in the way
@@ -141,3 +142,7 @@ pub holds_nothing : (stamp : ℕ) (s : SessionState) (ids : List (List ℕ)) →
     → ((q : List ℕ) → is_some (mode_of s.core.locks stamp q) ≡ true → has_id ids q ≡ true) → HoldsNothing stamp s
 holds_nothing stamp s ids none all q =
     no_mode (mode_of s.core.locks stamp q) (λ h. ap (λ l. has_id l q) (sym none) ∙ all q h)
+
+-- ---- what the methods of hands name
+
+pub ruleset dying = (then, same, named_older)

@@ -119,8 +119,8 @@ impl<J: Journal> Talks<J> {
     }
 
     /// The ended transactions are a serial history, and what was said of each is what it was told there; what was said
-    /// of an open one is what it was told. Each watcher was told of each change once. Where one is to wait, another goes
-    /// on.
+    /// of an open one is what it was told. Each watcher was told of each change once. Where one is to wait, another
+    /// goes on.
     #[tactic(auto, using(crate::proofs::GoingOn::no_deadlock))]
     pub fn are_served(&self)
         ensures { IsServed self.now }
@@ -167,7 +167,8 @@ impl<J: Journal> Talks<J> {
     #[tactic(auto, using(crate::proofs::Hearing::none_open, crate::proofs::Hearing::named_hand))]
     pub fn hand(&self, stamp: u64) -> Result<Option<Name>, OutOfMemory>
         ensures none { IfOk result (λ o. IfNone o (grown_at self.now.session.growing stamp ≡ None)) }
-        ensures hand { IfOk result (λ o. IfSome o (λ name. NamesHand (arc_value name ∷ []) (heard self.now.events) stamp)) }
+        ensures hand { IfOk result
+            (λ o. IfSome o (λ name. NamesHand (arc_value name ∷ []) (heard self.now.events) stamp)) }
     {
         let Some(work) = self.table.get(stamp) else {
             return Ok(None);

@@ -264,7 +264,7 @@ impl<J: Journal> Hands<J> {
     }
 
     /// Undoes a transaction, keeps its age for its hand, and tells it so. If memory runs out, nothing changes.
-    #[tactic(auto, using(crate::proofs::Followed::then, crate::proofs::Followed::same, crate::proofs::Ages::named_older))]
+    #[tactic(auto, using(crate::proofs::Ages::dying))]
     fn end_dead(&mut self, stamp: u64, way: InTheWay) -> Result<(), OutOfMemory>
         requires { HasOlderIn stamp way self.old.session }
         ensures { Follows self.old self.new }
