@@ -18,7 +18,8 @@ use Rattle.city_session.specs.Live.{SessionState, grown_at}
 use Rattle.city_live.specs.declared.answer.Blocked.{Blocked}
 use Rattle.city_live.specs.declared.ghosts.event.Event.{Event}
 use Rattle.city_live.specs.declared.in_the_way.InTheWay.{InTheWay}
-use Rattle.city_live.specs.Ages.{IsInWay, StandsBefore, AreInWay, HasOlderIn, AreYoungerIn, AreNamedIn, HoldsNothing, NamesOneMore}
+use Rattle.city_live.specs.Ages.{IsInWay, StandsBefore, AreInWay, HasOlderIn, AreYoungerIn, AreNamedIn}
+use Rattle.city_live.specs.Ages.{HoldsNothing, NamesOneMore}
 use Rattle.city_live.proofs.Followed.{then, same}
 use Rattle.city_live.specs.Heard.{Talk, Heard, heard, NamesHand, HasOlder}
 
@@ -94,7 +95,11 @@ one_named stamp ended by others s es name e n =
       more = arc_value name ∷ [];
       gained = is;
       named = λ h. let last = last_named (map arc_value by) n in
-          record { talk = last.talk; there = last.there; named = subst (λ l. Contains l last.talk.by) (sym is) last.named };
+          record {
+            talk = last.talk;
+            there = last.there;
+            named = subst (λ l. Contains l last.talk.by) (sym is) last.named;
+          };
     }
 
 pub ruleset naming = (none_in_way, none_there, one_named)
