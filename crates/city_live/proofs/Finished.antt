@@ -12,10 +12,11 @@ use Rattle.city_model.specs.declared.command.Reply.TheVariants as replies
 use Rattle.city_model.specs.declared.end.Outcome.{Outcome}
 use Rattle.city_model.specs.declared.end.Outcome.TheVariants as outcomes
 use Rattle.city_model.specs.Runs.{Scripted}
+use Rattle.city_txn.specs.CoreState.{is_open}
 use Rattle.city_session.specs.Acting.{GrowsTo, IsBegun, HasEnded, IsForgotten, stamps_after, stamp_for}
 use Rattle.city_session.specs.Grown.{Grown}
 use Rattle.city_session.specs.Live.{SessionState, grown_at, IsLive}
-use Rattle.city_session.proofs.Recorded.{grows_same}
+use Rattle.city_session.proofs.Recorded.{grows_same, at_own}
 use Rattle.city_live.specs.declared.answer.Answer.{Answer}
 use Rattle.city_live.specs.declared.answer.Blocked.{Blocked}
 use Rattle.city_live.specs.declared.answer.Ended.{Ended}
@@ -136,6 +137,12 @@ heard_begins {s} {u} {works} {others} {es} r stamp kept b free new fresh is_kept
     None (ap (option_map (talk_of (grown_at s.growing stamp))) none)
     (events.Begins stamp new) refl refl is_for tt (b.begun.closed ∙ sym (append-nil s.closed))
     (ap Some (fresh_talk new.by new.name new.task new.tag new.kept (length s.closed) fresh)))
+
+-- what is begun is open
+pub begun_open : {stamp : ℕ} {kept : Option ℕ} {s u : SessionState} → Begins stamp kept s u → IsLive u
+    → is_open u.core stamp ≡ false → ⊥
+begun_open {stamp} {kept} {s} {u} b l shut =
+    false≢true (sym shut ∙ (l.opened stamp ∙ ap is_some (at_own stamp _ s.growing u.growing b.begun.growing)))
 
 -- ---- a script is tried again
 

@@ -248,6 +248,7 @@ impl<J: Journal> Talks<J> {
         let work = Work::new(self.alloc, hand, seat, name, task, self.journal.is_kept());
         let noted = self.log.events().begins(stamp, &work);
         if self.table.add(stamp, work).is_err() {
+            self.session.is_live();
             if self.session.is_open(stamp) {
                 self.session.forget(stamp);
             }
