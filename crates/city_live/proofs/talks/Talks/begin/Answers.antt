@@ -1,4 +1,3 @@
-use Rattle.city_live.proofs.ExampleCrowd as one
 use Rattle.city_txn.specs.CoreState.{CoreState, committed}
 use Rattle.std.specs.Prelude.{◌≡◌, None, IfSome}
 use Rattle.std.proofs.Common.{refl, ◌∙◌, sym, ap, subst}
