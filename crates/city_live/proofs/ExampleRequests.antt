@@ -6,7 +6,9 @@ use Rattle.std.specs.declared.sync.Arc.{Arc}
 use Rattle.std.specs.declared.alloc.Global.{Global}
 use Rattle.city_model.specs.CityMap.{CityValue}
 use Rattle.city_model.specs.declared.command.Command.{Command}
-use Rattle.city_model.specs.declared.command.Command.TheVariants.{Commit, Abort, Read, Mark, Back}
+use Rattle.city_model.specs.declared.command.Cause.{Cause}
+use Rattle.city_model.specs.declared.command.Cause.TheVariants.{Orphan}
+use Rattle.city_model.specs.declared.command.Command.TheVariants.{Commit, Abort, Read, Mark, Back, Attach, Detach}
 use Rattle.city_model.specs.declared.command.Reply.{Reply}
 use Rattle.city_model.specs.declared.command.Reply.TheVariants as replies
 use Rattle.city_model.specs.declared.end.Outcome.TheVariants as outcomes
@@ -21,41 +23,41 @@ use Rattle.city_live.specs.declared.task.Task.TheVariants as task
 use Rattle.city_live.specs.Heard.{heard, AreFit}
 use Rattle.city_live.specs.Works.{Working}
 
-abbrev Hand : Type 0
+abbrev pub Hand : Type 0
 Hand = Arc (List ℕ) Global
 
 -- the number of a request
-abbrev at : ℕ → Option (List ℕ)
+abbrev pub at : ℕ → Option (List ℕ)
 at n = Some (n ∷ [])
 
-abbrev comes : Hand → ℕ → Request → Event
+abbrev pub comes : Hand → ℕ → Request → Event
 comes hand n r = events.Comes (arc_value hand) (at n) r
 
 -- an answer of a transaction, and of none
-abbrev says : ℕ → Hand → ℕ → What → Event
+abbrev pub says : ℕ → Hand → ℕ → What → Event
 says stamp hand n what = events.Says (Some stamp) (record { hand = hand; tag = at n; what = what }) true
 
-abbrev answers : Hand → ℕ → What → Event
+abbrev pub answers : Hand → ℕ → What → Event
 answers hand n what = events.Says None (record { hand = hand; tag = at n; what = what }) true
 
 -- a transaction of this name
-abbrev single : Hand → List ℕ → Working
+abbrev pub single : Hand → List ℕ → Working
 single hand name =
     record { by = arc_value hand; name = name; task = task.Single None; tag = None; kept = None }
 
 -- a transaction is begun, as it is asked for
-abbrev begins : Hand → ℕ → ℕ → List ℕ → ℕ → List Event
+abbrev pub begins : Hand → ℕ → ℕ → List ℕ → ℕ → List Event
 begins hand n stamp name ended =
     comes hand n (requests.Begin name) ∷ events.Begins stamp (single hand name) ∷ events.Requests stamp hand (at n)
     ∷ says stamp hand n (told.Began ended) ∷ []
 
 -- it is asked for a command, and the hand gets the reply
-abbrev does : Hand → ℕ → ℕ → Command → Reply → List Event
+abbrev pub does : Hand → ℕ → ℕ → Command → Reply → List Event
 does hand n stamp command reply =
     comes hand n (requests.Do ([], command ∷ Commit ∷ []))
     ∷ events.Asks stamp hand (at n) ([], command ∷ Commit ∷ []) ∷ says stamp hand n (told.Reply reply) ∷ []
 
-abbrev commits : Hand → ℕ → ℕ → List ℕ → ℕ → ℕ → List Event
+abbrev pub commits : Hand → ℕ → ℕ → List ℕ → ℕ → ℕ → List Event
 commits hand n stamp name since version =
     comes hand n requests.Commit ∷ events.Requests stamp hand (at n)
     ∷ says stamp hand n (told.Ended (record {
@@ -65,6 +67,11 @@ commits hand n stamp name since version =
       outcome = outcomes.Committed;
       version = version;
     })) ∷ []
+
+abbrev pub commit_refused : Hand → ℕ → ℕ → ℕ → Cause → List Event
+commit_refused hand n stamp place cause =
+    comes hand n requests.Commit ∷ events.Requests stamp hand (at n)
+    ∷ says stamp hand n (told.Refused place cause) ∷ []
 
 abbrev aborts : Hand → ℕ → ℕ → List ℕ → ℕ → ℕ → List Event
 aborts hand n stamp name since version =
@@ -77,14 +84,17 @@ aborts hand n stamp name since version =
       version = version;
     })) ∷ []
 
-abbrev plan : List ℕ
+abbrev pub plan : List ℕ
 plan = codes "plan"
 
-abbrev survey : List ℕ
+abbrev pub survey : List ℕ
 survey = codes "survey"
 
-abbrev house : Command
+abbrev pub house : Command
 house = Read (codes "house")
+
+abbrev part : List ℕ
+part = codes "part"
 
 module _ (anna ben : Hand) (start : CityValue) where
   -- ---- what fits
@@ -93,10 +103,10 @@ module _ (anna ben : Hand) (start : CityValue) where
   a_begin_fits = (
     (tt, tt),
     (
-      (refl, record { hand = refl; request = refl; named = tt; fresh = refl; first = refl }),
+      (refl, record { hand = refl; request = refl; named = tt; fresh = refl; first = refl }, tt),
       (
-        (refl, record { by = refl; tagged = refl; follows = refl }),
-        ((record { hand = refl; tag = refl; what = (refl, refl) }, tt), tt),
+        (refl, record { by = refl; tagged = refl; follows = refl }, tt),
+        ((record { hand = refl; tag = refl; what = (refl, refl) }, tt, λ b e. absurd (cc)), tt),
       ),
     ),
   )
@@ -181,3 +191,26 @@ module _ (anna ben : Hand) (start : CityValue) where
       ≡ (record { since = 0; told = [] }, false) ∷ (record { since = 0; told = [] }, true)
       ∷ (record { since = 2; told = (house, replies.Absent) ∷ [] }, true) ∷ []
   a_death_and_a_return b = refl
+
+  -- a part is detached, its commit is refused, and it is attached again: the refusal is none of what was told
+  abbrev an_orphan : List Event
+  an_orphan =
+      begins anna 1 0 plan 0 ++ does anna 2 0 (Detach part (codes "house")) replies.Detached
+      ++ commit_refused anna 3 0 1 (Orphan part) ++ does anna 4 0 (Attach part (codes "tower")) replies.Attached
+      ++ commits anna 5 0 plan 0 1
+
+  an_orphan_is_attached : (heard an_orphan).ended
+      ≡ (
+        record {
+          since = 0;
+          told = (Detach part (codes "house"), replies.Detached) ∷ (Attach part (codes "tower"), replies.Attached) ∷ [];
+        },
+        true,
+      ) ∷ []
+  an_orphan_is_attached = refl
+
+  -- the refused commit is at the place behind the one command
+  the_refusal_has_its_place : (place : ℕ) → AreFit start (begins anna 1 0 plan 0
+      ++ does anna 2 0 (Detach part (codes "house")) replies.Detached ++ commit_refused anna 3 0 place (Orphan part))
+      → place ≡ 1
+  the_refusal_has_its_place place f = f.1.1.1.1.1.1.1.1.1.0.0.what.1

@@ -12,10 +12,11 @@ use Rattle.city_model.specs.declared.command.Reply.TheVariants as replies
 use Rattle.city_model.specs.declared.end.Outcome.{Outcome}
 use Rattle.city_model.specs.declared.end.Outcome.TheVariants as outcomes
 use Rattle.city_model.specs.Runs.{Scripted}
+use Rattle.city_txn.specs.CoreState.{is_open}
 use Rattle.city_session.specs.Acting.{GrowsTo, IsBegun, HasEnded, IsForgotten, stamps_after, stamp_for}
 use Rattle.city_session.specs.Grown.{Grown}
 use Rattle.city_session.specs.Live.{SessionState, grown_at, IsLive}
-use Rattle.city_session.proofs.Recorded.{grows_same}
+use Rattle.city_session.proofs.Recorded.{grows_same, at_own}
 use Rattle.city_live.specs.declared.answer.Answer.{Answer}
 use Rattle.city_live.specs.declared.answer.Blocked.{Blocked}
 use Rattle.city_live.specs.declared.answer.Ended.{Ended}
@@ -31,7 +32,7 @@ use Rattle.city_live.specs.Continuing.{Continues}
 use Rattle.city_live.specs.Ending.{EndsAs, told_replies}
 use Rattle.city_live.specs.Heard.{Talk, heard, begun_talk, script_told, script_in, since_so_far, answered_by}
 use Rattle.city_live.specs.Heard.{is_committed, closed_of, IsEndOf, IsFitWhat, after_what, closed_by_what, or_none}
-use Rattle.city_live.specs.Heard.{cause_of, IsOutcome, after_fault}
+use Rattle.city_live.specs.Heard.{cause_of, IsOutcome, after_fault, HasOlder}
 use Rattle.city_live.specs.SoFar.{talk_of, told_so_far, AreSoFar, IsSoFar, AreHeard, IsKept, ArePlain}
 use Rattle.city_live.specs.Running.{Begins, RunsTo}
 use Rattle.city_live.specs.Serving.{Logged, IsSaid}
@@ -65,6 +66,7 @@ heard_waits {s} {works} {others} {log} r stamp w there a b hand tag what same sa
     (Some k) (ap (option_map (talk_of og)) there)
     (events.Says (Some stamp) a said.is_told) refl
     (record { hand = hand; tag = tag; what = subst (λ x. IsFitWhat x k) (sym what) tt }) tt
+    (λ died e. absurd (cc))
     (sym (append-nil s.closed) ∙ ap (λ x. s.closed ++ closed_by_what x k) (sym what))
     (ap (λ x. after_what x k) what))
 
@@ -133,8 +135,14 @@ heard_begins {s} {u} {works} {others} {es} r stamp kept b free new fresh is_kept
       subst (λ ks. IsKept new.task ks (Some g)) (sym keeps) (fresh_kept new.task is_kept (length s.closed)),
     )
     None (ap (option_map (talk_of (grown_at s.growing stamp))) none)
-    (events.Begins stamp new) refl refl is_for (b.begun.closed ∙ sym (append-nil s.closed))
+    (events.Begins stamp new) refl refl is_for tt (b.begun.closed ∙ sym (append-nil s.closed))
     (ap Some (fresh_talk new.by new.name new.task new.tag new.kept (length s.closed) fresh)))
+
+-- what is begun is open
+pub begun_open : {stamp : ℕ} {kept : Option ℕ} {s u : SessionState} → Begins stamp kept s u → IsLive u
+    → is_open u.core stamp ≡ false → ⊥
+begun_open {stamp} {kept} {s} {u} b l shut =
+    false≢true (sym shut ∙ (l.opened stamp ∙ ap is_some (at_own stamp _ s.growing u.growing b.begun.growing)))
 
 -- ---- a script is tried again
 
@@ -226,6 +234,9 @@ heard_ran {s} {u} {works} {others} r l mid stamp script before replies cause at 
 
 -- ---- it dies
 
+some_died : (b x : Blocked) → told.Died b ≡ told.Died x → b ≡ x
+some_died b x e = cc
+
 died_as : (g : Grown) (t : Task) → is_whole t ≡ false
     → record { since = since_so_far t g.since; told = told_so_far t g.told } ≡ g
 died_as g (task.Script s rs cause) h = absurd (false≢true (sym h))
@@ -293,24 +304,27 @@ module _ {s u : SessionState} {works others : List (ℕ × Working)} {log logged
     (tag : a.tag ≡ w.tag)
     (said : IsSaid (Some stamp) a log logged) where
   over : (what : What) → a.what ≡ what → IsFitWhat what (talk_of (Some h.ended) w)
+      → ((b : Blocked) → what ≡ told.Died b → HasOlder stamp b (heard log.events))
       → closed_by_what what (talk_of (Some h.ended) w) ≡ (h.ended, is_kept) ∷ []
       → after_what what (talk_of (Some h.ended) w) ≡ None → AreHeard u others logged.events
-  over what is fit closed gone =
+  over what is fit aged closed gone =
       let og = grown_at s.growing stamp in
       let k = talk_of (Some h.ended) w in
       subst (λ es. AreHeard u others es) (sym said.events)
       (heard_event r u others stamp None None h.start (omega (arith, h.given)) (λ e. absurd (false≢true e)) left
-      h.growing tt
+      h.growing refl
       (Some k) (ap (option_map (talk_of og)) there ∙ ap (λ o. Some (talk_of o w)) h.is_there)
       (events.Says (Some stamp) a said.is_told) refl
       (record { hand = hand; tag = tag; what = subst (λ x. IsFitWhat x k) (sym is) fit }) tt
+      (λ b e. aged b (sym is ∙ e))
       (h.closed ∙ ap (λ l. s.closed ++ l) (sym closed) ∙ ap (λ x. s.closed ++ closed_by_what x k) (sym is))
       (ap (λ x. after_what x k) is ∙ gone))
 
-  pub heard_died : (b : Blocked) → a.what ≡ told.Died b → is_whole w.task ≡ false → is_kept ≡ false
-      → AreHeard u others logged.events
-  heard_died b what single undone =
+  pub heard_died : (b : Blocked) → HasOlder stamp b (heard log.events) → a.what ≡ told.Died b
+      → is_whole w.task ≡ false → is_kept ≡ false → AreHeard u others logged.events
+  heard_died b older what single undone =
       over (told.Died b) what (none_whole w.task single)
+      (λ x e. subst (λ y. HasOlder stamp y (heard log.events)) (some_died b x e) older)
       (ap (λ g. (g, false) ∷ []) (died_as h.ended w.task single) ∙ ap (λ x. (h.ended, x) ∷ []) (sym undone)) refl
 
   pub heard_ended : (e : Ended) → a.what ≡ told.Ended e → e.name ≡ w.name
@@ -319,7 +333,7 @@ module _ {s u : SessionState} {works others : List (ℕ × Working)} {log logged
   heard_ended e what name since ends =
       let parts = ended_as h.ended w.by w.name w.task w.tag w.kept is_kept e
       (far_there r stamp w there h.ended h.is_there) name (since h.ended h.is_there) ends in
-      over (told.Ended e) what parts.0 (ap (λ c. c ∷ []) parts.1) refl
+      over (told.Ended e) what parts.0 (λ b d. absurd (cc)) (ap (λ c. c ∷ []) parts.1) refl
 
 -- a script whose commit can't be noted is undone, and told so
 pub heard_undone : {s u : SessionState} {works others : List (ℕ × Working)} {log logged : Logged}
@@ -332,10 +346,11 @@ heard_undone {s} {u} {works} {others} {log} r stamp w there left h a hand tag sa
     let k = talk_of og w in
     subst (λ es. AreHeard u others es) (sym said.events)
     (heard_event r u others stamp None None h.start (omega (arith, h.given)) (λ e. absurd (false≢true e)) left
-    h.growing tt
+    h.growing refl
     (Some k) (ap (option_map (talk_of og)) there)
     (events.Says (Some stamp) a said.is_told) refl
     (record { hand = hand; tag = tag; what = subst (λ x. IsFitWhat x k) (sym what) tt }) tt
+    (λ b e. absurd (cc))
     (h.closed ∙ (sym (append-nil s.closed) ∙ ap (λ x. s.closed ++ closed_by_what x k) (sym what)))
     (ap (λ x. after_what x k) what ∙ gone_whole w.task k (subst (λ o. is_whole_at o ≡ true) there whole)))
   where

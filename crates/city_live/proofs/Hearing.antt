@@ -12,7 +12,7 @@ use Rattle.city_live.specs.declared.ghosts.event.Event.{Event}
 use Rattle.city_live.specs.Heard.{Talk, Heard, nothing, stamp_of, after_event, closed_by, IsFitAt, after_at, after}
 use Rattle.city_live.specs.Heard.{IsFitIn, heard_from, AreFitFrom, heard, AreFit, IsSeenIn}
 use Rattle.city_live.specs.SoFar.{talk_of, AreSoFar, AreHeard}
-use Rattle.city_live.specs.Heard.{what_said, came_after, IsFor}
+use Rattle.city_live.specs.Heard.{what_said, came_after, IsFor, IsByAge, NamesHand}
 use Rattle.city_live.specs.Works.{Working, work_at, WorksTo, SameWorks}
 
 -- ---- one event more
@@ -105,17 +105,17 @@ module _ {s : SessionState} {works : List (ℕ × Working)} {es : List Event} (r
   -- An event of the stamp, whose talk was so before.
   pub heard_event : (before : Option Talk)
       → option_map (talk_of (grown_at s.growing stamp)) (work_at works stamp) ≡ before
-      → (e : Event) → stamp_of e ≡ Some stamp → IsFitAt e before → IsFor e (heard es).came
+      → (e : Event) → stamp_of e ≡ Some stamp → IsFitAt e before → IsFor e (heard es).came → IsByAge e (heard es)
       → u.closed ≡ s.closed ++ closed_by e before
       → after_event e before (length s.closed) ≡ option_map (talk_of og) ow → AreHeard u others (es ++ e ∷ [])
-  heard_event before is e label fit is_for closed talk =
+  heard_event before is e label fit is_for aged closed talk =
       let now : heard (es ++ e ∷ []) ≡ after_at (Some stamp) e (heard es) =
       heard_more nothing es e ∙ ap (λ o. after_at o e (heard es)) label in
       let was : (heard es).talks stamp ≡ before = r.talks stamp ∙ is in
       record {
         fit = subst (λ st. AreFit st (es ++ e ∷ [])) (sym start)
             (fit_more s.start nothing es e r.fit
-            (subst (λ o. IsFitIn s.start o e (heard es)) (sym label) (subst (IsFitAt e) (sym was) fit, is_for)));
+            (subst (λ o. IsFitIn s.start o e (heard es)) (sym label) (subst (IsFitAt e) (sym was) fit, is_for, aged)));
         ended = ap (λ (h : Heard). h.ended) now
             ∙ (ap (λ o. (heard es).ended ++ closed_by e o) was
             ∙ (ap (λ cs. cs ++ closed_by e before) r.ended ∙ sym closed));
@@ -164,3 +164,22 @@ heard_same {s} {works} {others} r w = record {
   so_far = λ t. subst (λ o. AreSoFar o (grown_at s.growing t)) (sym (w t)) (r.so_far t);
   given = λ t h. r.given t (ap is_some (sym (w t)) ∙ h);
 }
+
+-- ---- the hand of an open one
+
+open_work : (o : Option Working) (og : Option Grown) → AreSoFar o og → o ≡ None → og ≡ None
+open_work None og none e = none
+open_work (Some w) og far e = absurd (cc)
+
+module _ {s : SessionState} {works : List (ℕ × Working)} {es : List Event} (r : AreHeard s works es) (stamp : ℕ) where
+  -- an open transaction has a work
+  pub none_open : work_at works stamp ≡ None → grown_at s.growing stamp ≡ None
+  none_open = open_work (work_at works stamp) (grown_at s.growing stamp) (r.so_far stamp)
+
+  pub named_hand : (w : Working) → work_at works stamp ≡ Some w → (by : List ℕ) → by ≡ w.by
+      → NamesHand (by ∷ []) (heard es) stamp
+  named_hand w there by e = record {
+    talk = talk_of (grown_at s.growing stamp) w;
+    there = r.talks stamp ∙ ap (option_map (talk_of (grown_at s.growing stamp))) there;
+    named = (0, omega arith, e);
+  }

@@ -1,7 +1,11 @@
+pub mod Ages
 pub mod Continued
+pub mod ExampleCrowd
 pub mod ExampleRequests
+pub mod ExampleWatchers
 pub mod Finished
 pub mod Followed
+pub mod GoingOn
 pub mod Handled
 pub mod Hearing
 pub mod Names

@@ -18,11 +18,12 @@ use Rattle.city_model.specs.Scripts.{is_end}
 use Rattle.city_model.specs.Standing.{Answered}
 use Rattle.city_session.specs.Acting.{GrowsTo, IsActed, told_after}
 use Rattle.city_session.specs.declared.acted.Acted.TheVariants as acts
-use Rattle.city_session.specs.Grown.{Grown, commands_in, with_reply, unrefused}
+use Rattle.city_session.specs.Grown.{Grown, Closed, commands_in, with_reply, unrefused}
 use Rattle.city_session.specs.Live.{SessionState, grown_at}
 use Rattle.city_session.proofs.AsScripts.{one_more_refused}
 use Rattle.city_session.proofs.Recorded.{grows_same, at_own}
 use Rattle.city_live.specs.declared.answer.Answer.{Answer}
+use Rattle.city_live.specs.declared.answer.Blocked.{Blocked}
 use Rattle.city_live.specs.declared.answer.Fault.{Fault}
 use Rattle.city_live.specs.declared.answer.Fault.TheVariants as faults
 use Rattle.city_live.specs.declared.answer.What.{What}
@@ -39,7 +40,7 @@ use Rattle.city_live.specs.Coming.{OfCame, IsAskedFor, IsTakenFor}
 use Rattle.city_live.specs.Noting.{firsts, or_no_command}
 use Rattle.city_live.specs.Heard.{with_one, script_in, since_so_far}
 use Rattle.city_live.specs.SoFar.{AreHeard, asked_in, since_of, told_so_far}
-use Rattle.city_live.specs.Heard.{asked_talk, heard}
+use Rattle.city_live.specs.Heard.{asked_talk, heard, HasOlder}
 use Rattle.city_live.specs.SoFar.{told_of}
 use Rattle.city_live.specs.Running.{IsWhatOf, IsWhatBehind}
 use Rattle.city_live.specs.Serving.{Logged, IsSaid}
@@ -85,6 +86,16 @@ kept_task (task.Single before) asked (Some l) (Some g) h = h
 so_far_answered : (w : Working) (og : Option Grown) → AreSoFar (Some w) og → AreSoFar (Some (answered w)) og
 so_far_answered w og h = (so_far_task w.task og h.0, kept_task w.task None w.kept og h.1)
 
+-- only a death ends so
+not_none : (c : Closed) (cs : List Closed) → c ∷ cs ≡ [] → ⊥
+not_none c cs e = absurd (cc)
+
+no_death : (P : Blocked → Type 0) (what : What) (k : Talk) → closed_by_what what k ≡ [] → (b : Blocked)
+    → what ≡ told.Died b → P b
+no_death P what k none b e =
+    absurd (not_none (record { since = k.since; told = k.told }, false) []
+    (sym (ap (λ x. closed_by_what x k) e) ∙ none))
+
 -- ---- an answer that leaves the session as it is
 
 module _ {s : SessionState} {works others : List (ℕ × Working)} {es : List Event} (r : AreHeard s works es) (stamp : ℕ)
@@ -105,6 +116,7 @@ module _ {s : SessionState} {works others : List (ℕ × Working)} {es : List Ev
       (Some (talk_of og w)) (ap (option_map (talk_of og)) there)
       (events.Says (Some stamp) a is_told) refl
       (record { hand = hand; tag = tag ∙ ap tag_of there; what = fit }) tt
+      (no_death (λ b. HasOlder stamp b (heard es)) a.what (talk_of og w) none)
       (sym (append-nil s.closed) ∙ ap (λ l. s.closed ++ l) (sym none)) effect
 
 -- ---- a reply to a command
@@ -288,7 +300,7 @@ heard_replied {s} {u} {works} {others} {log} {logged} r stamp by command asked p
           (asked_some w.task command asked.single asked.next)
           (at g grown.1 ∙ ap (λ l. length (unrefused l)) (sym (told_single w.task g.told asked.single)));
     })
-    tt
+    tt (no_death (λ b. HasOlder stamp b (heard log.events)) a.what k (none_is k place reply a.what what))
     (acted.closed ∙ (sym (append-nil s.closed) ∙ ap (λ l. s.closed ++ l) (sym (none_is k place reply a.what what))))
     (what_is k place reply a.what what ∙ ap Some (replied_so g w command reply is_done asked.single asked.next)))
 
@@ -379,7 +391,7 @@ module _ {s : SessionState} {works others : List (ℕ × Working)} {es next : Li
       (grows_same stamp og s.growing refl)
       (subst (λ x. AreSoFar x og) o.there (r.so_far stamp))
       (Some (talk_of og w)) (ap (option_map (talk_of og)) o.there)
-      (events.Requests stamp by tag) refl o.hand is_for (sym (append-nil s.closed)) refl)
+      (events.Requests stamp by tag) refl o.hand is_for tt (sym (append-nil s.closed)) refl)
 
   pub heard_ask : (script : Scripted) → IsWorkOf works stamp (arc_value by) (λ t. t ≡ task.Single None)
       → ((c : Command) → first_of (Some script) ≡ Some c → is_end c ≡ false)
@@ -409,7 +421,7 @@ module _ {s : SessionState} {works others : List (ℕ × Working)} {es next : Li
         idle = subst (λ t. asked_in t ≡ None) (sym o.so) refl;
         first = goes;
       })
-      is_for
+      is_for tt
       (sym (append-nil s.closed))
       (subst (λ t. Some (asked_talk tag script (talk_of og
       (record { by = w.by; name = w.name; task = t; tag = w.tag; kept = w.kept })))

@@ -1,6 +1,6 @@
 -- What was said of scripts and transactions, as their hands heard it.
-use Rattle.std.specs.Prelude.{◌≡◌, ◌==◌, ◌++◌, ℕ, List, [], ◌∷◌, Bool, true, false, Option, None, Some, All}
-use Rattle.std.specs.Prelude.{length, option_map, if◌then◌else◌, slice_get, is_some}
+use Rattle.std.specs.Prelude.{◌≡◌, ◌==◌, ◌<◌, ◌++◌, ℕ, List, [], ◌∷◌, Bool, true, false, Option, None, Some, All}
+use Rattle.std.specs.Prelude.{length, option_map, if◌then◌else◌, slice_get, is_some, map, Contains}
 use Rattle.std.specs.Arc.{arc_value}
 use Rattle.city_model.specs.declared.command.Cause.{Cause}
 use Rattle.city_model.specs.declared.command.Command.{Command}
@@ -16,6 +16,7 @@ use Rattle.city_model.specs.Scripts.{is_end}
 use Rattle.city_model.specs.Standing.{Answered}
 use Rattle.city_session.specs.Grown.{Grown, Closed, unrefused, scripts_of, ends_of}
 use Rattle.city_live.specs.declared.answer.Answer.{Answer}
+use Rattle.city_live.specs.declared.answer.Blocked.{Blocked}
 use Rattle.city_live.specs.declared.answer.Ended.{Ended}
 use Rattle.city_live.specs.declared.answer.Fault.{Fault}
 use Rattle.city_live.specs.declared.answer.Fault.TheVariants as faults
@@ -300,6 +301,25 @@ IsFor (events.Requests t hand tag) o = OfCame (IsTakenFor t (arc_value hand) tag
 IsFor (events.Says None a is_told) o = IsAnswerFor (arc_value a.hand) a.tag a.what o
 IsFor (events.Says (Some t) a is_told) o = Unit {0}
 
+-- ---- ages
+
+-- The script or transaction of the stamp goes on, and its hand is among these.
+pub record NamesHand (names : List (List ℕ)) (h : Heard) (stamp : ℕ) : Type 0 where
+  pub talk : Talk
+  pub there : h.talks stamp ≡ Some talk
+  pub named : Contains names talk.by
+
+-- An older script or transaction goes on, and its hand is named.
+pub record HasOlder (stamp : ℕ) (b : Blocked) (h : Heard) : Type 0 where
+  pub older : ℕ
+  pub first : older < stamp
+  pub named : NamesHand (map arc_value b.by) h older
+
+-- who is told that it died is told of an older one, so the oldest never dies
+abbrev pub IsByAge : Event → Heard → Type 0
+IsByAge (events.Says (Some t) a is_told) h = (b : Blocked) → a.what ≡ told.Died b → HasOlder t b h
+IsByAge e h = Unit {0}
+
 -- ---- all events
 
 abbrev pub after_at : Option ℕ → Event → Heard → Heard
@@ -315,7 +335,7 @@ after e h = after_at (stamp_of e) e h
 
 abbrev pub IsFitIn : CityValue → Option ℕ → Event → Heard → Type 0
 IsFitIn start None e h = IsSeenIn start h.ended (what_said e) × IsFor e h.came
-IsFitIn start (Some t) e h = IsFitAt e (h.talks t) × IsFor e h.came
+IsFitIn start (Some t) e h = IsFitAt e (h.talks t) × IsFor e h.came × IsByAge e h
 
 abbrev pub heard_from : Heard → List Event → Heard
 heard_from h [] = h

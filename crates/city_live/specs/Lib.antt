@@ -1,7 +1,9 @@
+pub mod Ages
 pub mod Coming
 pub mod Continuing
 pub mod Ending
 pub mod Entering
+pub mod GoingOn
 pub mod Heard
 pub mod Naming
 pub mod Noting

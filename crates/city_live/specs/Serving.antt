@@ -10,6 +10,7 @@ use Rattle.city_live.specs.Continuing.{Continues}
 use Rattle.city_live.specs.declared.request.Request.{Request}
 use Rattle.city_live.specs.declared.request.Request.TheVariants as requests
 use Rattle.city_live.specs.Coming.{Came, just_came, end_asked, with_stamp, OfCame, IsTakenFor}
+use Rattle.city_live.specs.GoingOn.{NoDeadlock}
 use Rattle.city_live.specs.Heard.{Talk, heard, AreFit}
 use Rattle.city_live.specs.Noting.{Noted}
 use Rattle.city_live.specs.Replaying.{Notes}
@@ -114,7 +115,7 @@ pub record IsLeaving (by : List ℕ) (tag : Option (List ℕ)) (s : Served) : Ty
 -- What has ended is a serial history, and each was told what it would have been told there (IsLive); each event fits
 -- those before it; and what was told of all that is over is what has ended, in its order. What was told of a
 -- transaction that goes on is what the session told it. The version and the watchers are those that were told, and each
--- watcher was told of each change once, before the commit's hand.
+-- watcher was told of each change once, before the commit's hand. Where a transaction is to wait, another goes on.
 pub record IsServed (s : Served) : Type 0 where
   pub live : IsLive s.session
   pub fit : AreFit s.session.start s.events
@@ -122,6 +123,7 @@ pub record IsServed (s : Served) : Type 0 where
   pub growing : (t : ℕ) (k : Talk) → (heard s.events).talks t ≡ Some k → k.script ≡ None
       → grown_at s.session.growing t ≡ Some (record { since = k.since; told = k.told })
   pub watched : AreWatched s.session.start s.first s.events (at_rest s.version s.watchers)
+  pub going : NoDeadlock s.session.core
 
 -- What came of a request of this hand, and of no other: these answers are given out, what was said and told meanwhile
 -- and not given out before, and the session goes on. What the journal has noted meanwhile, run on the city before,

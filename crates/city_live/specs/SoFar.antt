@@ -60,8 +60,9 @@ abbrev pub IsKept : Task → Option (List Scripted) → Option Grown → Type 0
 IsKept (task.Single asked) (Some ks) (Some g) = firsts ks ≡ commands_in (unrefused g.told)
 IsKept t ks o = Unit {0}
 
+-- an open transaction has a work
 abbrev pub AreSoFar : Option Working → Option Grown → Type 0
-AreSoFar None o = Unit {0}
+AreSoFar None o = o ≡ None
 AreSoFar (Some w) o = IsSoFar w.task o × IsKept w.task w.kept o
 
 -- Each event fits those before it; what was told of all that is over is what has ended in the session, in its order;

@@ -1,5 +1,9 @@
 //! A lock in the way of a command.
-use city_locks::Mode;
+ghost use Rattle.std.specs.Prelude.{◌≡◌, ◌↔◌, nat_lt, IfOk, IsTrue};
+ghost use Rattle.std.specs.List.{list_any};
+ghost use Rattle.city_live.specs.Ages.{AreInWay, IsInWay, StandsBefore};
+
+use city_locks::{Holder, Mode};
 use city_members::copied::Copied;
 use city_members::sequence::Sequence;
 use city_members::text::Id;
@@ -19,16 +23,19 @@ pub struct InTheWay {
 }
 
 impl InTheWay {
-    /// The holders of an id in conflict with this stamp.
+    /// The holders of an id in conflict with this stamp, which are open.
     pub fn of(
         alloc: Global,
-        ended: u64,
+        session: &Session,
         stamp: u64,
         conflict: Conflict<'_>,
-    ) -> Result<InTheWay, OutOfMemory> {
+    ) -> Result<InTheWay, OutOfMemory>
+        ensures { IfOk result (AreInWay stamp session.now) }
+    {
+        let ended = session.ended();
         let mut stamps = Sequence::new(alloc);
         for holder in conflict.holders {
-            if holder.conflicts(stamp, conflict.mode) {
+            if stands_before(session, ended, stamp, conflict.mode, holder) {
                 stamps.push(holder.stamp)?;
             }
         }
@@ -59,11 +66,22 @@ impl InTheWay {
     }
 
     /// Whether one of these stamps is still in the way: it hasn't ended since. Doesn't allocate.
-    pub fn is_open(&self, session: &Session, stamp: u64) -> bool {
-        match session.transaction(stamp) {
-            Some(transaction) => transaction.since() <= self.ended,
-            None => false,
+    pub fn is_open(&self, session: &Session, stamp: u64) -> bool
+        ensures { IsTrue result ↔ IsInWay self.now.ended session.now stamp }
+    {
+        is_in_way(session, self.ended, stamp)
+    }
+
+    /// Whether one of these stamps is older than this one. Doesn't allocate.
+    pub fn has_older(&self, stamp: u64) -> bool
+        ensures { result ≡ list_any (λ t. nat_lt t stamp) self.now.stamps }
+    {
+        for other in self.stamps.as_slice() {
+            if *other < stamp {
+                return true;
+            }
         }
+        false
     }
 
     /// One of them still in the way, if there is one. Doesn't allocate.
@@ -74,5 +92,22 @@ impl InTheWay {
             }
         }
         None
+    }
+}
+
+/// Whether a holder is in conflict with this stamp, and open. Doesn't allocate.
+fn stands_before(session: &Session, ended: u64, stamp: u64, mode: Mode, holder: &Holder) -> bool
+    ensures { IsTrue result → StandsBefore stamp ended session.now holder.now.stamp }
+{
+    holder.conflicts(stamp, mode) && is_in_way(session, ended, holder.stamp)
+}
+
+/// Whether a transaction of the stamp is open that began when no more had ended. Doesn't allocate.
+fn is_in_way(session: &Session, ended: u64, stamp: u64) -> bool
+    ensures { IsTrue result ↔ IsInWay ended session.now stamp }
+{
+    match session.transaction(stamp) {
+        Some(transaction) => transaction.since() <= ended,
+        None => false,
     }
 }

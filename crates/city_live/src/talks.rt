@@ -1,5 +1,6 @@
 //! The works of hands on a session, and what is said of each.
-ghost use Rattle.std.specs.Prelude.{◌≡◌, List, ℕ, Option, [], None, Some, false, IfOk, IfErr, OnErr, IsTrue};
+ghost use Rattle.std.specs.Prelude.{◌≡◌, ◌∷◌, List, ℕ, Option, [], None, Some, false, IfOk, IfErr, IfSome, IfNone};
+ghost use Rattle.std.specs.Prelude.{OnErr, IsTrue};
 ghost use Rattle.std.specs.Arc.{arc_value};
 ghost use Rattle.std.specs.Borrow.{Lends, sem};
 ghost use Rattle.city_model.specs.CityMap.{object_at};
@@ -8,6 +9,8 @@ ghost use Rattle.city_txn.specs.CoreState.{committed};
 ghost use Rattle.city_model.specs.declared.command.Command.{Command};
 ghost use Rattle.city_model.specs.Scripts.{is_end};
 ghost use Rattle.city_session.specs.Acting.{IsUnchanged};
+ghost use Rattle.city_session.specs.Live.{grown_at};
+ghost use Rattle.city_live.specs.Heard.{heard, NamesHand};
 ghost use Rattle.city_live.specs.Works.{first_of};
 ghost use Rattle.city_live.specs.Works.{IsFresh};
 ghost use Rattle.city_live.specs.Running.{Begins};
@@ -32,6 +35,7 @@ use city_model::script::{Script, is_end};
 use city_session::Session;
 use std::alloc::Global;
 use std::marker::Model;
+use std::sync::Arc;
 
 mod ends;
 mod goes;
@@ -115,7 +119,9 @@ impl<J: Journal> Talks<J> {
     }
 
     /// The ended transactions are a serial history, and what was said of each is what it was told there; what was said
-    /// of an open one is what it was told. Each watcher was told of each change once.
+    /// of an open one is what it was told. Each watcher was told of each change once. Where one is to wait, another
+    /// goes on.
+    #[tactic(auto, using(crate::proofs::GoingOn::no_deadlock))]
     pub fn are_served(&self)
         ensures { IsServed self.now }
     {
@@ -155,6 +161,20 @@ impl<J: Journal> Talks<J> {
     /// The work of the stamp, if there is one. Doesn't allocate.
     pub fn work(&self, stamp: u64) -> Option<&Work> {
         self.table.get(stamp)
+    }
+
+    /// The hand of the work of the stamp, if there is one. An open transaction has one.
+    #[tactic(auto, using(crate::proofs::Hearing::none_open, crate::proofs::Hearing::named_hand))]
+    pub fn hand(&self, stamp: u64) -> Result<Option<Name>, OutOfMemory>
+        ensures none { IfOk result (λ o. IfNone o (grown_at self.now.session.growing stamp ≡ None)) }
+        ensures hand { IfOk result
+            (λ o. IfSome o (λ name. NamesHand (arc_value name ∷ []) (heard self.now.events) stamp)) }
+    {
+        let Some(work) = self.table.get(stamp) else {
+            return Ok(None);
+        };
+        let hand = Arc::try_clone(work.hand())?;
+        Ok(Some(hand))
     }
 
     /// The works, by their stamps. Doesn't allocate.
@@ -228,6 +248,7 @@ impl<J: Journal> Talks<J> {
         let work = Work::new(self.alloc, hand, seat, name, task, self.journal.is_kept());
         let noted = self.log.events().begins(stamp, &work);
         if self.table.add(stamp, work).is_err() {
+            self.session.is_live();
             if self.session.is_open(stamp) {
                 self.session.forget(stamp);
             }

@@ -1,8 +1,11 @@
 //! How a work goes on.
+ghost use Rattle.std.specs.Prelude.{map, IfOk, OnOk};
+ghost use Rattle.std.specs.Arc.{arc_value};
+ghost use Rattle.city_live.specs.Ages.{HasOlderIn, AreNamedIn, NamesOneMore, HoldsNothing, IsHeldFor};
 ghost use Rattle.city_live.specs.Serving.{Follows};
 
 use super::Hands;
-use crate::answer::{Blocked, Fault};
+use crate::answer::{Blocked, Fault, Name};
 use crate::going::held_back;
 use crate::gone::Gone;
 use crate::in_the_way::InTheWay;
@@ -12,7 +15,6 @@ use crate::work::Place;
 use city_members::copied::Copied;
 use city_members::sequence::Sequence;
 use city_model::OutOfMemory;
-use std::sync::Arc;
 
 /// Who holds a first command back, if anyone does.
 #[derive(Drop)]
@@ -42,7 +44,10 @@ impl<J: Journal> Hands<J> {
     }
 
     /// Who holds the first command of a work back, if anyone does.
-    fn held(&self, stamp: u64) -> Held {
+    #[tactic(auto, using(crate::proofs::Ages::holds_nothing))]
+    fn held(&self, stamp: u64) -> Held
+        ensures { IsHeldFor stamp result self.now.session }
+    {
         let session = self.talks.session();
         if !session.locked(stamp).is_empty() {
             return Held::No;
@@ -115,6 +120,7 @@ impl<J: Journal> Hands<J> {
     /// A first command is held back behind another.
     #[tactic(auto, using(crate::proofs::Followed::then, crate::proofs::Followed::same))]
     fn held_back(&mut self, stamp: u64, other: u64, way: Option<InTheWay>)
+        requires { HoldsNothing stamp self.old.session }
         ensures { Follows self.old self.new }
     {
         if self.wait_behind(stamp, other, way.as_ref()).is_err() {
@@ -174,22 +180,43 @@ impl<J: Journal> Hands<J> {
     }
 
     /// A lock, and the hands still in its way.
-    fn blocked(&self, way: &InTheWay) -> Result<Blocked, OutOfMemory> {
+    fn blocked(&self, way: &InTheWay) -> Result<Blocked, OutOfMemory>
+        ensures { IfOk result (λ b. AreNamedIn way.now.stamps way.now.ended (map arc_value b.by) self.now.session
+            self.now.events) }
+    {
         let mut by = Sequence::new(self.alloc);
         for stamp in way.stamps.as_slice() {
-            if way.is_open(self.talks.session(), *stamp) {
-                if let Some(work) = self.talks.work(*stamp) {
-                    by.push(Arc::try_clone(work.hand())?)?;
-                }
-            }
+            self.add_hand(way, *stamp, &mut by)?;
         }
         let on = way.id.copy(self.alloc)?;
         Ok(Blocked { on, by })
     }
 
+    /// Adds the hand of a stamp, if it is still in the way.
+    #[tactic(auto, using(crate::proofs::Ages::naming))]
+    fn add_hand(
+        &self,
+        way: &InTheWay,
+        stamp: u64,
+        by: &mut Sequence<Name>,
+    ) -> Result<(), OutOfMemory>
+        ensures { OnOk result (NamesOneMore stamp way.now.ended (map arc_value by.old) (map arc_value by.new)
+            self.now.session self.now.events) }
+    {
+        if !way.is_open(self.talks.session(), stamp) {
+            return Ok(());
+        }
+        let Some(hand) = self.talks.hand(stamp)? else {
+            return Ok(());
+        };
+        by.push(hand)?;
+        Ok(())
+    }
+
     /// An older one holds a lock: a transaction is undone, and its hand told so; a script waits to begin again.
     #[tactic(auto, using(crate::proofs::Followed::then, crate::proofs::Followed::same))]
     fn dies(&mut self, stamp: u64, way: InTheWay)
+        requires { HasOlderIn stamp way self.old.session }
         ensures { Follows self.old self.new }
     {
         if self.talks.is_script(stamp) {
@@ -212,6 +239,7 @@ impl<J: Journal> Hands<J> {
     /// A transaction dies.
     #[tactic(auto, using(crate::proofs::Followed::then, crate::proofs::Followed::same))]
     fn single_dies(&mut self, stamp: u64, way: InTheWay)
+        requires { HasOlderIn stamp way self.old.session }
         ensures { Follows self.old self.new }
     {
         if self.end_dead(stamp, way).is_err() {
@@ -236,8 +264,9 @@ impl<J: Journal> Hands<J> {
     }
 
     /// Undoes a transaction, keeps its age for its hand, and tells it so. If memory runs out, nothing changes.
-    #[tactic(auto, using(crate::proofs::Followed::then, crate::proofs::Followed::same))]
+    #[tactic(auto, using(crate::proofs::Ages::dying))]
     fn end_dead(&mut self, stamp: u64, way: InTheWay) -> Result<(), OutOfMemory>
+        requires { HasOlderIn stamp way self.old.session }
         ensures { Follows self.old self.new }
     {
         let blocked = self.blocked(&way)?;

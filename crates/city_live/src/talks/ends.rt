@@ -6,6 +6,7 @@ ghost use Rattle.city_session.specs.Grown.{Grown};
 ghost use Rattle.city_session.specs.Live.{grown_at};
 ghost use Rattle.city_live.specs.Ending.{IsReady, IsUntoldReady, IsAllowed, IsNumbered, IsMade, IsEnded, IsUnrefused};
 ghost use Rattle.city_live.specs.Ending.{AreTold, told_replies};
+ghost use Rattle.city_live.specs.Heard.{heard, HasOlder};
 ghost use Rattle.city_live.specs.Serving.{Follows};
 
 use super::Talks;
@@ -64,6 +65,7 @@ impl<J: Journal> Talks<J> {
 
     /// Undoes a transaction that dies, and tells its hand what stood in its way. Returns the hand's seat.
     pub fn die(&mut self, stamp: u64, blocked: Blocked) -> Option<usize>
+        requires { HasOlder stamp blocked (heard self.old.events) }
         ensures { Follows self.old self.new }
     {
         if !self.session.is_open(stamp) || self.table.is_script(stamp) {

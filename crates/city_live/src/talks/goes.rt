@@ -1,10 +1,11 @@
 //! How a work goes on.
-ghost use Rattle.std.specs.Prelude.{◌≡◌, None, Some, true, false, not, length, IfOk, IfErr, IfNone};
+ghost use Rattle.std.specs.Prelude.{◌≡◌, None, Some, true, false, not, length, IfOk, IfErr, IfNone, IfSome};
 ghost use Rattle.city_model.specs.declared.command.Reply.TheVariants as replies;
 ghost use Rattle.city_model.specs.Meaning.{is_refusal};
 ghost use Rattle.city_txn.specs.CoreState.{is_open};
 ghost use Rattle.city_session.specs.Grown.{Grown, unrefused};
 ghost use Rattle.city_session.specs.Live.{grown_at};
+ghost use Rattle.city_live.specs.Ages.{IsGoneBy};
 ghost use Rattle.city_live.specs.Heard.{script_told};
 ghost use Rattle.city_live.specs.SoFar.{ArePlain};
 ghost use Rattle.city_live.specs.Running.{RunsTo, IsWhatBehind};
@@ -23,7 +24,8 @@ use std::alloc::Global;
 impl<J: Journal> Talks<J> {
     /// Goes on with a work: with its one command, or with its script to the end, or until it is held up.
     pub fn go_on(&mut self, stamp: u64) -> Gone
-        ensures { Follows self.old self.new }
+        ensures follows { Follows self.old self.new }
+        ensures by_age { IsGoneBy stamp result self.new.session }
     {
         if !self.session.is_open(stamp) {
             return Gone::Nothing;
@@ -37,7 +39,8 @@ impl<J: Journal> Talks<J> {
     /// Runs a script's commands behind the replies so far.
     fn run(&mut self, stamp: u64) -> Gone
         requires { is_open self.old.session.core stamp ≡ true }
-        ensures { Follows self.old self.new }
+        ensures follows { Follows self.old self.new }
+        ensures by_age { IsGoneBy stamp result self.new.session }
     {
         let Some((script, mut replies)) = self.table.take_script(stamp) else {
             return Gone::Nothing;
@@ -59,6 +62,7 @@ impl<J: Journal> Talks<J> {
         requires { is_open self.old.session.core stamp ≡ true }
         ensures follows { Follows self.old self.new }
         ensures none { IfNone result (self.new ≡ self.old) }
+        ensures by_age { IfSome result (λ gone. IsGoneBy stamp gone self.new.session) }
     {
         let Some((hand, command)) = self.table.asked(stamp) else {
             return None;
@@ -74,8 +78,7 @@ impl<J: Journal> Talks<J> {
                 self.log.says(Some(stamp), Answer { hand, tag, what });
                 Some(Gone::Replied)
             }
-            Acted::Waits => Some(held_up(self.alloc, &self.session, stamp, command, true)),
-            Acted::Dies => Some(held_up(self.alloc, &self.session, stamp, command, false)),
+            Acted::Waits | Acted::Dies => Some(held_up(self.alloc, &self.session, stamp, command)),
             Acted::TooMany => Some(Gone::TooMany),
             Acted::NoMemory => Some(Gone::NoMemory),
         }
@@ -135,7 +138,8 @@ fn run(
     requires told { (g : Grown) → grown_at session.old.growing stamp ≡ Some g
         → g.told ≡ script_told commands.now replies.old.items None }
     requires plain { ArePlain replies.old.items }
-    ensures { RunsTo stamp commands.now replies.new.items result.1 session.old session.new }
+    ensures ran { RunsTo stamp commands.now replies.new.items result.1 session.old session.new }
+    ensures by_age { IsGoneBy stamp result.0 session.new }
 {
     for _ in 0..commands.len() {
         let Some(command) = commands.get(replies.len()) else {
@@ -152,8 +156,7 @@ fn run(
                 Ok(reply) => replies.push_reserved(reply),
                 Err(cause) => return (Gone::Refused, Some(cause)),
             },
-            Acted::Waits => return (held_up(alloc, session, stamp, command, true), None),
-            Acted::Dies => return (held_up(alloc, session, stamp, command, false), None),
+            Acted::Waits | Acted::Dies => return (held_up(alloc, session, stamp, command), None),
             Acted::TooMany => return (Gone::TooMany, None),
             Acted::NoMemory => return (Gone::NoMemory, None),
         }
@@ -161,17 +164,22 @@ fn run(
     (Gone::Nothing, None)
 }
 
-/// The lock in the way of a command.
-fn held_up(alloc: Global, session: &Session, stamp: u64, command: &Command, waits: bool) -> Gone {
+/// The lock in the way of a command: who is older than all that hold it waits, and dies otherwise.
+#[tactic(auto, using(crate::proofs::Ages::older_in, crate::proofs::Ages::younger_in))]
+fn held_up(alloc: Global, session: &Session, stamp: u64, command: &Command) -> Gone
+    ensures { IsGoneBy stamp result session.now }
+{
     let Some(conflict) = session.conflict(stamp, command) else {
         return Gone::NoMemory;
     };
-    match InTheWay::of(alloc, session.ended(), stamp, conflict) {
-        Ok(way) => if waits {
-            Gone::Waits(way)
-        } else {
-            Gone::Dies(way)
-        },
-        Err(_) => Gone::NoMemory,
+    let Ok(way) = InTheWay::of(alloc, session, stamp, conflict) else {
+        return Gone::NoMemory;
+    };
+    if way.has_older(stamp) {
+        return Gone::Dies(way);
     }
+    if way.stamps.len() == 0 {
+        return Gone::NoMemory;
+    }
+    Gone::Waits(way)
 }

@@ -40,11 +40,6 @@ returns-in-Waits-clause-follows g c =
     silently c.self.view_is
     (still c.act.ensures.start c.act.ensures.closed (omega (arith, c.act.ensures.given))) (stays c.act.ensures.city)
 
-pub returns-in-Dies-clause-follows : goal.returns-in-Dies-clause-follows
-returns-in-Dies-clause-follows g c =
-    silently c.self.view_is
-    (still c.act.ensures.start c.act.ensures.closed (omega (arith, c.act.ensures.given))) (stays c.act.ensures.city)
-
 pub returns-in-TooMany-clause-follows : goal.returns-in-TooMany-clause-follows
 returns-in-TooMany-clause-follows g c =
     silently c.self.view_is

@@ -6,7 +6,7 @@ use Rattle.city_live.specs.Works.{IsFresh}
 use Rattle.city_live.specs.Works.{Working, work_at}
 use Rattle.city_live.proofs.Continued as continued
 use Rattle.city_live.proofs.Followed.{quietly, silently, one_more, begun_for, came_begun, on_err}
-use Rattle.city_live.proofs.Finished.{heard_begins, begins_on, ok_of}
+use Rattle.city_live.proofs.Finished.{heard_begins, begins_on, begun_open, ok_of}
 use Rattle.city_live.specs.Serving.{Follows, came_in}
 use Rattle.city_live.proofs.Replayed.{stays}
 use Rattle.city_live.proofs.Watching.{watched_event, watched_from_there}
@@ -70,3 +70,7 @@ pub returns-in_err-stamp-clause-goes : goal.returns-in_err-stamp-clause-goes
 returns-in_err-stamp-clause-goes g c =
     (silently c.self.view_is (continued.unchanged c.in_err-stamp.ensures.err)
     (stays (ap (λ (x : CoreState). committed x) c.in_err-stamp.ensures.err.core))).goes
+
+pub invariant_of-self-else-is_open : goal.invariant_of-self-else-is_open
+invariant_of-self-else-is_open g c =
+    absurd (begun_open c.in_ok-stamp.ensures.begun c.is_live.ensures (sym c.is_open.ensures ∙ c.if-is_open.false))

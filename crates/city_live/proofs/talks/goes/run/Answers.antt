@@ -5,8 +5,8 @@ use Rattle.city_live.proofs.Ran.{ran_refused, ran_replied}
 use Rattle.city_live.proofs.Worked.{read_at}
 use Rattle.city_live.proofs.talks.goes.run.Goals as goal
 
-pub returns-in-Err : goal.returns-in-Err
-returns-in-Err c =
+pub returns-in-Err-clause-ran : goal.returns-in-Err-clause-ran
+returns-in-Err-clause-ran c =
     ran_refused c.loop.invariant c.reserve.ensures.items c.in-Some.command.now c.in-Replied.reply c.in-Err.cause
     c.in-Replied.ensures c.in-Err.ensures.refused
     (ap (slice_get c.args.commands.now) (sym (c.len.ensures ∙ c.loop.replies.ok.0))
