@@ -32,17 +32,15 @@ pub fn write_reply_member(
     write_reply(alloc, seed, reply, out)
 }
 
-/// Writes a refusal in a transaction that goes on.
+/// Writes a refusal in a transaction that goes on, but for the end of its object.
 pub fn write_refused(at: usize, cause: &Cause, out: &mut Writer) -> Result<(), OutOfMemory>
     ensures before { OnOk result (out.new.before ≡ out.old.before) }
-    ensures tokens { OnOk result (out.new.tokens
-        ≡ out.old.tokens ++ tokens_of_members (one (codes "refused") (object (put_refusal at cause.now no_members)))) }
+    ensures tokens { OnOk result (out.new.tokens ≡ out.old.tokens
+        ++ key (codes "refused") ∷ begin_object ∷ tokens_of_members (put_refusal at cause.now no_members)) }
 {
     out.key("refused")?;
     out.begin_object()?;
-    write_refusal(at, cause, out)?;
-    out.end_object()?;
-    Ok(())
+    write_refusal(at, cause, out)
 }
 
 /// Writes a lock in the way, and the hands with a hold on it.
@@ -74,7 +72,8 @@ fn write_names(names: &[Name], out: &mut Writer) -> Result<(), OutOfMemory>
     Ok(())
 }
 
-/// Writes the end of a script or a transaction: the members of a report's line without `script`, and the version.
+/// Writes the end of a script or a transaction: the members of a report's line without `script`, and the version, but
+/// for the end of their object.
 pub fn write_ended(
     alloc: Global,
     seed: u64,
@@ -83,7 +82,7 @@ pub fn write_ended(
 ) -> Result<(), OutOfMemory>
     ensures before { OnOk result (out.new.before ≡ out.old.before) }
     ensures tokens { OnOk result (out.new.tokens
-        ≡ out.old.tokens ++ tokens_of_members (one (codes "ended") (ended_data end.now))) }
+        ≡ out.old.tokens ++ key (codes "ended") ∷ begin_object ∷ tokens_of_members (ended_members end.now no_members)) }
 {
     out.key("ended")?;
     out.begin_object()?;
@@ -92,9 +91,7 @@ pub fn write_ended(
     write_text("outcome", outcome_name(&end.outcome), out)?;
     write_end_replies(alloc, seed, end, out)?;
     write_number("since", end.since, out)?;
-    write_number("version", end.version, out)?;
-    out.end_object()?;
-    Ok(())
+    write_number("version", end.version, out)
 }
 
 /// Writes the replies of a script.

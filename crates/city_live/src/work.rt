@@ -278,15 +278,17 @@ impl Work {
     }
 
     /// Takes back the one command, and the tag of its request. Doesn't allocate.
-    pub fn answer(&mut self) -> Tag
-        ensures tag { result ≡ self.old.tag }
+    pub fn answer(&mut self) -> (Tag, Option<Script>)
+        ensures tag { result.0 ≡ self.old.tag }
+        ensures asked { result.1 ≡ asked_script self.old.task }
         ensures work { self.new ≡ answered self.old }
     {
-        if let Task::Single(asked) = &mut self.task {
-            *asked = None;
-        }
+        let asked = match &mut self.task {
+            Task::Single(asked) => asked.take(),
+            Task::Script(_, _, _) => None,
+        };
         self.is_told = false;
-        self.tag.take()
+        (self.tag.take(), asked)
     }
 
     /// The one command was done: keeps it for a journal that wants it, and takes the tag of its request. Doesn't
@@ -306,13 +308,18 @@ impl Work {
         self.tag.take()
     }
 
-    /// The one command is replied to: if it was done, it is kept for a journal that wants it. Takes the tag of its
-    /// request. Doesn't allocate.
-    pub fn reply(&mut self, is_done: bool) -> Tag
-        ensures tag { result ≡ self.old.tag }
+    /// The one command is replied to: if it was done, it is kept for a journal that wants it; else it comes back. Takes
+    /// the tag of its request. Doesn't allocate.
+    pub fn reply(&mut self, is_done: bool) -> (Tag, Option<Script>)
+        ensures tag { result.0 ≡ self.old.tag }
+        ensures asked { result.1 ≡ undone is_done self.old.task }
         ensures work { self.new ≡ replied is_done self.old }
     {
-        if is_done { self.done() } else { self.answer() }
+        if is_done {
+            (self.done(), None)
+        } else {
+            self.answer()
+        }
     }
 
     /// Takes out a script that goes on, and the replies to its commands so far. Doesn't allocate.
