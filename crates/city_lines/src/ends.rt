@@ -1,13 +1,14 @@
 //! Replies, ends, and who stands in the way.
-ghost use Rattle.std.specs.Prelude.{◌≡◌, ◌++◌, OnOk, codes};
+ghost use Rattle.std.specs.Prelude.{◌≡◌, ◌++◌, ◌∷◌, OnOk, codes};
 ghost use Rattle.std.specs.Arc.{arc_value};
-ghost use Rattle.serde_json.specs.Data.{object, string, no_members};
+ghost use Rattle.serde_json.specs.Data.{string, no_members};
 ghost use Rattle.city_writer.specs.report.Ends.{put_refusal};
 ghost use Rattle.city_writer.specs.report.Replies.{reply_data};
 ghost use Rattle.city_writer.specs.tree.Lists.{list_data};
 ghost use Rattle.city_writer.specs.internal.tree.PartTokens.{tokens_of_members};
 ghost use Rattle.city_writer.specs.tree.Tokens.{tokens_of};
-ghost use Rattle.city_lines.specs.Told.{one, blocked_data, ended_data, with_replies};
+ghost use Rattle.city_lines.specs.Told.{one, blocked_data, ended_members, with_replies};
+ghost use Rattle.json.specs.Token.{begin_object, key};
 
 use crate::front::{write_number, write_text};
 use city_live::{Blocked, Ended, Name};

@@ -63,6 +63,7 @@ commits hand n stamp name since version =
       since = since;
       replies = None;
       outcome = outcomes.Committed;
+      refused = None;
       version = version;
     })) ∷ []
 
@@ -74,6 +75,7 @@ aborts hand n stamp name since version =
       since = since;
       replies = None;
       outcome = outcomes.Aborted;
+      refused = None;
       version = version;
     })) ∷ []
 
@@ -167,6 +169,7 @@ module _ (anna ben : Hand) (start : CityValue) where
         since = 0;
         replies = None;
         outcome = outcomes.Aborted;
+        refused = None;
         version = 0;
       })) ∷ [])).ended ≡ (record { since = 0; told = [] }, false) ∷ []
   an_abort_of_a_wait b = refl

@@ -6,7 +6,7 @@ ghost use Rattle.city_live.specs.declared.task.Task.TheVariants as task;
 ghost use Rattle.city_live.specs.Works.{work_at, tag_at, WorksTo, SameWorks, IsScriptAt, asking, requested, answered};
 ghost use Rattle.city_live.specs.Works.{again};
 ghost use Rattle.city_live.specs.Works.{after_taking, with_script, is_whole, is_whole_at, IsWorkOf, IsAskedAt};
-ghost use Rattle.city_live.specs.Works.{MayCommit, replied};
+ghost use Rattle.city_live.specs.Works.{MayCommit, replied, undone_at};
 
 use crate::answer::Name;
 use crate::in_the_way::InTheWay;

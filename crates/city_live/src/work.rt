@@ -5,9 +5,9 @@ ghost use Rattle.std.specs.Arc.{arc_value};
 ghost use Rattle.city_live.specs.declared.task.Task.TheVariants as task;
 ghost use Rattle.city_live.specs.Entering.{commands_by};
 ghost use Rattle.city_live.specs.Works.{next_of, asking, requested, answered, again, is_whole, with_done, none_kept};
-ghost use Rattle.city_live.specs.Works.{replied, commands_noted, IsFresh};
-ghost use Rattle.city_live.specs.Room.{HasRoomForOne};
+ghost use Rattle.city_live.specs.Works.{replied, commands_noted, asked_script, undone, IsFresh};
 ghost use Rattle.city_live.specs.Works.{after_taking, with_script, IsAtCommit};
+ghost use Rattle.city_live.specs.Room.{HasRoomForOne};
 
 use crate::answer::Name;
 use crate::in_the_way::InTheWay;

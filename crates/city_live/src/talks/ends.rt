@@ -5,7 +5,9 @@ ghost use Rattle.std.specs.Arc.{arc_value};
 ghost use Rattle.city_session.specs.Grown.{Grown};
 ghost use Rattle.city_session.specs.Live.{grown_at};
 ghost use Rattle.city_live.specs.Ending.{IsReady, IsUntoldReady, IsAllowed, IsNumbered, IsMade, IsEnded, IsUnrefused};
-ghost use Rattle.city_live.specs.Ending.{AreTold, told_replies};
+ghost use Rattle.city_live.specs.Ending.{AreTold, HasRefusedBy, told_replies};
+ghost use Rattle.city_live.specs.Heard.{HasRefused};
+ghost use Rattle.city_live.specs.Running.{IsSeenBy};
 ghost use Rattle.city_live.specs.Serving.{Follows};
 
 use super::Talks;
@@ -199,6 +201,7 @@ impl<J: Journal> Talks<J> {
         };
         let seat = work.seat();
         let since = since_of(&self.session, stamp);
+        self.session.is_live();
         let (hand, name, task, tag) = work.into_parts();
         let (replies, outcome, refused) = ended_by(self.alloc, &self.session, stamp, task, ending);
         self.session.abort(stamp);
@@ -285,7 +288,7 @@ fn ended_by(
     ending: Ending,
 ) -> (Option<Sequence<Reply>>, Outcome, Option<RefusedCommand>)
     ensures ended { IsEnded task result.0 result.1 }
-    ensures refused { IsRefusedIn task result.1 result.2 }
+    ensures refused { HasRefusedBy session.now stamp task result.1 result.2 }
 {
     match task {
         Task::Single(_) => (None, Outcome::Aborted, None),
@@ -309,7 +312,7 @@ fn refused_by(
     script: Script,
     outcome: &Outcome,
 ) -> Option<RefusedCommand>
-    ensures { IsRefusedOf script.1 outcome.now result }
+    ensures { HasRefused (IsSeenBy session.now stamp (Some script)) outcome.now result }
 {
     match outcome {
         Outcome::Refused(place, cause) => Some(RefusedCommand::seen_by(

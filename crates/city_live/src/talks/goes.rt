@@ -70,6 +70,7 @@ impl<J: Journal> Talks<J> {
         match self.session.act(stamp, command) {
             Acted::Replied(reply) => {
                 let is_done = is_done(&reply);
+                self.session.is_live();
                 let (tag, undone) = self.table.reply(stamp, is_done);
                 let what = what_of(self.alloc, &self.session, stamp, reply, undone);
                 self.log.says(Some(stamp), Answer { hand, tag, what });
@@ -108,7 +109,7 @@ fn what_of(
     reply: Reply,
     undone: Option<Script>,
 ) -> What
-    ensures { IsWhatBehind session.now stamp reply undone result }
+    ensures { IsWhatBehind session.now stamp undone reply result }
 {
     match reply {
         Reply::Refused(cause) => {

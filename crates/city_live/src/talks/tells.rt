@@ -135,6 +135,7 @@ impl<J: Journal> Talks<J> {
             return;
         };
         let place = transaction.commands();
+        self.session.is_live();
         let Some((hand, tag)) = self.table.answer_idle(stamp) else {
             return;
         };
