@@ -3,7 +3,7 @@ ghost use Rattle.std.specs.Prelude.{◌≡◌, IfOk, MatchOption, false, true, s
 ghost use Rattle.city_details.specs.Why.{IsWhy};
 ghost use Rattle.city_lines.specs.Told.{refuses};
 
-use city_diagnostics::{Past, Refusal, Sight, why};
+use city_details::{Past, Refusal, Sight, why};
 use city_live::{RefusedCommand, What};
 use city_members::text::Id;
 use city_model::OutOfMemory;
