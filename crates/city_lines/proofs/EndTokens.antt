@@ -15,7 +15,8 @@ use Rattle.city_live.specs.declared.answer.What.TheVariants as what
 use Rattle.city_writer.specs.report.Ends.{count_data, outcome_name, put_ending, put_refusal}
 use Rattle.city_writer.specs.report.Replies.{reply_data}
 use Rattle.city_writer.specs.tree.Lists.{list_data}
-use Rattle.city_lines.specs.Told.{ended_members, one, refusal_tokens, refuses, told_members, with_replies, with_why}
+use Rattle.city_lines.specs.Told.{ended_members, one, refusal_tokens, refuses, told_members, whole_model, with_replies}
+use Rattle.city_lines.specs.Told.{with_why}
 use Rattle.city_lines.specs.declared.answer.Form.{Form}
 
 replies_first : (r : Option (List Reply)) (ms : Members)
@@ -111,3 +112,9 @@ refusal_ended line form why (what.Refused at cause c) is =
 refusal_ended line form why (what.Ended e) is =
     why_ended (codes "ended") (ended_members e no_members) _ why (ended_last e (with_why (Some why)))
 refusal_ended line form why w is = absurd (false≢true is)
+
+-- it has no whole model
+pub whole_none : (form : Form) (w : What) → refuses w ≡ true → whole_model form w ≡ None
+whole_none Form.Ids w is = refl
+whole_none form (what.Model city version) is = absurd (false≢true is)
+whole_none form w is = refl

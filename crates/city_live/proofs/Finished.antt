@@ -39,7 +39,7 @@ use Rattle.city_live.specs.Works.{Working, work_at, WorksTo, SameWorks, is_whole
 use Rattle.city_live.specs.Works.{without_script, with_script, IsAtCommit, MayCommit, first_of, IsFresh, none_kept}
 use Rattle.city_live.proofs.Continued.{begun}
 use Rattle.city_live.proofs.Hearing.{work_own, work_other, heard_event, heard_silently}
-use Rattle.city_live.proofs.Refused.{script_refused}
+use Rattle.city_live.proofs.Refusals.{script_refused}
 
 -- the same works, with the one of the stamp named
 pub works_same : (stamp : ℕ) (w : Working) (works others : List (ℕ × Working)) → work_at works stamp ≡ Some w

@@ -6,7 +6,7 @@ pub mod Handled
 pub mod Hearing
 pub mod Names
 pub mod Ran
-pub mod Refused
+pub mod Refusals
 pub mod Replayed
 pub mod Saying
 pub mod Telling

@@ -49,7 +49,7 @@ use Rattle.city_live.specs.Works.{Working, work_at, WorksTo, IsWorkOf, IsAskedAt
 use Rattle.city_live.specs.Works.{asking, requested, with_done, replied, one_kept, asked_script, undone_at}
 use Rattle.city_live.specs.Works.{is_whole, next_of, first_of}
 use Rattle.city_live.proofs.Hearing.{heard_event}
-use Rattle.city_live.proofs.Refused.{IsSeenFor, own_command, seen_behind, seen_for, seen_from}
+use Rattle.city_live.proofs.Refusals.{IsSeenFor, own_command, seen_behind, seen_for, seen_from}
 
 -- ---- a talk whose request is answered
 

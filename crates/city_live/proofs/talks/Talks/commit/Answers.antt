@@ -8,7 +8,7 @@ use Rattle.city_live.specs.Serving.{Served}
 use Rattle.city_live.proofs.Continued.{same, ended}
 use Rattle.city_live.proofs.Followed.{then, noting_still, saying, silently}
 use Rattle.city_live.proofs.Finished.{heard_ended, committing}
-use Rattle.city_live.proofs.Refused.{none_refused}
+use Rattle.city_live.proofs.Refusals.{none_refused}
 use Rattle.city_live.proofs.Replayed.{stays, commit_notes, stays_so}
 use Rattle.city_live.proofs.Telling.{heard_tellings, came_tellings, alone_tellings, watched_commit, counted_so}
 use Rattle.city_live.proofs.talks.Talks.commit.Goals as goal
