@@ -4,6 +4,7 @@ pub mod Finished
 pub mod Followed
 pub mod Handled
 pub mod Hearing
+pub mod Kept
 pub mod Names
 pub mod Ran
 pub mod Refusals

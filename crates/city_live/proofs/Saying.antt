@@ -3,8 +3,7 @@ use Rattle.std.specs.Prelude.{◌≡◌, ◌++◌, ◌∷◌, ℕ, List, [], Boo
 use Rattle.std.specs.Prelude.{option_map, is_some, refl, not, slice_get}
 use Rattle.std.proofs.Common.{sym, ◌∙◌, ap, subst, arith}
 use Rattle.std.proofs.lemmas.Bool.{false≢true}
-use Rattle.std.proofs.lemmas.List.{append-nil, append_assoc}
-use Rattle.std.proofs.lemmas.List.Elements.{filter-append}
+use Rattle.std.proofs.lemmas.List.{append-nil}
 use Rattle.std.specs.Arc.{arc_value}
 use Rattle.std.specs.declared.sync.Arc.{Arc}
 use Rattle.std.specs.declared.alloc.Global.{Global}
@@ -19,7 +18,7 @@ use Rattle.city_model.specs.Scripts.{is_end}
 use Rattle.city_model.specs.Standing.{Answered}
 use Rattle.city_session.specs.Acting.{GrowsTo, IsActed, told_after}
 use Rattle.city_session.specs.declared.acted.Acted.TheVariants as acts
-use Rattle.city_session.specs.Grown.{Closed, Grown, commands_in, with_reply, unrefused}
+use Rattle.city_session.specs.Grown.{Closed, Grown, with_reply, unrefused}
 use Rattle.city_session.specs.Live.{SessionState, grown_at, IsLive}
 use Rattle.city_session.proofs.AsScripts.{one_more_refused}
 use Rattle.city_session.proofs.Recorded.{grows_same, at_own}
@@ -37,7 +36,6 @@ use Rattle.city_live.specs.SoFar.{talk_of, AreSoFar}
 use Rattle.city_live.specs.Heard.{after_fault, AreSeen, IsFitFault}
 use Rattle.city_live.specs.SoFar.{IsSoFar, IsKept}
 use Rattle.city_live.specs.Coming.{OfCame, IsAskedFor, IsTakenFor}
-use Rattle.city_live.specs.Noting.{firsts, or_no_command}
 use Rattle.city_live.specs.Heard.{with_one, script_in, since_so_far}
 use Rattle.city_live.specs.SoFar.{AreHeard, asked_in, since_of, told_so_far}
 use Rattle.city_live.specs.Heard.{asked_talk, heard}
@@ -46,9 +44,10 @@ use Rattle.city_live.specs.Running.{IsSeenBy, IsWhatOf, IsWhatBehind}
 use Rattle.city_live.specs.declared.refused.RefusedCommand.{RefusedCommand}
 use Rattle.city_live.specs.Serving.{Logged, IsSaid}
 use Rattle.city_live.specs.Works.{Working, work_at, WorksTo, IsWorkOf, IsAskedAt, answered, with_asked, tag_at, tag_of}
-use Rattle.city_live.specs.Works.{asking, requested, with_done, replied, one_kept, asked_script, undone_at}
+use Rattle.city_live.specs.Works.{asking, requested, with_done, replied, undone_at}
 use Rattle.city_live.specs.Works.{is_whole, next_of, first_of}
 use Rattle.city_live.proofs.Hearing.{heard_event}
+use Rattle.city_live.proofs.Kept.{kept_replied}
 use Rattle.city_live.proofs.Refusals.{IsSeenFor, own_command, seen_behind, seen_for, seen_from}
 
 -- ---- a talk whose request is answered
@@ -140,55 +139,6 @@ replied_so g w command reply true single next =
     replied_as g w.by w.name w.task w.tag w.kept (with_done w).kept command reply single next
 replied_so g w command reply false single next =
     replied_as g w.by w.name w.task w.tag w.kept w.kept command reply single next
-
--- ---- what is kept of it for a journal
-
-firsts_more : (ks : List Scripted) (s : Scripted) (c : Command) → slice_get s.1 0 ≡ Some c
-    → firsts (ks ++ s ∷ []) ≡ firsts ks ++ c ∷ []
-firsts_more [] s c e = ap (λ o. or_no_command o ++ []) e
-firsts_more (k ∷ ks) s c e =
-    ap (λ l. or_no_command (slice_get k.1 0) ++ l) (firsts_more ks s c e)
-    ∙ sym (append_assoc (or_no_command (slice_get k.1 0)) (firsts ks) (c ∷ []))
-
-commands_both : (xs ys : List Answered) → commands_in (xs ++ ys) ≡ commands_in xs ++ commands_in ys
-commands_both [] ys = refl
-commands_both (x ∷ xs) ys = ap (λ l. x.0 ∷ l) (commands_both xs ys)
-
-unrefused_done : (told : List Answered) (c : Command) (r : Reply) → is_refusal r ≡ false
-    → unrefused (told ++ (c, r) ∷ []) ≡ unrefused told ++ (c, r) ∷ []
-unrefused_done told c r h = rw (filter-append, h) refl
-
-unrefused_not : (told : List Answered) (c : Command) (r : Reply) → is_refusal r ≡ true
-    → unrefused (told ++ (c, r) ∷ []) ≡ unrefused told
-unrefused_not told c r h = rw (filter-append, h) (append-nil (unrefused told))
-
-kept_done : (t : Task) (kept : Option (List Scripted)) (g : Grown) (c : Command) (r : Reply) → is_refusal r ≡ false
-    → next_of t ≡ Some c → IsKept t kept (Some g)
-    → IsKept (with_asked None t) (option_map (λ ks. ks ++ one_kept (asked_script t)) kept) (Some (with_reply c r g))
-kept_done (task.Script s rs cause) kept g c r h next is = tt
-kept_done (task.Single asked) None g c r h next is = tt
-kept_done (task.Single None) (Some ks) g c r h next is = absurd (cc)
-kept_done (task.Single (Some s)) (Some ks) g c r h next is =
-    firsts_more ks s c next ∙ (ap (λ l. l ++ c ∷ []) is ∙ sym (ap commands_in (unrefused_done g.told c r h)
-    ∙ commands_both (unrefused g.told) ((c, r) ∷ [])))
-
-kept_refused : (t : Task) (kept : Option (List Scripted)) (g : Grown) (c : Command) (r : Reply) → is_refusal r ≡ true
-    → IsKept t kept (Some g) → IsKept (with_asked None t) kept (Some (with_reply c r g))
-kept_refused (task.Script s rs cause) kept g c r h is = tt
-kept_refused (task.Single asked) None g c r h is = tt
-kept_refused (task.Single asked) (Some ks) g c r h is = is ∙ ap commands_in (sym (unrefused_not g.told c r h))
-
-not_flips : (a b : Bool) → b ≡ not a → not b ≡ a
-not_flips true b e = ap not e
-not_flips false b e = ap not e
-
-kept_replied : (w : Working) (g : Grown) (c : Command) (r : Reply) (b : Bool) → b ≡ not (is_refusal r)
-    → next_of w.task ≡ Some c → IsKept w.task w.kept (Some g)
-    → IsKept (with_asked None w.task) (replied b w).kept (Some (with_reply c r g))
-kept_replied w g c r true e next is =
-    kept_done w.task w.kept g c r (sym (not_flips (is_refusal r) true e)) next is
-kept_replied w g c r false e next is =
-    kept_refused w.task w.kept g c r (sym (not_flips (is_refusal r) false e)) is
 
 task_replied : (b : Bool) (w : Working) → (replied b w).task ≡ with_asked None w.task
 task_replied true w = refl

@@ -36,7 +36,12 @@ impl RefusedCommand {
         ensures script { result.script ≡ script }
         ensures seen { All (λ o. o.1 ≡ view session.now.core stamp o.0) result.seen }
     {
-        let seen = match seen(alloc, session, stamp, named(command_at(&script, place), cause)) {
+        let seen = match seen(
+            alloc,
+            session,
+            stamp,
+            named(command_at(&script, place), cause),
+        ) {
             Ok(seen) => seen,
             Err(OutOfMemory) => Sequence::new(alloc),
         };
@@ -63,7 +68,8 @@ fn named<'a>(command: Option<&'a Command>, cause: &'a Cause) -> (Option<&'a Id>,
             | Command::Delete(id),
         ) => (Some(id), None),
         Some(Command::Attach(child, parent) | Command::Detach(child, parent)) => (
-            Some(child), Some(parent),
+            Some(child),
+            Some(parent),
         ),
         Some(Command::Mark(_) | Command::Back(_) | Command::Commit | Command::Abort) | None => {
             match cause {
