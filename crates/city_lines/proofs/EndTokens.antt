@@ -95,12 +95,12 @@ why_ended : (name : List ℕ) (front ms why : Members)
 why_ended name front ms why is =
     let told = tokens_of (object why) in
     let before = tokens_of_members front in
-    let open = key name ∷ begin_object ∷ [] in
+    let front_of = key name ∷ begin_object ∷ [] in
     ap (λ ts. ts ++ end_object ∷ []) (sym (object_ended [] name ms))
-    ∙ ap (λ ts. (open ++ ts ++ end_object ∷ []) ++ end_object ∷ [])
+    ∙ ap (λ ts. (front_of ++ ts ++ end_object ∷ []) ++ end_object ∷ [])
     (is ∙ ap (λ ts. before ++ key (codes "why") ∷ ts) (append-nil told))
-    ∙ append_assoc (open ++ (before ++ key (codes "why") ∷ told)) (end_object ∷ []) (end_object ∷ [])
-    ∙ ap (λ ts. open ++ ts)
+    ∙ append_assoc (front_of ++ (before ++ key (codes "why") ∷ told)) (end_object ∷ []) (end_object ∷ [])
+    ∙ ap (λ ts. front_of ++ ts)
     (append_assoc before (key (codes "why") ∷ told) (end_object ∷ end_object ∷ []))
 
 -- a refusal with all that is told of it, and the end of its line

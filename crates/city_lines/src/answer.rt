@@ -95,12 +95,7 @@ fn append_refusal(
 }
 
 /// Writes the refusal that an answer tells, but for the end of its object.
-fn write_refusal(
-    alloc: Global,
-    seed: u64,
-    what: &What,
-    out: &mut Writer,
-) -> Result<(), OutOfMemory>
+fn write_refusal(alloc: Global, seed: u64, what: &What, out: &mut Writer) -> Result<(), OutOfMemory>
     ensures before { OnOk result (out.new.before ≡ out.old.before) }
     ensures tokens { OnOk result (out.new.tokens ≡ out.old.tokens ++ refusal_tokens what.now) }
 {
