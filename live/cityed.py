@@ -150,8 +150,8 @@ class WrongRequest(CityedError):
 
 
 class Refused(CityedError):
-    """A command, a commit or a script was refused: `cause`, `id`, `at`, and `why` where the program says more. A script
-    has done nothing then; a transaction is still open, and goes on if this is caught within its block."""
+    """A command, a commit or a script was refused: `cause`, `id`, `at`, and `why`, with a `message`, a `cure` and more.
+    A script has done nothing then; a transaction is still open, and goes on if this is caught within its block."""
 
     def __init__(self, told):
         about = told.get("id") or told.get("mark")

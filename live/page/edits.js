@@ -2,7 +2,6 @@
 
 import { same } from "./json.js";
 import { person, toast } from "./parts.js";
-import { openEdges } from "./shapes.js";
 
 export const key = (id, name) => `${id}\n${name}`;
 
@@ -79,7 +78,7 @@ export class Edits {
       }
       app.history.add({ by: app.hand, own: true, told: [{ id, text: "new shape" }],
         refused: `refused: ${because(end)}` });
-      if (end.cause === "OpenShell") this.tellOpen(id, geometry, vertices, end.why);
+      if (end.cause === "OpenShell") this.tellOpen(id, end.why);
       else toast(`Refused: ${because(end)}`, true);
     } catch (error) {
       toast(error.message, true);
@@ -87,14 +86,10 @@ export class Edits {
     return false;
   }
 
-  // Shows where a shell is open: at the edges of the answer, which says how many `more` there are, or where it has none
-  // at those that are found here.
-  tellOpen(id, geometry, vertices, why) {
-    const place = (n) => this.app.city.place(vertices[n]);
-    const ends = (it) => [this.app.city.place(it.from), this.app.city.place(it.to)];
-    const told = why?.edges?.filter((it) => it.from && it.to).map(ends);
-    const edges = told?.length ? told : openEdges(geometry, place);
-    const some = told?.length && why.more ? `${edges.length + Number(why.more)} edges, the first ${edges.length}`
+  // Shows where a shell is open: at the edges of the answer, which says how many `more` there are.
+  tellOpen(id, why) {
+    const edges = why.edges.map(({ from, to }) => [this.app.city.place(from), this.app.city.place(to)]);
+    const some = why.more ? `${edges.length + Number(why.more)} edges, the first ${edges.length}`
       : `${edges.length} edges,`;
     toast(`Refused: a shell is open at ${some} shown in red. ${id} is as it was.`, true);
     this.app.showOpen(edges);

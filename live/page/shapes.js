@@ -81,22 +81,3 @@ export function colour(type, face, flat) {
 export const LAYERS = [
   "TINRelief", "LandUse", "PlantCover", "WaterBody", "Waterway", "Railway", "TransportSquare", "Road",
 ];
-
-// The edges of a solid's shells that no other face has in the other direction, as pairs of points.
-export function openEdges(geometry, place) {
-  const found = [];
-  for (const shape of geometry) {
-    const solids = shape.type === "Solid" ? [shape.boundaries] : /Solid$/.test(shape.type) ? shape.boundaries : [];
-    for (const shell of solids.flat()) {
-      const edges = new Map();
-      for (const surface of shell) for (const ring of surface) ring.forEach((a, k) => {
-        const b = ring[(k + 1) % ring.length], to = String(place(b)), from = String(place(a));
-        const there = `${from} ${to}`, back = `${to} ${from}`, other = edges.get(back);
-        if (other?.count > 0) other.count--;
-        else edges.set(there, { count: (edges.get(there)?.count ?? 0) + 1, ends: [place(a), place(b)] });
-      });
-      for (const { count, ends } of edges.values()) if (count > 0) found.push(ends);
-    }
-  }
-  return found;
-}

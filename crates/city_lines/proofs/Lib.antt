@@ -4,4 +4,5 @@ pub mod EndTokens
 pub mod Found
 pub mod More
 pub mod Parts
+pub mod Spliced
 pub mod Written

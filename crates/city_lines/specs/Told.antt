@@ -1,7 +1,8 @@
 -- What answers of the engine tell, as members of their lines.
-use Rattle.std.specs.Prelude.{ℕ, List, [], ◌∷◌, true, false, Option, Some, None, codes}
+use Rattle.std.specs.Prelude.{◌≡◌, ℕ, Bool, List, [], ◌∷◌, true, false, Option, Some, None, codes}
 use Rattle.std.specs.Arc.{arc_value}
 use Rattle.std.specs.FinMap.{entries}
+use Rattle.json.specs.Token.{Token, begin_object, key}
 use Rattle.serde_json.specs.Data.{Data, null, boolean, string, object, Members, no_members, member}
 use Rattle.city_live.specs.declared.answer.Answer.{Answer}
 use Rattle.city_live.specs.declared.answer.Blocked.{Blocked}
@@ -10,10 +11,14 @@ use Rattle.city_live.specs.declared.answer.Ended.{Ended}
 use Rattle.city_live.specs.declared.answer.Fault.{Fault}
 use Rattle.city_live.specs.declared.answer.Fault.TheVariants as fault
 use Rattle.city_live.specs.declared.answer.What.{What}
+use Rattle.city_live.specs.declared.refused.RefusedCommand.{RefusedCommand}
+use Rattle.city_details.specs.Why.{IsWhyOf}
 use Rattle.city_live.specs.declared.answer.What.TheVariants as what
 use Rattle.city_model.specs.CityMap.{CityValue}
 use Rattle.city_model.specs.Types.{name_of}
 use Rattle.city_model.specs.declared.command.Reply.{Reply}
+use Rattle.city_model.specs.declared.end.Outcome.{Outcome}
+use Rattle.city_model.specs.declared.end.Outcome.TheVariants as outcomes
 use Rattle.city_model.specs.declared.object.Object.{Object}
 use Rattle.city_writer.specs.document.Canonical.{city_text}
 use Rattle.city_writer.specs.internal.tree.PartTokens.{tokens_of_members}
@@ -40,14 +45,36 @@ abbrev pub with_replies : Option (List Reply) → Members → Members
 with_replies None ms = ms
 with_replies (Some replies) ms = member (codes "replies") (list_data reply_data replies) ms
 
--- the members of a report's line but `script`, and the version
-abbrev pub ended_data : Ended → Data
-ended_data e =
-    object (put_ending e.outcome
+-- the members of a report's line but `script`, and the version, before these
+abbrev pub ended_members : Ended → Members → Members
+ended_members e ms =
+    put_ending e.outcome
     (member (codes "name") (string e.name)
     (member (codes "outcome") (string (outcome_name e.outcome))
     (with_replies e.replies
-    (member (codes "since") (count_data e.since) (one (codes "version") (count_data e.version)))))))
+    (member (codes "since") (count_data e.since) (member (codes "version") (count_data e.version) ms)))))
+
+-- ---- refusals
+
+-- whether an answer tells of a refused command
+abbrev pub refuses_end : Outcome → Option RefusedCommand → Bool
+refuses_end (outcomes.Refused at cause) (Some c) = true
+refuses_end o c = false
+
+abbrev pub refuses : What → Bool
+refuses (what.Refused at cause c) = true
+refuses (what.Ended e) = refuses_end e.outcome e.refused
+refuses w = false
+
+-- what is told of it is the last member of its object
+abbrev pub with_why : Option Members → Members
+with_why None = no_members
+with_why (Some ms) = one (codes "why") (object ms)
+
+-- these members have a message and a cure, as everywhere; there are none where nothing is refused
+abbrev pub IsWhyFor : What → Option Members → Type 0
+IsWhyFor w None = refuses w ≡ false
+IsWhyFor w (Some ms) = (refuses w ≡ true) × ((text : List ℕ) × IsWhyOf ms text)
 
 -- ---- objects
 
@@ -104,23 +131,24 @@ words_members line words =
 -- ---- answers
 
 -- the members behind the hand and the `id`
-abbrev pub told_members : ℕ → Form → What → Members
-told_members line form (what.Began since) = one (codes "began") (count_data since)
-told_members line form (what.Reply reply) = one (codes "reply") (reply_data reply)
-told_members line form (what.Refused at cause) = one (codes "refused") (object (put_refusal at cause no_members))
-told_members line form (what.Waits blocked) = one (codes "waits") (blocked_data blocked)
-told_members line form (what.Died blocked) = one (codes "died") (blocked_data blocked)
-told_members line form (what.Ended end) = one (codes "ended") (ended_data end)
-told_members line form what.Cancelled = one (codes "cancelled") (boolean true)
-told_members line form (what.Watching version) = one (codes "watching") (count_data version)
-told_members line form what.Unwatched = one (codes "watching") (boolean false)
-told_members line form (what.Changed changed) = one (codes "changed") (changed_data (arc_value changed))
-told_members line form (what.Look found version) =
+abbrev pub told_members : ℕ → Form → Option Members → What → Members
+told_members line form why (what.Began since) = one (codes "began") (count_data since)
+told_members line form why (what.Reply reply) = one (codes "reply") (reply_data reply)
+told_members line form why (what.Refused at cause c) =
+    one (codes "refused") (object (put_refusal at cause (with_why why)))
+told_members line form why (what.Waits blocked) = one (codes "waits") (blocked_data blocked)
+told_members line form why (what.Died blocked) = one (codes "died") (blocked_data blocked)
+told_members line form why (what.Ended end) = one (codes "ended") (object (ended_members end (with_why why)))
+told_members line form why what.Cancelled = one (codes "cancelled") (boolean true)
+told_members line form why (what.Watching version) = one (codes "watching") (count_data version)
+told_members line form why what.Unwatched = one (codes "watching") (boolean false)
+told_members line form why (what.Changed changed) = one (codes "changed") (changed_data (arc_value changed))
+told_members line form why (what.Look found version) =
     member (codes "look") (look_data form found) (one (codes "version") (count_data version))
-told_members line form (what.Model city version) =
+told_members line form why (what.Model city version) =
     member (codes "ids") (list_data typed_data (entries city.1)) (one (codes "version") (count_data version))
-told_members line form what.Bye = one (codes "bye") (boolean true)
-told_members line form (what.Fault fault) = one (codes "error") (object (words_members line (fault_words fault)))
+told_members line form why what.Bye = one (codes "bye") (boolean true)
+told_members line form why (what.Fault fault) = one (codes "error") (object (words_members line (fault_words fault)))
 
 -- the model that an answer has whole, and its version
 abbrev pub whole_model : Form → What → Option (CityValue × ℕ)
@@ -134,10 +162,17 @@ abbrev pub text_with : List ℕ → Option (List ℕ) → Members → Option (Ci
 text_with hand id told None = line_text (Some hand) id (tokens_of_members told)
 text_with hand id told (Some m) = model_text hand id m.1 (city_text m.0)
 
--- the line of an answer to this line of the input
-abbrev pub answer_text : ℕ → Form → Answer → List ℕ
-answer_text line form a =
-    text_with (arc_value a.hand) a.tag (told_members line form a.what) (whole_model form a.what)
+-- the line of an answer to this line of the input, with these members about a refused command
+abbrev pub answer_text : ℕ → Form → Option Members → Answer → List ℕ
+answer_text line form why a =
+    text_with (arc_value a.hand) a.tag (told_members line form why a.what) (whole_model form a.what)
+
+-- the tokens of a refusal, but for what is told of it and the end of its object
+abbrev pub refusal_tokens : What → List Token
+refusal_tokens (what.Refused at cause c) =
+    key (codes "refused") ∷ begin_object ∷ tokens_of_members (put_refusal at cause no_members)
+refusal_tokens (what.Ended e) = key (codes "ended") ∷ begin_object ∷ tokens_of_members (ended_members e no_members)
+refusal_tokens w = []
 
 -- ---- what is told without the engine
 

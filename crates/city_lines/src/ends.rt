@@ -1,13 +1,14 @@
 //! Replies, ends, and who stands in the way.
-ghost use Rattle.std.specs.Prelude.{◌≡◌, ◌++◌, OnOk, codes};
+ghost use Rattle.std.specs.Prelude.{◌≡◌, ◌++◌, ◌∷◌, OnOk, codes};
 ghost use Rattle.std.specs.Arc.{arc_value};
-ghost use Rattle.serde_json.specs.Data.{object, string, no_members};
+ghost use Rattle.serde_json.specs.Data.{string, no_members};
 ghost use Rattle.city_writer.specs.report.Ends.{put_refusal};
 ghost use Rattle.city_writer.specs.report.Replies.{reply_data};
 ghost use Rattle.city_writer.specs.tree.Lists.{list_data};
 ghost use Rattle.city_writer.specs.internal.tree.PartTokens.{tokens_of_members};
 ghost use Rattle.city_writer.specs.tree.Tokens.{tokens_of};
-ghost use Rattle.city_lines.specs.Told.{one, blocked_data, ended_data, with_replies};
+ghost use Rattle.city_lines.specs.Told.{one, blocked_data, ended_members, with_replies};
+ghost use Rattle.json.specs.Token.{begin_object, key};
 
 use crate::front::{write_number, write_text};
 use city_live::{Blocked, Ended, Name};
@@ -32,17 +33,15 @@ pub fn write_reply_member(
     write_reply(alloc, seed, reply, out)
 }
 
-/// Writes a refusal in a transaction that goes on.
+/// Writes a refusal in a transaction that goes on, but for the end of its object.
 pub fn write_refused(at: usize, cause: &Cause, out: &mut Writer) -> Result<(), OutOfMemory>
     ensures before { OnOk result (out.new.before ≡ out.old.before) }
-    ensures tokens { OnOk result (out.new.tokens
-        ≡ out.old.tokens ++ tokens_of_members (one (codes "refused") (object (put_refusal at cause.now no_members)))) }
+    ensures tokens { OnOk result (out.new.tokens ≡ out.old.tokens
+        ++ key (codes "refused") ∷ begin_object ∷ tokens_of_members (put_refusal at cause.now no_members)) }
 {
     out.key("refused")?;
     out.begin_object()?;
-    write_refusal(at, cause, out)?;
-    out.end_object()?;
-    Ok(())
+    write_refusal(at, cause, out)
 }
 
 /// Writes a lock in the way, and the hands with a hold on it.
@@ -74,7 +73,8 @@ fn write_names(names: &[Name], out: &mut Writer) -> Result<(), OutOfMemory>
     Ok(())
 }
 
-/// Writes the end of a script or a transaction: the members of a report's line without `script`, and the version.
+/// Writes the end of a script or a transaction: the members of a report's line without `script`, and the version, but
+/// for the end of their object.
 pub fn write_ended(
     alloc: Global,
     seed: u64,
@@ -83,7 +83,7 @@ pub fn write_ended(
 ) -> Result<(), OutOfMemory>
     ensures before { OnOk result (out.new.before ≡ out.old.before) }
     ensures tokens { OnOk result (out.new.tokens
-        ≡ out.old.tokens ++ tokens_of_members (one (codes "ended") (ended_data end.now))) }
+        ≡ out.old.tokens ++ key (codes "ended") ∷ begin_object ∷ tokens_of_members (ended_members end.now no_members)) }
 {
     out.key("ended")?;
     out.begin_object()?;
@@ -92,9 +92,7 @@ pub fn write_ended(
     write_text("outcome", outcome_name(&end.outcome), out)?;
     write_end_replies(alloc, seed, end, out)?;
     write_number("since", end.since, out)?;
-    write_number("version", end.version, out)?;
-    out.end_object()?;
-    Ok(())
+    write_number("version", end.version, out)
 }
 
 /// Writes the replies of a script.

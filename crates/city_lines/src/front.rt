@@ -65,6 +65,19 @@ pub fn ended(out: Writer) -> Result<Vec<u8>, OutOfMemory>
     Ok(bytes)
 }
 
+/// Ends an object and its line with a member `why`, whose JSON text this is, and a newline.
+pub fn ended_with(why: &str, out: Writer) -> Result<Vec<u8>, OutOfMemory>
+    ensures { IfOk result (λ bytes. bytes.items
+        ≡ (out.before ++ print (out.tokens ++ key (codes "why") ∷ [])) ++ (why.now ++ 125 ∷ 125 ∷ 10 ∷ [])) }
+{
+    let mut out = out;
+    out.key("why")?;
+    let mut bytes = out.into_inner();
+    bytes.extend_from_slice(why.as_bytes())?;
+    bytes.extend_from_slice(b"}}\n")?;
+    Ok(bytes)
+}
+
 /// Writes a member with a number.
 pub fn write_number(name: &str, number: u64, out: &mut Writer) -> Result<(), OutOfMemory>
     ensures before { OnOk result (out.new.before ≡ out.old.before) }

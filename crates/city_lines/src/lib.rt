@@ -3,6 +3,7 @@
 //! - `line`: a request; `fault`: why a line is none
 //! - `read`: a line read; `name`, `members`: its members; `values`, `scripts`, `ask`: what they ask for
 //! - `front`: how an answer begins and ends; `answer`: an answer of the engine, with its `ends`, `looks` and `models`
+//! - `why`: what is told of a refused command
 //! - `words`, `error`: errors, and how they are told
 //! - `told`: what is told of saves, of keys and at the start
 #![tactic(auto)]
@@ -22,6 +23,7 @@ mod read;
 mod scripts;
 mod told;
 mod values;
+mod why;
 mod words;
 
 pub use answer::{Form, append_answer, whole_model};

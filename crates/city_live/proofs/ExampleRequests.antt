@@ -5,6 +5,7 @@ use Rattle.std.specs.Arc.{arc_value}
 use Rattle.std.specs.declared.sync.Arc.{Arc}
 use Rattle.std.specs.declared.alloc.Global.{Global}
 use Rattle.city_model.specs.CityMap.{CityValue}
+use Rattle.city_model.specs.declared.command.Cause.{Cause}
 use Rattle.city_model.specs.declared.command.Command.{Command}
 use Rattle.city_model.specs.declared.command.Cause.{Cause}
 use Rattle.city_model.specs.declared.command.Cause.TheVariants.{Orphan}
@@ -65,6 +66,7 @@ commits hand n stamp name since version =
       since = since;
       replies = None;
       outcome = outcomes.Committed;
+      refused = None;
       version = version;
     })) ∷ []
 
@@ -81,6 +83,7 @@ aborts hand n stamp name since version =
       since = since;
       replies = None;
       outcome = outcomes.Aborted;
+      refused = None;
       version = version;
     })) ∷ []
 
@@ -135,6 +138,14 @@ module _ (anna ben : Hand) (start : CityValue) where
       (comes anna 1 requests.Unwatch ∷ answers anna 1 told.Unwatched ∷ answers anna 1 told.Unwatched ∷ []) → ⊥
   a_request_is_answered_twice f = f.1.1.0.1
 
+  -- a refusal gives the command back that was asked for
+  another_command_comes_back : (c : Cause) (other : Command) → AreFit start
+      (begins anna 1 0 plan 0 ++ comes anna 2 (requests.Do ([], house ∷ Commit ∷ []))
+      ∷ events.Asks 0 anna (at 2) ([], house ∷ Commit ∷ [])
+      ∷ says 0 anna 2 (told.Refused 0 c (record { script = Some ([], other ∷ Commit ∷ []); seen = [] })) ∷ [])
+      → Some other ≡ Some house
+  another_command_comes_back c other f = ((f.1.1.1.1.1.1.0.0).what).command
+
   -- ---- what is heard of what is over, in the order of the ends
 
   -- two planners and one building
@@ -177,6 +188,7 @@ module _ (anna ben : Hand) (start : CityValue) where
         since = 0;
         replies = None;
         outcome = outcomes.Aborted;
+        refused = None;
         version = 0;
       })) ∷ [])).ended ≡ (record { since = 0; told = [] }, false) ∷ []
   an_abort_of_a_wait b = refl

@@ -29,7 +29,7 @@ use Rattle.city_live.specs.declared.task.Task.{Task}
 use Rattle.city_live.specs.declared.task.Task.TheVariants as task
 use Rattle.city_live.specs.Coming.{OfCame, IsBegunFor}
 use Rattle.city_live.specs.Continuing.{Continues}
-use Rattle.city_live.specs.Ending.{EndsAs, told_replies}
+use Rattle.city_live.specs.Ending.{EndsAs, HasRefusedBy, told_replies}
 use Rattle.city_live.specs.Heard.{Talk, heard, begun_talk, script_told, script_in, since_so_far, answered_by}
 use Rattle.city_live.specs.Heard.{is_committed, closed_of, IsEndOf, IsFitWhat, after_what, closed_by_what, or_none}
 use Rattle.city_live.specs.Heard.{cause_of, IsOutcome, after_fault, HasOlder}
@@ -40,6 +40,7 @@ use Rattle.city_live.specs.Works.{Working, work_at, WorksTo, SameWorks, is_whole
 use Rattle.city_live.specs.Works.{without_script, with_script, IsAtCommit, MayCommit, first_of, IsFresh, none_kept}
 use Rattle.city_live.proofs.Continued.{begun}
 use Rattle.city_live.proofs.Hearing.{work_own, work_other, heard_event, heard_silently}
+use Rattle.city_live.proofs.Refusals.{script_refused}
 
 -- the same works, with the one of the stamp named
 pub works_same : (stamp : ℕ) (w : Working) (works others : List (ℕ × Working)) → work_at works stamp ≡ Some w
@@ -65,7 +66,7 @@ heard_waits {s} {works} {others} {log} r stamp w there a b hand tag what same sa
     (subst (λ o. AreSoFar o og) there (r.so_far stamp))
     (Some k) (ap (option_map (talk_of og)) there)
     (events.Says (Some stamp) a said.is_told) refl
-    (record { hand = hand; tag = tag; what = subst (λ x. IsFitWhat x k) (sym what) tt }) tt
+    (record { hand = hand; tag = tag; what = subst (λ x. IsFitWhat s.start s.closed x k) (sym what) tt }) tt
     (λ died e. absurd (cc))
     (sym (append-nil s.closed) ∙ ap (λ x. s.closed ++ closed_by_what x k) (sym what))
     (ap (λ x. after_what x k) what))
@@ -249,25 +250,38 @@ none_whole (task.Single asked) h = refl
 -- ---- it ends
 
 -- of its talk, such an end tells all that its transaction was told
-ended_as : (g : Grown) (by name : List ℕ) (t : Task) (tag : Option (List ℕ)) (ks : Option (List Scripted))
+closed_as : (g : Grown) (by name : List ℕ) (t : Task) (tag : Option (List ℕ)) (ks : Option (List Scripted))
     (is_kept : Bool) (e : Ended)
+    → IsSoFar t (Some g) → e.since ≡ g.since → EndsAs t e.replies e.outcome is_kept
+    → closed_of (talk_of (Some g) (record { by = by; name = name; task = t; tag = tag; kept = ks })) e ≡ (g, is_kept)
+closed_as g by name (task.Script s rs cause) tag ks is_kept e far since ends =
+    ap (λ x. (
+      record { since = e.since; told = script_told s.1 (or_none x) (cause_of e.outcome) },
+      is_committed e.outcome,
+    )) ends.0
+    ∙ (ap (λ x. (record { since = e.since; told = answered_by s.1 rs ++ x }, is_committed e.outcome)) ends.2
+    ∙ (ap (λ x. (record { since = x; told = script_told s.1 rs cause }, is_committed e.outcome)) since
+    ∙ (ap (λ x. (record { since = g.since; told = x }, is_committed e.outcome)) (sym far.0)
+    ∙ ap (λ x. (g, x)) ends.3)))
+closed_as g by name (task.Single asked) tag ks is_kept e far since ends = ap (λ x. (g, x)) ends.1
+
+-- it fits, with the command that was refused
+end_as : {s : SessionState} → IsLive s → (stamp : ℕ) (g : Grown) → grown_at s.growing stamp ≡ Some g
+    → (by name : List ℕ) (t : Task) (tag : Option (List ℕ)) (ks : Option (List Scripted)) (is_kept : Bool) (e : Ended)
     → IsSoFar t (Some g) → e.name ≡ name → e.since ≡ g.since → EndsAs t e.replies e.outcome is_kept
-    → IsEndOf (script_in t) (talk_of (Some g) (record { by = by; name = name; task = t; tag = tag; kept = ks })) e
-    × (closed_of (talk_of (Some g) (record { by = by; name = name; task = t; tag = tag; kept = ks })) e
-    ≡ (g, is_kept))
-ended_as g by name (task.Script s rs cause) tag ks is_kept e far named since ends = (
-  (named, ap is_some ends.0, subst (λ x. IsOutcome s.1 (or_none x) e.outcome) (sym ends.0) ends.1),
-  ap (λ x. (
-    record { since = e.since; told = script_told s.1 (or_none x) (cause_of e.outcome) },
-    is_committed e.outcome,
-  )) ends.0
-      ∙ (ap (λ x. (record { since = e.since; told = answered_by s.1 rs ++ x }, is_committed e.outcome)) ends.2
-      ∙ (ap (λ x. (record { since = x; told = script_told s.1 rs cause }, is_committed e.outcome)) since
-      ∙ (ap (λ x. (record { since = g.since; told = x }, is_committed e.outcome)) (sym far.0)
-      ∙ ap (λ x. (g, x)) ends.3))),
+    → HasRefusedBy s stamp t e.outcome e.refused
+    → IsEndOf s.start s.closed (script_in t)
+    (talk_of (Some g) (record { by = by; name = name; task = t; tag = tag; kept = ks })) e
+end_as l stamp g is by name (task.Script script rs cause) tag ks is_kept e far named since ends refused = (
+  named,
+  ap is_some ends.0,
+  subst (λ x. IsOutcome script.1 (or_none x) e.outcome) (sym ends.0) ends.1,
+  script_refused l stamp g is script _
+      (far.0 ∙ (sym (ap (λ x. answered_by script.1 rs ++ x) ends.2)
+      ∙ ap (λ x. script_told script.1 (or_none x) (cause_of e.outcome)) (sym ends.0))) e.outcome e.refused refused,
 )
-ended_as g by name (task.Single asked) tag ks is_kept e far named since ends =
-    ((named, ends.0, since), ap (λ x. (g, x)) ends.1)
+end_as l stamp g is by name (task.Single asked) tag ks is_kept e far named since ends refused =
+    (named, ends.0, since, refused)
 
 far_there : {s : SessionState} {works : List (ℕ × Working)} {es : List Event} → AreHeard s works es → (stamp : ℕ)
     (w : Working) → work_at works stamp ≡ Some w → (g : Grown) → grown_at s.growing stamp ≡ Some g
@@ -286,10 +300,10 @@ talk_there {s} r stamp w there g is =
 
 pub ended_closed : {s : SessionState} {works : List (ℕ × Working)} {es : List Event} → AreHeard s works es
     → (stamp : ℕ) (w : Working) → work_at works stamp ≡ Some w → (g : Grown) → grown_at s.growing stamp ≡ Some g
-    → (is_kept : Bool) (e : Ended) → e.name ≡ w.name → e.since ≡ g.since → EndsAs w.task e.replies e.outcome is_kept
+    → (is_kept : Bool) (e : Ended) → e.since ≡ g.since → EndsAs w.task e.replies e.outcome is_kept
     → closed_of (talk_of (Some g) w) e ≡ (g, is_kept)
-ended_closed r stamp w there g is is_kept e name since ends =
-    (ended_as g w.by w.name w.task w.tag w.kept is_kept e (far_there r stamp w there g is) name since ends).1
+ended_closed r stamp w there g is is_kept e since ends =
+    closed_as g w.by w.name w.task w.tag w.kept is_kept e (far_there r stamp w there g is) since ends
 
 -- it tells whether the writes are kept
 pub ended_so : (t : Task) (replies : Option (List Reply)) (outcome : Outcome) (is_kept : Bool)
@@ -303,7 +317,7 @@ module _ {s u : SessionState} {works others : List (ℕ × Working)} {log logged
     (is_kept : Bool) (h : HasEnded stamp is_kept s u) (a : Answer) (hand : arc_value a.hand ≡ w.by)
     (tag : a.tag ≡ w.tag)
     (said : IsSaid (Some stamp) a log logged) where
-  over : (what : What) → a.what ≡ what → IsFitWhat what (talk_of (Some h.ended) w)
+  over : (what : What) → a.what ≡ what → IsFitWhat s.start s.closed what (talk_of (Some h.ended) w)
       → ((b : Blocked) → what ≡ told.Died b → HasOlder stamp b (heard log.events))
       → closed_by_what what (talk_of (Some h.ended) w) ≡ (h.ended, is_kept) ∷ []
       → after_what what (talk_of (Some h.ended) w) ≡ None → AreHeard u others logged.events
@@ -315,7 +329,7 @@ module _ {s u : SessionState} {works others : List (ℕ × Working)} {log logged
       h.growing refl
       (Some k) (ap (option_map (talk_of og)) there ∙ ap (λ o. Some (talk_of o w)) h.is_there)
       (events.Says (Some stamp) a said.is_told) refl
-      (record { hand = hand; tag = tag; what = subst (λ x. IsFitWhat x k) (sym is) fit }) tt
+      (record { hand = hand; tag = tag; what = subst (λ x. IsFitWhat s.start s.closed x k) (sym is) fit }) tt
       (λ b e. aged b (sym is ∙ e))
       (h.closed ∙ ap (λ l. s.closed ++ l) (sym closed) ∙ ap (λ x. s.closed ++ closed_by_what x k) (sym is))
       (ap (λ x. after_what x k) is ∙ gone))
@@ -327,13 +341,19 @@ module _ {s u : SessionState} {works others : List (ℕ × Working)} {log logged
       (λ x e. subst (λ y. HasOlder stamp y (heard log.events)) (some_died b x e) older)
       (ap (λ g. (g, false) ∷ []) (died_as h.ended w.task single) ∙ ap (λ x. (h.ended, x) ∷ []) (sym undone)) refl
 
-  pub heard_ended : (e : Ended) → a.what ≡ told.Ended e → e.name ≡ w.name
+  pub heard_ended : IsLive s → (e : Ended) → a.what ≡ told.Ended e → e.name ≡ w.name
       → ((g : Grown) → grown_at s.growing stamp ≡ Some g → e.since ≡ g.since)
-      → EndsAs w.task e.replies e.outcome is_kept → AreHeard u others logged.events
-  heard_ended e what name since ends =
-      let parts = ended_as h.ended w.by w.name w.task w.tag w.kept is_kept e
-      (far_there r stamp w there h.ended h.is_there) name (since h.ended h.is_there) ends in
-      over (told.Ended e) what parts.0 (λ b d. absurd (cc)) (ap (λ c. c ∷ []) parts.1) refl
+      → EndsAs w.task e.replies e.outcome is_kept → HasRefusedBy s stamp w.task e.outcome e.refused
+      → AreHeard u others logged.events
+  heard_ended l e what name since ends refused =
+      let far = far_there r stamp w there h.ended h.is_there in
+      over (told.Ended e) what
+      (end_as l stamp h.ended h.is_there w.by w.name w.task w.tag w.kept is_kept e far name
+      (since h.ended h.is_there) ends refused)
+      (λ b d. absurd (cc))
+      (ap (λ c. c ∷ []) (closed_as h.ended w.by w.name w.task w.tag w.kept is_kept e far (since h.ended h.is_there)
+      ends))
+      refl
 
 -- a script whose commit can't be noted is undone, and told so
 pub heard_undone : {s u : SessionState} {works others : List (ℕ × Working)} {log logged : Logged}
@@ -349,7 +369,7 @@ heard_undone {s} {u} {works} {others} {log} r stamp w there left h a hand tag sa
     h.growing refl
     (Some k) (ap (option_map (talk_of og)) there)
     (events.Says (Some stamp) a said.is_told) refl
-    (record { hand = hand; tag = tag; what = subst (λ x. IsFitWhat x k) (sym what) tt }) tt
+    (record { hand = hand; tag = tag; what = subst (λ x. IsFitWhat s.start s.closed x k) (sym what) tt }) tt
     (λ b e. absurd (cc))
     (h.closed ∙ (sym (append-nil s.closed) ∙ ap (λ x. s.closed ++ closed_by_what x k) (sym what)))
     (ap (λ x. after_what x k) what ∙ gone_whole w.task k (subst (λ o. is_whole_at o ≡ true) there whole)))

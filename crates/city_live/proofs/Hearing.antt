@@ -105,7 +105,8 @@ module _ {s : SessionState} {works : List (ℕ × Working)} {es : List Event} (r
   -- An event of the stamp, whose talk was so before.
   pub heard_event : (before : Option Talk)
       → option_map (talk_of (grown_at s.growing stamp)) (work_at works stamp) ≡ before
-      → (e : Event) → stamp_of e ≡ Some stamp → IsFitAt e before → IsFor e (heard es).came → IsByAge e (heard es)
+      → (e : Event) → stamp_of e ≡ Some stamp → IsFitAt s.start s.closed e before → IsFor e (heard es).came
+      → IsByAge e (heard es)
       → u.closed ≡ s.closed ++ closed_by e before
       → after_event e before (length s.closed) ≡ option_map (talk_of og) ow → AreHeard u others (es ++ e ∷ [])
   heard_event before is e label fit is_for aged closed talk =
@@ -115,7 +116,12 @@ module _ {s : SessionState} {works : List (ℕ × Working)} {es : List Event} (r
       record {
         fit = subst (λ st. AreFit st (es ++ e ∷ [])) (sym start)
             (fit_more s.start nothing es e r.fit
-            (subst (λ o. IsFitIn s.start o e (heard es)) (sym label) (subst (IsFitAt e) (sym was) fit, is_for, aged)));
+            (subst (λ o. IsFitIn s.start o e (heard es)) (sym label) (
+              subst (λ cs. IsFitAt s.start cs e ((heard es).talks stamp)) (sym r.ended)
+                  (subst (IsFitAt s.start s.closed e) (sym was) fit),
+              is_for,
+              aged,
+            )));
         ended = ap (λ (h : Heard). h.ended) now
             ∙ (ap (λ o. (heard es).ended ++ closed_by e o) was
             ∙ (ap (λ cs. cs ++ closed_by e before) r.ended ∙ sym closed));

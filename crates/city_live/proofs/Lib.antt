@@ -8,8 +8,10 @@ pub mod Followed
 pub mod GoingOn
 pub mod Handled
 pub mod Hearing
+pub mod Kept
 pub mod Names
 pub mod Ran
+pub mod Refusals
 pub mod Replayed
 pub mod Saying
 pub mod Telling

@@ -3,8 +3,7 @@ use Rattle.std.specs.Prelude.{◌≡◌, ◌++◌, ◌∷◌, ℕ, List, [], Boo
 use Rattle.std.specs.Prelude.{option_map, is_some, refl, not, slice_get}
 use Rattle.std.proofs.Common.{sym, ◌∙◌, ap, subst, arith}
 use Rattle.std.proofs.lemmas.Bool.{false≢true}
-use Rattle.std.proofs.lemmas.List.{append-nil, append_assoc}
-use Rattle.std.proofs.lemmas.List.Elements.{filter-append}
+use Rattle.std.proofs.lemmas.List.{append-nil}
 use Rattle.std.specs.Arc.{arc_value}
 use Rattle.std.specs.declared.sync.Arc.{Arc}
 use Rattle.std.specs.declared.alloc.Global.{Global}
@@ -12,14 +11,15 @@ use Rattle.city_model.specs.declared.command.Cause.{Cause}
 use Rattle.city_model.specs.declared.command.Command.{Command}
 use Rattle.city_model.specs.declared.command.Reply.{Reply}
 use Rattle.city_model.specs.declared.command.Reply.TheVariants as replies
+use Rattle.city_model.specs.CityMap.{CityValue}
 use Rattle.city_model.specs.Meaning.{is_refusal}
 use Rattle.city_model.specs.Runs.{Scripted}
 use Rattle.city_model.specs.Scripts.{is_end}
 use Rattle.city_model.specs.Standing.{Answered}
 use Rattle.city_session.specs.Acting.{GrowsTo, IsActed, told_after}
 use Rattle.city_session.specs.declared.acted.Acted.TheVariants as acts
-use Rattle.city_session.specs.Grown.{Grown, Closed, commands_in, with_reply, unrefused}
-use Rattle.city_session.specs.Live.{SessionState, grown_at}
+use Rattle.city_session.specs.Grown.{Closed, Grown, commands_in, with_reply, unrefused}
+use Rattle.city_session.specs.Live.{SessionState, grown_at, IsLive}
 use Rattle.city_session.proofs.AsScripts.{one_more_refused}
 use Rattle.city_session.proofs.Recorded.{grows_same, at_own}
 use Rattle.city_live.specs.declared.answer.Answer.{Answer}
@@ -34,20 +34,22 @@ use Rattle.city_live.specs.declared.task.Task.{Task}
 use Rattle.city_live.specs.declared.task.Task.TheVariants as task
 use Rattle.city_live.specs.Heard.{Talk, IsFitWhat, after_what, closed_by_what, answered_talk}
 use Rattle.city_live.specs.SoFar.{talk_of, AreSoFar}
-use Rattle.city_live.specs.Heard.{after_fault, IsFitFault}
+use Rattle.city_live.specs.Heard.{after_fault, AreSeen, IsFitFault}
 use Rattle.city_live.specs.SoFar.{IsSoFar, IsKept}
 use Rattle.city_live.specs.Coming.{OfCame, IsAskedFor, IsTakenFor}
-use Rattle.city_live.specs.Noting.{firsts, or_no_command}
 use Rattle.city_live.specs.Heard.{with_one, script_in, since_so_far}
 use Rattle.city_live.specs.SoFar.{AreHeard, asked_in, since_of, told_so_far}
 use Rattle.city_live.specs.Heard.{asked_talk, heard, HasOlder}
 use Rattle.city_live.specs.SoFar.{told_of}
-use Rattle.city_live.specs.Running.{IsWhatOf, IsWhatBehind}
+use Rattle.city_live.specs.Running.{IsSeenBy, IsWhatOf, IsWhatBehind}
+use Rattle.city_live.specs.declared.refused.RefusedCommand.{RefusedCommand}
 use Rattle.city_live.specs.Serving.{Logged, IsSaid}
 use Rattle.city_live.specs.Works.{Working, work_at, WorksTo, IsWorkOf, IsAskedAt, answered, with_asked, tag_at, tag_of}
-use Rattle.city_live.specs.Works.{asking, requested, with_done, replied, one_kept, asked_script}
+use Rattle.city_live.specs.Works.{asking, requested, with_done, replied, undone_at}
 use Rattle.city_live.specs.Works.{is_whole, next_of, first_of}
 use Rattle.city_live.proofs.Hearing.{heard_event}
+use Rattle.city_live.proofs.Kept.{kept_replied}
+use Rattle.city_live.proofs.Refusals.{IsSeenFor, own_command, seen_behind, seen_for, seen_from}
 
 -- ---- a talk whose request is answered
 
@@ -102,7 +104,7 @@ module _ {s : SessionState} {works others : List (ℕ × Working)} {es : List Ev
     (w : Working) (there : work_at works stamp ≡ Some w) (a : Answer) (is_told : Bool)
     (to : WorksTo stamp (option_map answered (work_at works stamp)) works others)
     (hand : arc_value a.hand ≡ w.by) (tag : a.tag ≡ tag_at works stamp) where
-  pub heard_says : IsFitWhat a.what (talk_of (grown_at s.growing stamp) w)
+  pub heard_says : IsFitWhat s.start s.closed a.what (talk_of (grown_at s.growing stamp) w)
       → closed_by_what a.what (talk_of (grown_at s.growing stamp) w) ≡ []
       → after_what a.what (talk_of (grown_at s.growing stamp) w)
       ≡ Some (talk_of (grown_at s.growing stamp) (answered w))
@@ -150,80 +152,40 @@ replied_so g w command reply true single next =
 replied_so g w command reply false single next =
     replied_as g w.by w.name w.task w.tag w.kept w.kept command reply single next
 
--- ---- what is kept of it for a journal
-
-firsts_more : (ks : List Scripted) (s : Scripted) (c : Command) → slice_get s.1 0 ≡ Some c
-    → firsts (ks ++ s ∷ []) ≡ firsts ks ++ c ∷ []
-firsts_more [] s c e = ap (λ o. or_no_command o ++ []) e
-firsts_more (k ∷ ks) s c e =
-    ap (λ l. or_no_command (slice_get k.1 0) ++ l) (firsts_more ks s c e)
-    ∙ sym (append_assoc (or_no_command (slice_get k.1 0)) (firsts ks) (c ∷ []))
-
-commands_both : (xs ys : List Answered) → commands_in (xs ++ ys) ≡ commands_in xs ++ commands_in ys
-commands_both [] ys = refl
-commands_both (x ∷ xs) ys = ap (λ l. x.0 ∷ l) (commands_both xs ys)
-
-unrefused_done : (told : List Answered) (c : Command) (r : Reply) → is_refusal r ≡ false
-    → unrefused (told ++ (c, r) ∷ []) ≡ unrefused told ++ (c, r) ∷ []
-unrefused_done told c r h = rw (filter-append, h) refl
-
-unrefused_not : (told : List Answered) (c : Command) (r : Reply) → is_refusal r ≡ true
-    → unrefused (told ++ (c, r) ∷ []) ≡ unrefused told
-unrefused_not told c r h = rw (filter-append, h) (append-nil (unrefused told))
-
-kept_done : (t : Task) (kept : Option (List Scripted)) (g : Grown) (c : Command) (r : Reply) → is_refusal r ≡ false
-    → next_of t ≡ Some c → IsKept t kept (Some g)
-    → IsKept (with_asked None t) (option_map (λ ks. ks ++ one_kept (asked_script t)) kept) (Some (with_reply c r g))
-kept_done (task.Script s rs cause) kept g c r h next is = tt
-kept_done (task.Single asked) None g c r h next is = tt
-kept_done (task.Single None) (Some ks) g c r h next is = absurd (cc)
-kept_done (task.Single (Some s)) (Some ks) g c r h next is =
-    firsts_more ks s c next ∙ (ap (λ l. l ++ c ∷ []) is ∙ sym (ap commands_in (unrefused_done g.told c r h)
-    ∙ commands_both (unrefused g.told) ((c, r) ∷ [])))
-
-kept_refused : (t : Task) (kept : Option (List Scripted)) (g : Grown) (c : Command) (r : Reply) → is_refusal r ≡ true
-    → IsKept t kept (Some g) → IsKept (with_asked None t) kept (Some (with_reply c r g))
-kept_refused (task.Script s rs cause) kept g c r h is = tt
-kept_refused (task.Single asked) None g c r h is = tt
-kept_refused (task.Single asked) (Some ks) g c r h is = is ∙ ap commands_in (sym (unrefused_not g.told c r h))
-
-not_flips : (a b : Bool) → b ≡ not a → not b ≡ a
-not_flips true b e = ap not e
-not_flips false b e = ap not e
-
-kept_replied : (w : Working) (g : Grown) (c : Command) (r : Reply) (b : Bool) → b ≡ not (is_refusal r)
-    → next_of w.task ≡ Some c → IsKept w.task w.kept (Some g)
-    → IsKept (with_asked None w.task) (replied b w).kept (Some (with_reply c r g))
-kept_replied w g c r true e next is =
-    kept_done w.task w.kept g c r (sym (not_flips (is_refusal r) true e)) next is
-kept_replied w g c r false e next is =
-    kept_refused w.task w.kept g c r (sym (not_flips (is_refusal r) false e)) is
-
 task_replied : (b : Bool) (w : Working) → (replied b w).task ≡ with_asked None w.task
 task_replied true w = refl
 task_replied false w = refl
 
 -- what a hand is told of a reply
-what_is : (k : Talk) (place : ℕ) (reply : Reply) (what : What) → IsWhatOf place reply what
+what_is : (k : Talk) (place : ℕ) (c : RefusedCommand) (reply : Reply) (what : What) → IsWhatOf place c reply what
     → after_what what k ≡ Some (answered_talk (with_one k.asked reply) k)
-what_is k place (replies.Refused cause) what h = ap (λ x. after_what x k) h
-what_is k place reply what h = ap (λ x. after_what x k) h
+what_is k place c (replies.Refused cause) what h = ap (λ x. after_what x k) h
+what_is k place c reply what h = ap (λ x. after_what x k) h
 
-none_is : (k : Talk) (place : ℕ) (reply : Reply) (what : What) → IsWhatOf place reply what → closed_by_what what k ≡ []
-none_is k place (replies.Refused cause) what h = ap (λ x. closed_by_what x k) h
-none_is k place reply what h = ap (λ x. closed_by_what x k) h
+none_is : (k : Talk) (place : ℕ) (c : RefusedCommand) (reply : Reply) (what : What) → IsWhatOf place c reply what
+    → closed_by_what what k ≡ []
+none_is k place c (replies.Refused cause) what h = ap (λ x. closed_by_what x k) h
+none_is k place c reply what h = ap (λ x. closed_by_what x k) h
 
-fit_is : (k : Talk) (place : ℕ) (reply : Reply) (what : What) → IsWhatOf place reply what → k.script ≡ None
-    → is_some k.asked ≡ true → place ≡ length (unrefused k.told) → IsFitWhat what k
-fit_is k place (replies.Refused cause) what h script asked at = subst (λ x. IsFitWhat x k) (sym h) (script, at)
-fit_is k place reply what h script asked at = subst (λ x. IsFitWhat x k) (sym h) (asked, refl)
+fit_is : (start : CityValue) (closed : List Closed) (k : Talk) (place : ℕ) (c : RefusedCommand) (reply : Reply)
+    (what : What) → IsWhatOf place c reply what → k.script ≡ None
+    → is_some k.asked ≡ true → place ≡ length (unrefused k.told)
+    → (is_refusal reply ≡ true → first_of c.script ≡ k.asked)
+    → (is_refusal reply ≡ true → AreSeen start closed (k.told ++ with_one k.asked reply) c.seen)
+    → IsFitWhat start closed what k
+fit_is start closed k place c (replies.Refused cause) what h script asked at own seen =
+    subst (λ x. IsFitWhat start closed x k) (sym h)
+    (record { single = script; place_is = at; command = own refl; seen = seen refl })
+fit_is start closed k place c reply what h script asked at own seen =
+    subst (λ x. IsFitWhat start closed x k) (sym h) (asked, refl)
 
 -- a refusal takes no place
 pub what_before : {s u : SessionState} (stamp : ℕ) (command : Command) (reply : Reply)
-    → IsActed stamp command (acts.Replied reply) s u → (what : What) → IsWhatBehind u stamp reply what
+    → IsActed stamp command (acts.Replied reply) s u → (script : Option Scripted) (what : What)
+    → IsWhatBehind u stamp script reply what
     → (place : ℕ) × ((g : Grown) → grown_at s.growing stamp ≡ Some g → place ≡ length (unrefused g.told))
-    × IsWhatOf place reply what
-what_before {s} {u} stamp command (replies.Refused cause) acted what h =
+    × (c : RefusedCommand) × IsSeenFor u stamp script reply c × IsWhatOf place c reply what
+what_before {s} {u} stamp command (replies.Refused cause) acted script what h =
     let reply : Reply = replies.Refused cause in (
       h.0,
       λ g e. h.1 (with_reply command reply g)
@@ -231,9 +193,16 @@ what_before {s} {u} stamp command (replies.Refused cause) acted what h =
           ∙ ap (option_map (told_after command (acts.Replied reply))) e)
           ∙ one_more_refused g.told command reply refl,
       h.2,
+      h.3,
+      h.4,
     )
-what_before {s} {u} stamp command reply acted what h =
-    (length (unrefused (told_of (grown_at s.growing stamp))), λ g e. ap (λ o. length (unrefused (told_of o))) e, h)
+what_before {s} {u} stamp command reply acted script what h = (
+  length (unrefused (told_of (grown_at s.growing stamp))),
+  λ g e. ap (λ o. length (unrefused (told_of o))) e,
+  record { script = None; seen = [] },
+  tt,
+  h,
+)
 
 script_none : (t : Task) → is_whole t ≡ false → script_in t ≡ None
 script_none (task.Script s rs cause) h = absurd (false≢true (sym h))
@@ -243,6 +212,11 @@ asked_some : (t : Task) (command : Command) → is_whole t ≡ false → next_of
     → is_some (asked_in t) ≡ true
 asked_some (task.Script s rs cause) command h next = absurd (false≢true (sym h))
 asked_some (task.Single asked) command h next = ap is_some next
+
+asked_is : (t : Task) (command : Command) → is_whole t ≡ false → next_of t ≡ Some command
+    → asked_in t ≡ Some command
+asked_is (task.Script s rs cause) command h next = absurd (false≢true (sym h))
+asked_is (task.Single asked) command h next = next
 
 told_single : (t : Task) (told : List Answered) → is_whole t ≡ false → told_so_far t told ≡ told
 told_single (task.Script s rs cause) told h = absurd (false≢true (sym h))
@@ -263,14 +237,16 @@ whole_answered (task.Script s rs cause) h = h
 whole_answered (task.Single asked) h = refl
 
 pub heard_replied : {s u : SessionState} {works others : List (ℕ × Working)} {log logged : Logged}
-    → AreHeard s works log.events → (stamp : ℕ) (by : List ℕ) (command : Command) → IsAskedAt works stamp by command
-    → (place : ℕ) → ((g : Grown) → grown_at s.growing stamp ≡ Some g → place ≡ length (unrefused g.told))
+    → AreHeard s works log.events → IsLive u → (stamp : ℕ) (by : List ℕ) (command : Command)
+    → IsAskedAt works stamp by command → (place : ℕ) → ((g : Grown) → grown_at s.growing stamp ≡ Some g → place ≡ length (unrefused g.told))
     → (reply : Reply) → IsActed stamp command (acts.Replied reply) s u → (a : Answer) → arc_value a.hand ≡ by
     → (is_done : Bool) → is_done ≡ not (is_refusal reply)
     → WorksTo stamp (option_map (replied is_done) (work_at works stamp)) works others → a.tag ≡ tag_at works stamp
-    → IsWhatOf place reply a.what → IsSaid (Some stamp) a log logged → AreHeard u others logged.events
-heard_replied {s} {u} {works} {others} {log} {logged} r stamp by command asked place at reply acted a hand is_done done
-    to tag what said =
+    → (script : Option Scripted) → script ≡ undone_at is_done (work_at works stamp) → (c : RefusedCommand)
+    → IsSeenFor u stamp script reply c → IsWhatOf place c reply a.what → IsSaid (Some stamp) a log logged
+    → AreHeard u others logged.events
+heard_replied {s} {u} {works} {others} {log} {logged} r l stamp by command asked place at reply acted a hand is_done
+    done to tag script undone c sees what said =
     let w = asked.work in
     let far : AreSoFar (Some w) (grown_at s.growing stamp) = subst (λ o. AreSoFar o (grown_at s.growing stamp))
     asked.there (r.so_far stamp) in
@@ -278,6 +254,12 @@ heard_replied {s} {u} {works} {others} {log} {logged} r stamp by command asked p
     let g = grown.0 in
     let k = talk_of (Some g) w in
     let after : Grown = with_reply command reply g in
+    let told : after.told ≡ k.told ++ with_one k.asked reply =
+    ap (λ x. x ++ (command, reply) ∷ []) (sym (told_single w.task g.told asked.single))
+    ∙ ap (λ x. k.told ++ with_one x reply) (sym (asked_is w.task command asked.single asked.next)) in
+    let there : grown_at u.growing stamp ≡ Some after =
+    at_own stamp _ s.growing u.growing acted.growing
+    ∙ ap (option_map (told_after command (acts.Replied reply))) grown.1 in
     subst (λ es. AreHeard u others es) (sym said.events)
     (heard_event r u others stamp (Some (replied is_done w)) (Some after) acted.start (omega (arith, acted.given))
     (λ h. omega (arith, r.given stamp (ap is_some asked.there), acted.given))
@@ -296,13 +278,17 @@ heard_replied {s} {u} {works} {others} {log} {logged} r stamp by command asked p
     (record {
       hand = hand ∙ sym asked.hand;
       tag = tag ∙ ap tag_of asked.there;
-      what = fit_is k place reply a.what what (script_none w.task asked.single)
+      what = fit_is s.start s.closed k place c reply a.what what (script_none w.task asked.single)
           (asked_some w.task command asked.single asked.next)
-          (at g grown.1 ∙ ap (λ l. length (unrefused l)) (sym (told_single w.task g.told asked.single)));
+          (at g grown.1 ∙ ap (λ l. length (unrefused l)) (sym (told_single w.task g.told asked.single)))
+          (λ e. own_command (work_at works stamp) w asked.there is_done (is_refusal reply) done e script undone c
+          (seen_for u stamp script reply c e sees).0)
+          (λ e. seen_from {s} {u} acted.start acted.closed after.told _ told c.seen
+          (seen_behind l stamp after there c.seen (seen_for u stamp script reply c e sees).1));
     })
-    tt (no_death (λ b. HasOlder stamp b (heard log.events)) a.what k (none_is k place reply a.what what))
-    (acted.closed ∙ (sym (append-nil s.closed) ∙ ap (λ l. s.closed ++ l) (sym (none_is k place reply a.what what))))
-    (what_is k place reply a.what what ∙ ap Some (replied_so g w command reply is_done asked.single asked.next)))
+    tt (no_death (λ b. HasOlder stamp b (heard log.events)) a.what k (none_is k place c reply a.what what))
+    (acted.closed ∙ (sym (append-nil s.closed) ∙ ap (λ l. s.closed ++ l) (sym (none_is k place c reply a.what what))))
+    (what_is k place c reply a.what what ∙ ap Some (replied_so g w command reply is_done asked.single asked.next)))
 
 -- ---- answers to a hand's request
 
@@ -320,7 +306,7 @@ module _ {s : SessionState} {works others : List (ℕ × Working)} {log logged :
     (stamp : ℕ) (a : Answer) (to : WorksTo stamp (option_map answered (work_at works stamp)) works others)
     (tag : a.tag ≡ tag_at works stamp) (said : IsSaid (Some stamp) a log logged) where
   said_so : (w : Working) → work_at works stamp ≡ Some w → arc_value a.hand ≡ w.by
-      → IsFitWhat a.what (talk_of (grown_at s.growing stamp) w)
+      → IsFitWhat s.start s.closed a.what (talk_of (grown_at s.growing stamp) w)
       → closed_by_what a.what (talk_of (grown_at s.growing stamp) w) ≡ []
       → after_what a.what (talk_of (grown_at s.growing stamp) w)
       ≡ Some (talk_of (grown_at s.growing stamp) (answered w))
@@ -331,14 +317,14 @@ module _ {s : SessionState} {works others : List (ℕ × Working)} {log logged :
 
   -- an answer that leaves the talk as it is, but for its request
   plainly : (w : Working) → work_at works stamp ≡ Some w → arc_value a.hand ≡ w.by → (what : What) → a.what ≡ what
-      → IsFitWhat what (talk_of (grown_at s.growing stamp) w)
+      → IsFitWhat s.start s.closed what (talk_of (grown_at s.growing stamp) w)
       → closed_by_what what (talk_of (grown_at s.growing stamp) w) ≡ []
       → after_what what (talk_of (grown_at s.growing stamp) w)
       ≡ Some (answered_talk [] (talk_of (grown_at s.growing stamp) w))
       → AreHeard s others logged.events
   plainly w there hand what is fit none effect =
       let k = talk_of (grown_at s.growing stamp) w in
-      said_so w there hand (subst (λ x. IsFitWhat x k) (sym is) fit) (ap (λ x. closed_by_what x k) is ∙ none)
+      said_so w there hand (subst (λ x. IsFitWhat s.start s.closed x k) (sym is) fit) (ap (λ x. closed_by_what x k) is ∙ none)
       (ap (λ x. after_what x k) is ∙ (effect ∙ ap Some (answered_so (grown_at s.growing stamp) w)))
 
   pub heard_cancelled : IsWorkOf works stamp (arc_value a.hand) (λ t. Unit {0}) → a.what ≡ told.Cancelled
@@ -360,14 +346,24 @@ module _ {s : SessionState} {works others : List (ℕ × Working)} {log logged :
       (refl, is ∙ ap since_of (sym there)))
       refl refl
 
-  pub heard_refused : (place : ℕ) (cause : Cause) (g : Grown) → grown_at s.growing stamp ≡ Some g
-      → place ≡ length (unrefused g.told) → IsWorkOf works stamp (arc_value a.hand) (λ t. t ≡ task.Single None)
-      → a.what ≡ told.Refused place cause → AreHeard s others logged.events
-  heard_refused place cause g there at o what =
-      plainly o.work o.there (sym o.hand) (told.Refused place cause) what
-      (subst (λ t. (script_in t ≡ None) × (place ≡ length (unrefused
-      (told_so_far t (told_of (grown_at s.growing stamp))))))
-      (sym o.so) (refl, at ∙ ap (λ x. length (unrefused (told_of x))) (sym there)))
+  pub heard_refused : IsLive s → (place : ℕ) (cause : Cause) (c : RefusedCommand) (g : Grown)
+      → grown_at s.growing stamp ≡ Some g → place ≡ length (unrefused g.told) → IsSeenBy s stamp None c
+      → IsWorkOf works stamp (arc_value a.hand) (λ t. t ≡ task.Single None)
+      → a.what ≡ told.Refused place cause c → AreHeard s others logged.events
+  heard_refused l place cause c g there at sees o what =
+      let og = grown_at s.growing stamp in
+      plainly o.work o.there (sym o.hand) (told.Refused place cause c) what
+      (record {
+        single = subst (λ t. script_in t ≡ None) (sym o.so) refl;
+        place_is = subst (λ t. place ≡ length (unrefused (told_so_far t (told_of og)))) (sym o.so)
+            (at ∙ ap (λ x. length (unrefused (told_of x))) (sym there));
+        command = subst (λ t. first_of c.script ≡ asked_in t) (sym o.so) (ap first_of sees.0);
+        seen = subst (λ t. AreSeen s.start s.closed
+            (told_so_far t (told_of og) ++ with_one (asked_in t) (replies.Refused cause)) c.seen) (sym o.so)
+            (subst (λ x. AreSeen s.start s.closed x c.seen)
+            (sym (append-nil (told_of og) ∙ ap told_of there))
+            (seen_behind l stamp g there c.seen sees.1));
+      })
       refl
       (subst (λ t. Some (answered_talk (with_one (asked_in t) (replies.Refused cause))
       (talk_of (grown_at s.growing stamp) o.work))

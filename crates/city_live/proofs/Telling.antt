@@ -194,7 +194,7 @@ watched_commit {s} {u} {works} {log} {mid} {logged} {first} {version} {names} r 
     let behind : AreHeard s works mid.events =
     subst (AreHeard s works) (sym t.events) (heard_tellings log.events r names o t.more t.tellings) in
     let fit = commit_fit (served s log noted first version names) l m stamp next h makes k e
-    (ended_closed r stamp w there h.ended h.is_there true e name (since h.ended h.is_there) ends) counted
+    (ended_closed r stamp w there h.ended h.is_there true e (since h.ended h.is_there) ends) counted
     (talk_there r stamp w there h.ended h.is_there) o leads n in
     watched_from_there h.start (subst (λ v. AreWatched s.start first logged.events (at_rest v names)) counted
     (watched_done

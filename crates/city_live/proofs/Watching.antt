@@ -11,6 +11,7 @@ use Rattle.city_model.specs.CityMap.{CityValue}
 use Rattle.city_session.specs.Grown.{Closed}
 use Rattle.city_live.specs.declared.answer.Answer.{Answer}
 use Rattle.city_live.specs.declared.answer.Changed.{Changed}
+use Rattle.city_live.specs.declared.refused.RefusedCommand.{RefusedCommand}
 use Rattle.city_live.specs.declared.answer.Ended.{Ended}
 use Rattle.city_live.specs.declared.answer.What.{What}
 use Rattle.city_live.specs.declared.answer.What.TheVariants as told
@@ -59,7 +60,7 @@ plain_fit : (start : CityValue) (ended : List Closed) (o : Option Talk) (hand : 
     × (after_answer hand what (at_rest version names) ≡ at_rest version names)
 plain_fit start ended o hand version names (told.Began since) p = (refl, refl)
 plain_fit start ended o hand version names (told.Reply r) p = (refl, refl)
-plain_fit start ended o hand version names (told.Refused place cause) p = (refl, refl)
+plain_fit start ended o hand version names (told.Refused place cause c) p = (refl, refl)
 plain_fit start ended o hand version names (told.Waits b) p = (refl, refl)
 plain_fit start ended o hand version names (told.Died b) p = (refl, refl)
 plain_fit start ended o hand version names told.Cancelled p = (refl, refl)
@@ -76,9 +77,10 @@ shown_fit start ended o hand version names (told.Fault f) p = (refl, refl)
 shown_fit start ended o hand version names what p = absurd p
 
 -- a reply, or a refusal
-pub plain_reply : (place : ℕ) (reply : Reply) (what : What) → IsWhatOf place reply what → IsPlain what
-plain_reply place (replies.Refused cause) what h = subst IsPlain (sym h) tt
-plain_reply place reply what h = subst IsPlain (sym h) tt
+pub plain_reply : (place : ℕ) (c : RefusedCommand) (reply : Reply) (what : What) → IsWhatOf place c reply what
+    → IsPlain what
+plain_reply place c (replies.Refused cause) what h = subst IsPlain (sym h) tt
+plain_reply place c reply what h = subst IsPlain (sym h) tt
 
 module _ {start : CityValue} {first : ℕ} {log logged : Logged} {version : ℕ} {names : List (List ℕ)}
     (r : AreWatched start first log.events (at_rest version names)) (t : Option ℕ) (a : Answer)

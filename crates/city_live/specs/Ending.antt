@@ -19,9 +19,11 @@ use Rattle.city_live.specs.declared.ghosts.event.Event.{Event}
 use Rattle.city_live.specs.declared.ghosts.event.Event.TheVariants as events
 use Rattle.city_live.specs.declared.talks.ends.Preparing.{Preparing}
 use Rattle.city_live.specs.declared.talks.ends.Preparing.TheVariants as preparing
+use Rattle.city_live.specs.declared.refused.RefusedCommand.{RefusedCommand}
 use Rattle.city_live.specs.declared.task.Task.{Task}
 use Rattle.city_live.specs.declared.task.Task.TheVariants as task
-use Rattle.city_live.specs.Heard.{Talk, heard, IsOutcome, refused_at, cause_of, is_committed}
+use Rattle.city_live.specs.Heard.{Talk, heard, IsOutcome, HasRefused, refused_at, cause_of, is_committed}
+use Rattle.city_live.specs.Running.{IsSeenBy}
 use Rattle.city_live.specs.Serving.{Logged, Served, told_by, told_in}
 
 -- the change that watchers are to be told leads to what the transaction sees
@@ -81,6 +83,11 @@ EndsAs (task.Single asked) replies outcome is_kept = (replies ≡ None) × (is_c
 
 abbrev pub IsEnded : Task → Option (List Reply) → Outcome → Type 0
 IsEnded t replies outcome = EndsAs t replies outcome false
+
+-- the refused command of a script with this outcome, as the transaction of the stamp sees it; a transaction has none
+abbrev pub HasRefusedBy : SessionState → ℕ → Task → Outcome → Option RefusedCommand → Type 0
+HasRefusedBy s stamp (task.Script script rs cause) outcome r = HasRefused (IsSeenBy s stamp (Some script)) outcome r
+HasRefusedBy s stamp (task.Single asked) outcome r = r ≡ None
 
 -- the outcome at this place, where no command was refused
 abbrev pub IsUnrefused : List Command → ℕ → Outcome → Type 0

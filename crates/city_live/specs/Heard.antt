@@ -10,10 +10,12 @@ use Rattle.city_model.specs.declared.command.Reply.TheVariants as replies
 use Rattle.city_model.specs.declared.end.Outcome.{Outcome}
 use Rattle.city_model.specs.declared.end.Outcome.TheVariants as outcomes
 use Rattle.city_model.specs.CityMap.{CityMap, CityValue, object_at}
+use Rattle.city_model.specs.Marks.{Snapshot, unmarked}
 use Rattle.city_model.specs.Meaning.{is_refusal}
 use Rattle.city_model.specs.Runs.{Scripted, model_after}
 use Rattle.city_model.specs.Scripts.{is_end}
-use Rattle.city_model.specs.Standing.{Answered}
+use Rattle.city_model.specs.Standing.{Answered, Held, IsTraceUnderLocks}
+use Rattle.city_model.specs.declared.object.Object.{Object}
 use Rattle.city_session.specs.Grown.{Grown, Closed, unrefused, scripts_of, ends_of}
 use Rattle.city_live.specs.declared.answer.Answer.{Answer}
 use Rattle.city_live.specs.declared.answer.Blocked.{Blocked}
@@ -22,6 +24,7 @@ use Rattle.city_live.specs.declared.answer.Fault.{Fault}
 use Rattle.city_live.specs.declared.answer.Fault.TheVariants as faults
 use Rattle.city_live.specs.declared.answer.What.{What}
 use Rattle.city_live.specs.declared.answer.What.TheVariants as told
+use Rattle.city_live.specs.declared.refused.RefusedCommand.{RefusedCommand}
 use Rattle.city_live.specs.declared.ghosts.event.Event.{Event}
 use Rattle.city_live.specs.declared.ghosts.event.Event.TheVariants as events
 use Rattle.city_live.specs.declared.task.Task.{Task}
@@ -73,6 +76,33 @@ refused_at (Some c) (Some cause) = if is_end c then [] else (c, replies.Refused 
 abbrev pub script_told : List Command → List Reply → Option Cause → List Answered
 script_told cs rs cause = answered_by cs rs ++ refused_at (slice_get cs (length rs)) cause
 
+-- ---- a refused command
+
+abbrev pub model_of : CityValue → List Closed → CityMap
+model_of start closed = model_after (scripts_of closed) (object_at start.1) (ends_of closed)
+
+-- a transaction has these objects behind such commands, from the model after those that have ended
+pub record AreSeen (start : CityValue) (closed : List Closed) (told : List Answered)
+    (seen : List (List ℕ × Option Object)) : Type 0 where
+  pub held : Held
+  pub now : Snapshot
+  pub ran : IsTraceUnderLocks held (unmarked (model_of start closed)) told now
+  pub are : All (λ o. o.1 ≡ now.map o.0) seen
+
+-- the command is of a script of these commands, with what it saw
+pub record IsOfScript (start : CityValue) (closed : List Closed) (cs : List Command) (told : List Answered)
+    (c : RefusedCommand) : Type 0 where
+  pub script : Scripted
+  pub script_is : c.script ≡ Some script
+  pub commands : script.1 ≡ cs
+  pub seen : AreSeen start closed told c.seen
+
+-- if one was refused, it is such a one; else there is none
+abbrev pub HasRefused : (RefusedCommand → Type 0) → Outcome → Option RefusedCommand → Type 0
+HasRefused P (outcomes.Refused place cause) None = ⊥
+HasRefused P (outcomes.Refused place cause) (Some c) = P c
+HasRefused P o c = c ≡ None
+
 -- ---- an end
 
 abbrev pub is_committed : Outcome → Bool
@@ -106,10 +136,13 @@ IsOutcome cs rs outcomes.Aborted = Unit {0}
 IsOutcome cs rs (outcomes.Refused place cause) = place ≡ length rs
 IsOutcome cs rs (outcomes.NoMemory place) = place ≡ length rs
 
-abbrev pub IsEndOf : Option (List Command) → Talk → Ended → Type 0
-IsEndOf None k e = (e.name ≡ k.name) × (e.replies ≡ None) × (e.since ≡ k.since)
-IsEndOf (Some cs) k e =
+abbrev pub IsEndOf : CityValue → List Closed → Option (List Command) → Talk → Ended → Type 0
+IsEndOf start closed None k e =
+    (e.name ≡ k.name) × (e.replies ≡ None) × (e.since ≡ k.since) × (e.refused ≡ None)
+IsEndOf start closed (Some cs) k e =
     (e.name ≡ k.name) × (is_some e.replies ≡ true) × IsOutcome cs (or_none e.replies) e.outcome
+    × HasRefused (IsOfScript start closed cs (script_told cs (or_none e.replies) (cause_of e.outcome)))
+    e.outcome e.refused
 
 -- ---- the events of a stamp
 
@@ -183,7 +216,7 @@ IsFitFault f o = o ≡ None
 
 abbrev pub after_what : What → Talk → Option Talk
 after_what (told.Reply r) k = Some (answered_talk (with_one k.asked r) k)
-after_what (told.Refused place cause) k = Some (answered_talk (with_one k.asked (replies.Refused cause)) k)
+after_what (told.Refused place cause c) k = Some (answered_talk (with_one k.asked (replies.Refused cause)) k)
 after_what (told.Waits b) k = Some k
 after_what (told.Died b) k = None
 after_what (told.Ended e) k = None
@@ -195,17 +228,25 @@ closed_by_what (told.Died b) k = (record { since = k.since; told = k.told }, fal
 closed_by_what (told.Ended e) k = closed_of k e ∷ []
 closed_by_what w k = []
 
--- an answer of a script or a transaction that fits what was said of it before
-abbrev pub IsFitWhat : What → Talk → Type 0
-IsFitWhat (told.Began n) k = (k.script ≡ None) × (n ≡ k.since)
-IsFitWhat (told.Reply r) k = (is_some k.asked ≡ true) × (is_refusal r ≡ false)
-IsFitWhat (told.Refused place cause) k = (k.script ≡ None) × (place ≡ length (unrefused k.told))
-IsFitWhat (told.Waits b) k = Unit {0}
-IsFitWhat (told.Died b) k = k.script ≡ None
-IsFitWhat (told.Ended e) k = IsEndOf k.script k e
-IsFitWhat told.Cancelled k = Unit {0}
-IsFitWhat (told.Fault f) k = IsFitFault f k.script
-IsFitWhat w k = ⊥
+-- a transaction goes on behind a command that was refused, the one that it was asked for, or behind its commit
+pub record IsFitRefusal (start : CityValue) (closed : List Closed) (place : ℕ) (cause : Cause) (c : RefusedCommand)
+    (k : Talk) : Type 0 where
+  pub single : k.script ≡ None
+  pub place_is : place ≡ length (unrefused k.told)
+  pub command : first_of c.script ≡ k.asked
+  pub seen : AreSeen start closed (k.told ++ with_one k.asked (replies.Refused cause)) c.seen
+
+-- an answer of a script or a transaction that fits what was said of it before, and what has ended
+abbrev pub IsFitWhat : CityValue → List Closed → What → Talk → Type 0
+IsFitWhat start closed (told.Began n) k = (k.script ≡ None) × (n ≡ k.since)
+IsFitWhat start closed (told.Reply r) k = (is_some k.asked ≡ true) × (is_refusal r ≡ false)
+IsFitWhat start closed (told.Refused place cause c) k = IsFitRefusal start closed place cause c k
+IsFitWhat start closed (told.Waits b) k = Unit {0}
+IsFitWhat start closed (told.Died b) k = k.script ≡ None
+IsFitWhat start closed (told.Ended e) k = IsEndOf start closed k.script k e
+IsFitWhat start closed told.Cancelled k = Unit {0}
+IsFitWhat start closed (told.Fault f) k = IsFitFault f k.script
+IsFitWhat start closed w k = ⊥
 
 -- ---- the effect of an event on the talk of its stamp, if so many have ended before
 
@@ -240,26 +281,23 @@ pub record IsIdle (by : List ℕ) (s : Scripted) (k : Talk) : Type 0 where
   pub first : (c : Command) → first_of (Some s) ≡ Some c → is_end c ≡ false
 
 -- the answer goes to the hand, with the tag of its request
-pub record IsSaidTo (a : Answer) (k : Talk) : Type 0 where
+pub record IsSaidTo (start : CityValue) (closed : List Closed) (a : Answer) (k : Talk) : Type 0 where
   pub hand : arc_value a.hand ≡ k.by
   pub tag : a.tag ≡ k.tag
-  pub what : IsFitWhat a.what k
+  pub what : IsFitWhat start closed a.what k
 
 abbrev pub OfTalk : (Talk → Type 0) → Option Talk → Type 0
 OfTalk P None = ⊥
 OfTalk P (Some k) = P k
 
-abbrev pub IsFitAt : Event → Option Talk → Type 0
-IsFitAt (events.Comes hand tag r) o = Unit {0}
-IsFitAt (events.Begins t w) o = o ≡ None
-IsFitAt (events.Asks t hand tag s) o = OfTalk (IsIdle (arc_value hand) s) o
-IsFitAt (events.Requests t hand tag) o = OfTalk (λ k. k.by ≡ arc_value hand) o
-IsFitAt (events.Says t a is_told) o = OfTalk (IsSaidTo a) o
+abbrev pub IsFitAt : CityValue → List Closed → Event → Option Talk → Type 0
+IsFitAt start closed (events.Comes hand tag r) o = Unit {0}
+IsFitAt start closed (events.Begins t w) o = o ≡ None
+IsFitAt start closed (events.Asks t hand tag s) o = OfTalk (IsIdle (arc_value hand) s) o
+IsFitAt start closed (events.Requests t hand tag) o = OfTalk (λ k. k.by ≡ arc_value hand) o
+IsFitAt start closed (events.Says t a is_told) o = OfTalk (IsSaidTo start closed a) o
 
 -- ---- an answer of none: what is seen is the model after the ends so far; of changes see `Watched`
-
-abbrev pub model_of : CityValue → List Closed → CityMap
-model_of start closed = model_after (scripts_of closed) (object_at start.1) (ends_of closed)
 
 abbrev pub IsSeenAt : CityValue → List Closed → What → Type 0
 IsSeenAt start ended (told.Look objects version) = All (λ o. o.1 ≡ model_of start ended o.0) objects
@@ -335,7 +373,7 @@ after e h = after_at (stamp_of e) e h
 
 abbrev pub IsFitIn : CityValue → Option ℕ → Event → Heard → Type 0
 IsFitIn start None e h = IsSeenIn start h.ended (what_said e) × IsFor e h.came
-IsFitIn start (Some t) e h = IsFitAt e (h.talks t) × IsFor e h.came × IsByAge e h
+IsFitIn start (Some t) e h = IsFitAt start h.ended e (h.talks t) × IsFor e h.came × IsByAge e h
 
 abbrev pub heard_from : Heard → List Event → Heard
 heard_from h [] = h

@@ -150,7 +150,7 @@ IsShown so_far what = ⊥
 abbrev pub IsPlain : What → Type 0
 IsPlain (told.Began since) = Unit {0}
 IsPlain (told.Reply r) = Unit {0}
-IsPlain (told.Refused place cause) = Unit {0}
+IsPlain (told.Refused place cause c) = Unit {0}
 IsPlain (told.Waits b) = Unit {0}
 IsPlain (told.Died b) = Unit {0}
 IsPlain told.Cancelled = Unit {0}

@@ -83,6 +83,11 @@ abbrev pub asked_script : Task → Option Scripted
 asked_script (task.Script s rs c) = None
 asked_script (task.Single asked) = asked
 
+-- the script of the one command, if that wasn't done
+abbrev pub undone : Bool → Task → Option Scripted
+undone true t = None
+undone false t = asked_script t
+
 -- the one command was done
 abbrev pub with_done : Working → Working
 with_done w = record {
@@ -144,6 +149,10 @@ tag_of (Some w) = w.tag
 
 abbrev pub tag_at : List (ℕ × Working) → ℕ → Option (List ℕ)
 tag_at works stamp = tag_of (work_at works stamp)
+
+abbrev pub undone_at : Bool → Option Working → Option Scripted
+undone_at is_done None = None
+undone_at is_done (Some w) = undone is_done w.task
 
 -- the work of the stamp is a script that goes on, with these replies
 pub record IsScriptAt (works : List (ℕ × Working)) (stamp : ℕ) (s : Scripted) (rs : List Reply) : Type 0 where

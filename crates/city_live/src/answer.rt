@@ -1,4 +1,5 @@
 //! What a hand is told.
+use crate::refused::RefusedCommand;
 use crate::request::Tag;
 use city_members::sequence::Sequence;
 use city_members::text::{Id, Text};
@@ -37,6 +38,8 @@ pub struct Ended {
     /// The replies to a script's commands before its last; `None` for a transaction.
     pub replies: Option<Sequence<Reply>>,
     pub outcome: Outcome,
+    /// The refused command, if the outcome says that one was.
+    pub refused: Option<RefusedCommand>,
     /// The number of commits with writes by now.
     pub version: u64,
 }
@@ -81,7 +84,7 @@ pub enum What {
     Reply(Reply),
     /// A command, or a commit, is refused, and the transaction goes on. The number is its place, from 0,
     /// among the transaction's commands without the refused ones.
-    Refused(usize, Cause),
+    Refused(usize, Cause, RefusedCommand),
     /// The request waits. Its last answer follows.
     Waits(Blocked),
     /// The transaction is undone, since an older one holds a lock. The next one of the hand is as old.

@@ -6,7 +6,7 @@ ghost use Rattle.city_live.specs.declared.task.Task.TheVariants as task;
 ghost use Rattle.city_live.specs.Works.{work_at, tag_at, WorksTo, SameWorks, IsScriptAt, asking, requested, answered};
 ghost use Rattle.city_live.specs.Works.{again};
 ghost use Rattle.city_live.specs.Works.{after_taking, with_script, is_whole, is_whole_at, IsWorkOf, IsAskedAt};
-ghost use Rattle.city_live.specs.Works.{MayCommit, replied};
+ghost use Rattle.city_live.specs.Works.{MayCommit, replied, undone_at};
 
 use crate::answer::Name;
 use crate::in_the_way::InTheWay;
@@ -198,20 +198,21 @@ impl Table {
         ensures works { WorksTo stamp (option_map answered (work_at self.old stamp)) self.old self.new }
     {
         match self.by_stamp.get_mut(&stamp) {
-            Some(work) => work.answer(),
+            Some(work) => work.answer().0,
             None => None,
         }
     }
 
-    /// The one command of a work is replied to. If it was done, it is kept for a journal that wants it. Takes the tag.
-    /// Doesn't allocate.
-    pub fn reply(&mut self, stamp: u64, is_done: bool) -> Tag
-        ensures tag { result ≡ tag_at self.old stamp }
+    /// The one command of a work is replied to. If it was done, it is kept for a journal that wants it; else it comes
+    /// back. Takes the tag. Doesn't allocate.
+    pub fn reply(&mut self, stamp: u64, is_done: bool) -> (Tag, Option<Script>)
+        ensures tag { result.0 ≡ tag_at self.old stamp }
+        ensures asked { result.1 ≡ undone_at is_done (work_at self.old stamp) }
         ensures works { WorksTo stamp (option_map (replied is_done) (work_at self.old stamp)) self.old self.new }
     {
         match self.by_stamp.get_mut(&stamp) {
             Some(work) => work.reply(is_done),
-            None => None,
+            None => (None, None),
         }
     }
 

@@ -5,9 +5,9 @@ ghost use Rattle.std.specs.Arc.{arc_value};
 ghost use Rattle.city_live.specs.declared.task.Task.TheVariants as task;
 ghost use Rattle.city_live.specs.Entering.{commands_by};
 ghost use Rattle.city_live.specs.Works.{next_of, asking, requested, answered, again, is_whole, with_done, none_kept};
-ghost use Rattle.city_live.specs.Works.{replied, commands_noted, IsFresh};
-ghost use Rattle.city_live.specs.Room.{HasRoomForOne};
+ghost use Rattle.city_live.specs.Works.{replied, commands_noted, asked_script, undone, IsFresh};
 ghost use Rattle.city_live.specs.Works.{after_taking, with_script, IsAtCommit};
+ghost use Rattle.city_live.specs.Room.{HasRoomForOne};
 
 use crate::answer::Name;
 use crate::in_the_way::InTheWay;
@@ -248,8 +248,7 @@ impl Work {
         Ok(())
     }
 
-    /// Takes the tag of a request for all of it, if it is the hand's. Else false, and nothing changes. Doesn't
-    /// allocate.
+    /// Takes the tag of a request for all of it, or false if it isn't the hand's. Doesn't allocate.
     #[tactic(auto, using(city_members::proofs::Ids::same_id_true))]
     pub fn request_by(&mut self, hand: &Name, tag: Tag) -> bool
         ensures taken { IsTrue result → (self.old.by ≡ arc_value hand.now) × (self.new ≡ requested tag self.old) }
@@ -262,8 +261,7 @@ impl Work {
         true
     }
 
-    /// Its hand, and the tag of its request, which is answered, if it is a transaction that is asked for nothing. Else
-    /// nothing changes. Doesn't allocate.
+    /// The hand and the answered tag of a transaction asked for nothing; else nothing changes. Doesn't allocate.
     pub fn answer_idle(&mut self) -> Option<(Name, Tag)>
         ensures answered { IfSome result (λ r. (self.old.by ≡ arc_value r.0) × (self.old.task ≡ task.Single None)
             × (r.1 ≡ self.old.tag) × (self.new ≡ answered self.old)) }
@@ -278,19 +276,20 @@ impl Work {
     }
 
     /// Takes back the one command, and the tag of its request. Doesn't allocate.
-    pub fn answer(&mut self) -> Tag
-        ensures tag { result ≡ self.old.tag }
+    pub fn answer(&mut self) -> (Tag, Option<Script>)
+        ensures tag { result.0 ≡ self.old.tag }
+        ensures asked { result.1 ≡ asked_script self.old.task }
         ensures work { self.new ≡ answered self.old }
     {
-        if let Task::Single(asked) = &mut self.task {
-            *asked = None;
-        }
+        let asked = match &mut self.task {
+            Task::Single(asked) => asked.take(),
+            Task::Script(_, _, _) => None,
+        };
         self.is_told = false;
-        self.tag.take()
+        (self.tag.take(), asked)
     }
 
-    /// The one command was done: keeps it for a journal that wants it, and takes the tag of its request. Doesn't
-    /// allocate.
+    /// The one command was done: keeps it for a journal that wants it. Takes its request's tag. Doesn't allocate.
     fn done(&mut self) -> Tag
         ensures tag { result ≡ self.old.tag }
         ensures work { self.new ≡ with_done self.old }
@@ -306,13 +305,17 @@ impl Work {
         self.tag.take()
     }
 
-    /// The one command is replied to: if it was done, it is kept for a journal that wants it. Takes the tag of its
-    /// request. Doesn't allocate.
-    pub fn reply(&mut self, is_done: bool) -> Tag
-        ensures tag { result ≡ self.old.tag }
+    /// The one command is kept for a journal, or comes back if it wasn't done. Takes the tag. Doesn't allocate.
+    pub fn reply(&mut self, is_done: bool) -> (Tag, Option<Script>)
+        ensures tag { result.0 ≡ self.old.tag }
+        ensures asked { result.1 ≡ undone is_done self.old.task }
         ensures work { self.new ≡ replied is_done self.old }
     {
-        if is_done { self.done() } else { self.answer() }
+        if is_done {
+            (self.done(), None)
+        } else {
+            self.answer()
+        }
     }
 
     /// Takes out a script that goes on, and the replies to its commands so far. Doesn't allocate.

@@ -151,7 +151,7 @@ pub fn add_answer(alloc: Global, answer: Answer, said: &mut Written) {
     match what {
         What::Began(ended) => add_number("began ", ended, said),
         What::Reply(reply) => add_reply(alloc, reply, said),
-        What::Refused(place, cause) => {
+        What::Refused(place, cause, _) => {
             add_number("refused ", place as u64, said);
             said.add(" ");
             add_cause(alloc, cause, said);
@@ -204,6 +204,7 @@ fn add_ended(alloc: Global, ended: Ended, said: &mut Written) {
         replies,
         outcome,
         version,
+        ..
     } = ended;
     said.add(name.as_str());
     match outcome {

@@ -6,7 +6,8 @@ use Rattle.json.specs.Token.{Token, key}
 use Rattle.city_decimals.specs.Texts.{IsDecoded, IsEncoded}
 use Rattle.city_lines.specs.Answers.{line_text, model_text}
 use Rattle.city_lines.specs.Requests.{IsRequest}
-use Rattle.city_lines.specs.Told.{answer_text, whole_model}
+use Rattle.city_lines.specs.Told.{answer_text, whole_model, IsWhyFor}
+use Rattle.serde_json.specs.Data.{Members}
 use Rattle.city_lines.specs.declared.answer.Form.{Form}
 use Rattle.city_lines.specs.declared.line.Line.{Line}
 use Rattle.city_live.specs.declared.answer.Answer.{Answer}
@@ -32,8 +33,10 @@ IsError decimals hand id out =
 
 -- ---- answers of the engine
 
+-- with what is told of a refused command
 abbrev pub IsTold : Bool → ℕ → Form → Answer → Option (CityValue × ℕ) → List ℕ → Type 0
-IsTold decimals n form a None out = IsWritten decimals (answer_text n form a) out
+IsTold decimals n form a None out =
+    (why : Option Members) × IsWhyFor a.what why × IsWritten decimals (answer_text n form why a) out
 IsTold decimals n form a (Some m) out =
     (text : List ℕ) × IsGivenBack decimals (city_text m.0) text × (out ≡ model_text (arc_value a.hand) a.tag m.1 text)
 

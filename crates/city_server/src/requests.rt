@@ -324,7 +324,7 @@ fn is_last(what: &What) -> bool {
 /// Whether the answers refuse a request of the hand.
 fn are_refusal(hand: &Text, answers: &[Answer]) -> bool {
     for answer in answers {
-        if let What::Fault(_) | What::Refused(_, _) = &answer.what {
+        if let What::Fault(_) | What::Refused(_, _, _) = &answer.what {
             if *answer.hand == *hand {
                 return true;
             }

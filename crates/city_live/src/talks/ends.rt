@@ -5,8 +5,9 @@ ghost use Rattle.std.specs.Arc.{arc_value};
 ghost use Rattle.city_session.specs.Grown.{Grown};
 ghost use Rattle.city_session.specs.Live.{grown_at};
 ghost use Rattle.city_live.specs.Ending.{IsReady, IsUntoldReady, IsAllowed, IsNumbered, IsMade, IsEnded, IsUnrefused};
-ghost use Rattle.city_live.specs.Ending.{AreTold, told_replies};
-ghost use Rattle.city_live.specs.Heard.{heard, HasOlder};
+ghost use Rattle.city_live.specs.Ending.{AreTold, HasRefusedBy, told_replies};
+ghost use Rattle.city_live.specs.Heard.{heard, HasOlder, HasRefused};
+ghost use Rattle.city_live.specs.Running.{IsSeenBy};
 ghost use Rattle.city_live.specs.Serving.{Follows};
 
 use super::Talks;
@@ -14,6 +15,7 @@ use super::notes::note_commit;
 use crate::answer::{Answer, Blocked, Changed, Ended, Fault, What};
 use crate::journal::{Journal, Unwritten};
 use crate::log::Log;
+use crate::refused::RefusedCommand;
 use crate::task::Task;
 use crate::watchers::Watchers;
 use city_members::copied::Copied;
@@ -25,6 +27,7 @@ use city_model::end::Outcome;
 use city_model::script::{Script, is_end};
 use city_session::{Session, Writes};
 use city_txn::Prepared;
+use std::alloc::Global;
 use std::sync::Arc;
 
 /// The most answers of an end and of what follows at once, besides the watchers'.
@@ -179,6 +182,7 @@ impl<J: Journal> Talks<J> {
             since,
             replies: replies_of(task),
             outcome: Outcome::Committed,
+            refused: None,
             version,
         };
         let what = What::Ended(ended);
@@ -198,14 +202,16 @@ impl<J: Journal> Talks<J> {
         };
         let seat = work.seat();
         let since = since_of(&self.session, stamp);
-        self.session.abort(stamp);
+        self.session.is_live();
         let (hand, name, task, tag) = work.into_parts();
-        let (replies, outcome) = ended_by(task, ending);
+        let (replies, outcome, refused) = ended_by(self.alloc, &self.session, stamp, task, ending);
+        self.session.abort(stamp);
         let ended = Ended {
             name,
             since,
             replies,
             outcome,
+            refused,
             version: self.version,
         };
         let what = What::Ended(ended);
@@ -273,20 +279,52 @@ fn replies_of(task: Task) -> Option<Sequence<Reply>>
     }
 }
 
-/// The replies of a script that ends without a commit, and its outcome; a transaction is aborted.
-fn ended_by(task: Task, ending: Ending) -> (Option<Sequence<Reply>>, Outcome)
-    ensures { IsEnded task result.0 result.1 }
+/// The replies of a script that ends without a commit, its outcome, and its command if one was refused, as it is in the
+/// open transaction of the stamp; a transaction is aborted.
+fn ended_by(
+    alloc: Global,
+    session: &Session,
+    stamp: u64,
+    task: Task,
+    ending: Ending,
+) -> (Option<Sequence<Reply>>, Outcome, Option<RefusedCommand>)
+    ensures ended { IsEnded task result.0 result.1 }
+    ensures refused { HasRefusedBy session.now stamp task result.1 result.2 }
 {
     match task {
-        Task::Single(_) => (None, Outcome::Aborted),
+        Task::Single(_) => (None, Outcome::Aborted, None),
         Task::Script(script, replies, refused) => {
             let place = replies.len();
             let outcome = match refused {
                 Some(cause) => Outcome::Refused(place, cause),
                 None => outcome_at(&script, place, ending),
             };
-            (Some(replies), outcome)
+            let refused = refused_by(alloc, session, stamp, script, &outcome);
+            (Some(replies), outcome, refused)
         }
+    }
+}
+
+/// The refused command of a script with this outcome, as it is in the open transaction of the stamp.
+fn refused_by(
+    alloc: Global,
+    session: &Session,
+    stamp: u64,
+    script: Script,
+    outcome: &Outcome,
+) -> Option<RefusedCommand>
+    ensures { HasRefused (IsSeenBy session.now stamp (Some script)) outcome.now result }
+{
+    match outcome {
+        Outcome::Refused(place, cause) => Some(RefusedCommand::seen_by(
+            alloc,
+            session,
+            stamp,
+            Some(script),
+            *place,
+            cause,
+        )),
+        Outcome::Committed | Outcome::Aborted | Outcome::NoMemory(_) => None,
     }
 }
 

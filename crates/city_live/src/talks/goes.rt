@@ -16,8 +16,9 @@ use crate::answer::{Answer, What};
 use crate::gone::Gone;
 use crate::in_the_way::InTheWay;
 use crate::journal::Journal;
+use crate::refused::RefusedCommand;
 use city_model::command::{Cause, Command, Reply};
-use city_model::script::is_end;
+use city_model::script::{Script, is_end};
 use city_session::{Acted, Session};
 use std::alloc::Global;
 
@@ -73,8 +74,9 @@ impl<J: Journal> Talks<J> {
         match self.session.act(stamp, command) {
             Acted::Replied(reply) => {
                 let is_done = is_done(&reply);
-                let what = what_of(&self.session, stamp, reply);
-                let tag = self.table.reply(stamp, is_done);
+                self.session.is_live();
+                let (tag, undone) = self.table.reply(stamp, is_done);
+                let what = what_of(self.alloc, &self.session, stamp, reply, undone);
                 self.log.says(Some(stamp), Answer { hand, tag, what });
                 Some(Gone::Replied)
             }
@@ -102,14 +104,21 @@ fn is_done(reply: &Reply) -> bool
     !matches!(reply, Reply::Refused(_))
 }
 
-/// What a hand is told of the last reply of an open transaction.
-fn what_of(session: &Session, stamp: u64, reply: Reply) -> What
-    ensures { IsWhatBehind session.now stamp reply result }
+/// What a hand is told of the last reply of an open transaction, if this script has the command that wasn't done.
+fn what_of(
+    alloc: Global,
+    session: &Session,
+    stamp: u64,
+    reply: Reply,
+    undone: Option<Script>,
+) -> What
+    ensures { IsWhatBehind session.now stamp undone reply result }
 {
     match reply {
         Reply::Refused(cause) => {
             let place = place_of(session, stamp);
-            What::Refused(place, cause)
+            let command = RefusedCommand::seen_by(alloc, session, stamp, undone, 0, &cause);
+            What::Refused(place, cause, command)
         }
         reply => What::Reply(reply),
     }

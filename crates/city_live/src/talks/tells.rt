@@ -10,6 +10,7 @@ ghost use Rattle.city_live.specs.Watched.{IsShown};
 use super::Talks;
 use crate::answer::{Answer, Blocked, Fault, Name, What};
 use crate::journal::Journal;
+use crate::refused::RefusedCommand;
 use crate::request::Tag;
 use city_members::copied::Copied;
 use city_model::OutOfMemory;
@@ -134,10 +135,12 @@ impl<J: Journal> Talks<J> {
             return;
         };
         let place = transaction.commands();
+        self.session.is_live();
         let Some((hand, tag)) = self.table.answer_idle(stamp) else {
             return;
         };
-        let what = What::Refused(place, cause);
+        let command = RefusedCommand::seen_by(self.alloc, &self.session, stamp, None, 0, &cause);
+        let what = What::Refused(place, cause, command);
         self.log.says(Some(stamp), Answer { hand, tag, what });
     }
 

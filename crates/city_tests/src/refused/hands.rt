@@ -92,7 +92,7 @@ impl Player {
                 self.begins_again();
             }
             What::Fault(Fault::NoMemory) => self.waits = false,
-            What::Fault(_) | What::Refused(_, _) => self.is_wrong = true,
+            What::Fault(_) | What::Refused(_, _, _) => self.is_wrong = true,
             What::Ended(ended) => {
                 self.waits = false;
                 if !matches!(ended.outcome, Outcome::NoMemory(_)) {

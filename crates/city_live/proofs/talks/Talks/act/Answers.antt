@@ -11,14 +11,15 @@ use Rattle.city_live.proofs.talks.Talks.act.Goals as goal
 pub invariant_of-self : goal.invariant_of-self
 invariant_of-self g c =
     let what = what_before c.args.stamp c.in-Some.command.now c.in-Replied.reply c.in-Replied.ensures
-    c.what_of-what.result c.what_of-what.ensures in (
-      heard_replied c.self.invariant.0 c.args.stamp (arc_value c.in-Some.hand) c.in-Some.command.now c.in-Some.ensures
+    c.reply-tag.result.1 c.what_of-what.result c.what_of-what.ensures in (
+      heard_replied c.self.invariant.0 c.is_live.ensures c.args.stamp (arc_value c.in-Some.hand)
+          c.in-Some.command.now c.in-Some.ensures
           what.0 what.1 c.in-Replied.reply c.in-Replied.ensures _ refl c.is_done-is_done.result
           c.is_done-is_done.ensures c.reply-tag.ensures.works c.reply-tag.ensures.tag
-          what.2 c.says.ensures,
+          c.reply-tag.result.1 c.reply-tag.ensures.asked what.2 what.3 what.4 c.says.ensures,
       watched_from_there c.in-Replied.ensures.start
           (watched_plain c.self.invariant.1 _ _ c.says.ensures
-          (plain_reply what.0 c.in-Replied.reply c.what_of-what.result what.2)),
+          (plain_reply what.0 what.2 c.in-Replied.reply c.what_of-what.result what.4)),
     )
 
 pub returns-in-Replied-clause-follows : goal.returns-in-Replied-clause-follows

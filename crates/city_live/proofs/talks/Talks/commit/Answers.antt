@@ -8,6 +8,7 @@ use Rattle.city_live.specs.Serving.{Served}
 use Rattle.city_live.proofs.Continued.{same, ended}
 use Rattle.city_live.proofs.Followed.{then, noting_still, saying, silently}
 use Rattle.city_live.proofs.Finished.{heard_ended, committing}
+use Rattle.city_live.proofs.Refusals.{none_refused}
 use Rattle.city_live.proofs.Replayed.{stays, commit_notes, stays_so}
 use Rattle.city_live.proofs.Telling.{heard_tellings, came_tellings, alone_tellings, watched_commit, counted_so}
 use Rattle.city_live.proofs.talks.Talks.commit.Goals as goal
@@ -23,8 +24,8 @@ invariant_of-self-2 g c =
           (heard_tellings c.self.inside.log.events c.self.invariant.0 c.self.inside.watchers c.args.changed
           c.tell_all.ensures.more c.tell_all.ensures.tellings))
           c.args.stamp c.in-Some.work there c.take.ensures.left _ c.commit.ensures.ended _
-          c.into_parts-hand.ensures.hand c.into_parts-hand.ensures.tag c.says.ensures _ refl
-          c.into_parts-hand.ensures.name c.since_of-since.ensures ends,
+          c.into_parts-hand.ensures.hand c.into_parts-hand.ensures.tag c.says.ensures c.is_live.ensures _ refl
+          c.into_parts-hand.ensures.name c.since_of-since.ensures ends (none_refused c.self.inside.session _ _),
       watched_commit c.self.invariant.0 c.self.invariant.1 c.is_live.ensures c.is_live-2.ensures c.args.stamp
           c.args.version c.in-Some.work there c.commit.ensures.ended c.commit.ensures.city c.args.changed
           (subst (λ (v : Served). Leads v.session c.args.stamp c.args.changed) (sym c.self.view_is)

@@ -10,8 +10,9 @@ use Rattle.city_live.proofs.talks.Talks.tell_refused.Goals as goal
 pub invariant_of-self-2 : goal.invariant_of-self-2
 invariant_of-self-2 g c = (
   heard_refused c.self.invariant.0 c.args.stamp _ c.in-Some-answer_idle.ensures.answered.2
-      c.in-Some-answer_idle.ensures.answered.1 c.says.ensures
-      c.commands-place.result c.args.cause c.in-Some.transaction.now c.in-Some.ensures c.commands-place.ensures
+      c.in-Some-answer_idle.ensures.answered.1 c.says.ensures c.is_live.ensures
+      c.commands-place.result c.args.cause c.seen_by-command.result c.in-Some.transaction.now c.in-Some.ensures c.commands-place.ensures
+      (c.seen_by-command.ensures.script, c.seen_by-command.ensures.seen)
       c.in-Some-answer_idle.ensures.answered.0 refl,
   watched_plain c.self.invariant.1 _ _ c.says.ensures tt,
 )
