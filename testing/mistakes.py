@@ -152,10 +152,12 @@ def play_silent(program, folder, case):
             words = [program, *options, "model", "edits"]
             ran = subprocess.run(words, capture_output=True, cwd=folder, timeout=LIMIT, check=False)
             lines = ran.stdout.splitlines()
-            quiet = (ran.returncode, ran.stderr, len(lines)) == (0, b"", status_lines)
-            require(quiet, f"{status_lines} lines and nothing else", f"{case.mistake}: {ran}")
+            ends = [json.loads(line) for line in lines[:-1]]
+            refused = [f"script {end['script']} refused: {end['cause']}" for end in ends if "cause" in end]
+            heads = [line for line in ran.stderr.decode("utf-8").splitlines() if not line.startswith("  ")]
+            quiet = (ran.returncode, heads, len(lines)) == (0, refused, status_lines)
+            require(quiet, f"{status_lines} lines, and why {len(refused)} are refused", f"{case.mistake}: {ran}")
             if lines:
-                ends = [json.loads(line) for line in lines[:-1]]
                 told = [end.get("cause") or ", ".join(end["replies"]) for end in ends]
                 left = " ".join(sorted(json.loads(lines[-1])["CityObjects"]["b12"]))
                 require((told, left) == (wanted, members), f"{wanted} and {members}", f"{case.mistake}: {told} {left}")
