@@ -311,9 +311,17 @@ def bad_ring(obj, vertices):
         for ring, positions in enumerate(rings):
             if len(positions) < 3:
                 return {**place, "ring": ring, "rule": "short ring", "points": len(positions)}
-            for one, other in neighbours(positions):
-                if vertices[one] == vertices[other]:
-                    return {**place, "ring": ring, "rule": "equal neighbours", "point": vertices[one]}
+            equal = equal_neighbours(positions, vertices)
+            if equal:
+                return {**place, "ring": ring, **equal}
+    return None
+
+
+def equal_neighbours(positions, vertices):
+    """The rule and the first point of a ring that is equal to the next."""
+    for one, other in neighbours(positions):
+        if vertices[one] == vertices[other]:
+            return {"rule": "equal neighbours", "point": vertices[one]}
     return None
 
 

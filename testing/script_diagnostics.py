@@ -1,7 +1,7 @@
 """What `cityed --check` tells of a text of scripts, found a second time, in plain Python: see diagnostics.py."""
 
 from commands import MOST_COMMANDS, MOST_SCRIPTS
-from diagnostics import bad_vertex, check_document, line, neighbours, open_shell, read, surfaces_of, tree_faults
+from diagnostics import bad_vertex, check_document, equal_neighbours, line, open_shell, read, surfaces_of, tree_faults
 from json_tree import are_triples
 
 ENDS = ("commit", "abort")
@@ -95,9 +95,9 @@ def short_ring(obj, vertices):
 def same_twice(obj, vertices):
     for place, rings in surfaces_of(obj):
         for ring, positions in enumerate(rings):
-            for one, other in neighbours(positions):
-                if vertices[one] == vertices[other]:
-                    return {**place, "ring": ring, "rule": "equal neighbours", "point": vertices[one]}
+            equal = equal_neighbours(positions, vertices)
+            if equal:
+                return {**place, "ring": ring, **equal}
     return None
 
 
